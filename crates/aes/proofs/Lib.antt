@@ -1,0 +1,5 @@
+pub mod Columns
+pub mod Steps
+pub mod Inverse
+pub mod Expansion
+pub mod Permutation

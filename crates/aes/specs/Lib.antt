@@ -1,0 +1,4 @@
+pub mod Cipher
+pub mod Schedule
+pub mod InvCipher
+pub mod Aes

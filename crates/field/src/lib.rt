@@ -1,0 +1,1 @@
+// The finite field of AES: laws of its definitions, and no code.
