@@ -7,10 +7,10 @@ use Prim.Native.Nat.{ℕ, _<_}
 use native.Mathlib.Nat.{zero-mul, one-mul}
 use lib.Dec.{T, eqb, eqb→eq}
 use lib.Bits.{bitXor, xor-comm, xor-zero-r, xor-lt}
-use Rattle.octets.proofs.Xor.{xor-assoc, xor-left-comm}
+use Rattle.octets.proofs.Xor.{xor-assoc, xor-left-comm, xor-cancel}
 use Rattle.octets.proofs.Table.{and-left, and-right, allBelow, each-below}
 use Rattle.field.specs.Field.{_⊕_, xTimes, _•_}
-use Rattle.field.proofs.Products.{product-sum, product-byte}
+use Rattle.field.proofs.Products.{product-sum, product-byte, x-times-sum, two, three}
 use Rattle.aes.specs.Cipher.{mixRow}
 use Rattle.aes.specs.InvCipher.{invMixRow}
 
@@ -58,7 +58,7 @@ module _ (e f g h i j k l : ℕ) where
   undone : T (allBelow unit 256) → (a b c d : ℕ) → a < 256 → b < 256 → c < 256 → d < 256
       → row e f g h (row i j k l a b c d) (row i j k l b c d a) (row i j k l c d a b) (row i j k l d a b c) ≡ a
   undone t a b c d ha hb hc hd =
-      sorted a b c d ∙ ap₂ bitXor (one a ha) (ap₂ bitXor (two b hb) (ap₂ bitXor (three c hc) (four d hd))) ∙ xor-zero-r a
+      sorted a b c d ∙ ap₂ bitXor (one a ha) (ap₂ bitXor (none₂ b hb) (ap₂ bitXor (none₃ c hc) (none₄ d hd))) ∙ xor-zero-r a
     where
       passed : (x : ℕ) → x < 256 → T (unit x)
       passed = each-below unit 256 t
@@ -72,14 +72,14 @@ module _ (e f g h i j k l : ℕ) where
       one : (x : ℕ) → x < 256 → first x ≡ x
       one x p = eqb→eq (first x) x (and-left (eqb (first x) x) (eqb (second x) 0) (left x p))
 
-      two : (x : ℕ) → x < 256 → second x ≡ 0
-      two x p = eqb→eq (second x) 0 (and-right (eqb (first x) x) (eqb (second x) 0) (left x p))
+      none₂ : (x : ℕ) → x < 256 → second x ≡ 0
+      none₂ x p = eqb→eq (second x) 0 (and-right (eqb (first x) x) (eqb (second x) 0) (left x p))
 
-      three : (x : ℕ) → x < 256 → third x ≡ 0
-      three x p = eqb→eq (third x) 0 (and-left (eqb (third x) 0) (eqb (fourth x) 0) (right x p))
+      none₃ : (x : ℕ) → x < 256 → third x ≡ 0
+      none₃ x p = eqb→eq (third x) 0 (and-left (eqb (third x) 0) (eqb (fourth x) 0) (right x p))
 
-      four : (x : ℕ) → x < 256 → fourth x ≡ 0
-      four x p = eqb→eq (fourth x) 0 (and-right (eqb (third x) 0) (eqb (fourth x) 0) (right x p))
+      none₄ : (x : ℕ) → x < 256 → fourth x ≡ 0
+      none₄ x p = eqb→eq (fourth x) 0 (and-right (eqb (third x) 0) (eqb (fourth x) 0) (right x p))
 
 -- ---- the two matrices of AES
 product-one : (b : ℕ) → 1 • b ≡ b
@@ -112,3 +112,13 @@ module _ (a b c d : ℕ) (ha : a < 256) (hb : b < 256) (hc : c < 256) (hd : d < 
   pub mix-inv-mix : mixRow (invMixRow a b c d) (invMixRow b c d a) (invMixRow c d a b) (invMixRow d a b c) ≡ a
   unfolding invMixRow
   mix-inv-mix = mix-row-is (unmixed a b c d) (unmixed b c d a) (unmixed c d a b) (unmixed d a b c) ∙ mix
+
+-- ---- a row of MixColumns from the column's sum and one doubling
+pub mix-row-by-sum : (a b c d sum : ℕ) → sum ≡ a ⊕ b ⊕ c ⊕ d → a ⊕ sum ⊕ xTimes (a ⊕ b) ≡ mixRow a b c d
+unfolding mixRow
+mix-row-by-sum a b c d sum e =
+    rw (e, x-times-sum a b, two a, three b, xor-assoc a (b ⊕ c ⊕ d) (xTimes a ⊕ xTimes b), xor-cancel a ((b ⊕ c ⊕ d) ⊕ xTimes a ⊕ xTimes b))
+    (simp (xor-assoc, xor-left-comm, xor-comm))
+
+pub turn-sum : (a b c d : ℕ) → a ⊕ b ⊕ c ⊕ d ≡ b ⊕ c ⊕ d ⊕ a
+turn-sum a b c d = xor-comm a (b ⊕ c ⊕ d) ∙ simp xor-assoc

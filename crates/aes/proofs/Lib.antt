@@ -3,3 +3,4 @@ pub mod Steps
 pub mod Inverse
 pub mod Expansion
 pub mod Permutation
+pub mod Elements

@@ -1,3 +1,4 @@
 pub mod Xor
-pub mod Lists
 pub mod Table
+pub mod Lists
+pub mod Filling

@@ -78,6 +78,12 @@ pub bytes-replicate : (n x : ℕ) → x < 256 → Bytes (replicate n x)
 bytes-replicate zero x h = tt
 bytes-replicate (suc n) x h = (h, bytes-replicate n x h)
 
+-- ---- map
+pub getD-map : (f : ℕ → ℕ) (s : List ℕ) (i : ℕ) → i < length s → getD (map f s) i 0 ≡ f (getD s i 0)
+getD-map f [] i h = absurd (not-suc-le-zero h)
+getD-map f (x ∷ s) zero h = refl
+getD-map f (x ∷ s) (suc i) h = getD-map f s i (le-of-suc-le-suc h)
+
 -- ---- xorBytes
 pub xor-bytes-undo : (s t : List ℕ) → xorBytes (xorBytes s t) t ≡ s
 xor-bytes-undo [] t = refl
@@ -93,6 +99,12 @@ pub bytes-xor-bytes : (s t : List ℕ) → Bytes s → Bytes t → Bytes (xorByt
 bytes-xor-bytes [] t h g = h
 bytes-xor-bytes (x ∷ s) [] h g = h
 bytes-xor-bytes (x ∷ s) (y ∷ t) h g = (xor-lt 8 x y (h .0) (g .0), bytes-xor-bytes s t (h .1) (g .1))
+
+pub getD-xor-bytes : (s t : List ℕ) (i : ℕ) → i < length s → i < length t → getD (xorBytes s t) i 0 ≡ bitXor (getD s i 0) (getD t i 0)
+getD-xor-bytes [] t i h g = absurd (not-suc-le-zero h)
+getD-xor-bytes (x ∷ s) [] i h g = absurd (not-suc-le-zero g)
+getD-xor-bytes (x ∷ s) (y ∷ t) zero h g = refl
+getD-xor-bytes (x ∷ s) (y ∷ t) (suc i) h g = getD-xor-bytes s t i (le-of-suc-le-suc h) (le-of-suc-le-suc g)
 
 pub xor-block : (s t : List ℕ) → Block s → Bytes t → Block (xorBytes s t)
 xor-block s t h g = record { long = length-xor-bytes s t ∙ h .long; bytes = bytes-xor-bytes s t (h .bytes) g }

@@ -5,7 +5,7 @@
 ghost use mathlib.Core.Path.{_≡_};
 ghost use Prim.Native.Nat.{_+_, _≤_};
 ghost use lib.ListN.{length};
-ghost use Rattle.octets.specs.Bytes.{overwrite, sameBytes};
+ghost use Rattle.octets.specs.Bytes.{xorBytes, overwrite, sameBytes};
 
 // A block of AES, in bytes.
 pub const BLOCK_BYTES: usize = 16;
@@ -33,6 +33,19 @@ pub fn block(s: &[u8]) -> [u8; 16]
         s[14],
         s[15],
     ]
+}
+
+// The exclusive-or of two blocks.
+pub fn xor_blocks(s: [u8; 16], k: [u8; 16]) -> [u8; 16]
+    ensures { λ r. ⌜ r ≡ xorBytes s k ⌝ }
+{
+    let mut r = s;
+    let mut i = 0;
+    while i < 16 {
+        r[i] = s[i] ^ k[i];
+        i += 1;
+    }
+    r
 }
 
 // Writes src into buf, from byte `at` on.

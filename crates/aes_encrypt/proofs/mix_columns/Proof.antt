@@ -1,0 +1,161 @@
+use mathlib.Core.Path.{_≡_, refl, sym, ap, _∙_}
+use mathlib.Core.List.{List}
+use Prim.Native.Nat.{ℕ, _+_, _-_, _%_, _≤_, _<_}
+use native.Mathlib.Omega.{arith}
+use borrow.Author.Needs.{needs}
+use lib.ListN.{length, take, getD, length-set}
+use Rattle.octets.proofs.Filling.{filled-four, filled}
+use Rattle.aes.specs.Cipher.{columns, mixRow, mixColumns}
+use Rattle.aes.proofs.Elements.{column-at-0, column-at-1, column-at-2, column-at-3}
+use Rattle.aes_encrypt.proofs.mix_columns.Statement.{statement}
+use Rattle.aes_encrypt.proofs.mix_columns.Tie as tie
+use Rattle.aes_encrypt.proofs.mix_columns.Reads as reads
+use Rattle.aes_encrypt.proofs.mix_columns.Lts as lts
+use Rattle.aes_encrypt.proofs.mix_column.Reads as mix-column-reads
+
+abbrev Inv-loop : tie.InvT-loop
+Inv-loop s r₀ i₀ r i = (take i r ≡ take i (columns mixRow s)) × (length r ≡ 16) × (i ≤ 16) × (i % 4 ≡ 0)
+
+abbrev μ-loop : tie.MeasureT-loop
+μ-loop s r₀ i₀ r i = 16 - i
+
+-- src/lib.rt:60:5
+loop-holds : tie.Need-loop-holds Inv-loop μ-loop
+loop-holds c = (refl, search needs, omega arith, omega arith)
+
+-- src/lib.rt:61:33
+array-read-mix-column : tie.Need-array-read-mix-column Inv-loop μ-loop
+array-read-mix-column c = search needs
+
+-- src/lib.rt:61:41
+add-mix-column : tie.Need-add-mix-column Inv-loop μ-loop
+add-mix-column c = search needs
+
+-- src/lib.rt:61:39
+array-read-mix-column-2 : tie.Need-array-read-mix-column-2 Inv-loop μ-loop
+array-read-mix-column-2 c = search needs
+
+-- src/lib.rt:61:51
+add-mix-column-2 : tie.Need-add-mix-column-2 Inv-loop μ-loop
+add-mix-column-2 c = search needs
+
+-- src/lib.rt:61:49
+array-read-mix-column-3 : tie.Need-array-read-mix-column-3 Inv-loop μ-loop
+array-read-mix-column-3 c = search needs
+
+-- src/lib.rt:61:61
+add-mix-column-3 : tie.Need-add-mix-column-3 Inv-loop μ-loop
+add-mix-column-3 c = search needs
+
+-- src/lib.rt:61:59
+array-read-mix-column-4 : tie.Need-array-read-mix-column-4 Inv-loop μ-loop
+array-read-mix-column-4 c = search needs
+
+-- src/lib.rt:61:22
+mix-column-requires : tie.Need-mix-column-requires Inv-loop μ-loop
+mix-column-requires c κs = search needs
+
+-- src/lib.rt:62:16
+array-read-r : tie.Need-array-read-r Inv-loop μ-loop
+array-read-r c = search needs
+
+-- src/lib.rt:62:9
+array-write-r : tie.Need-array-write-r Inv-loop μ-loop
+array-write-r c = search needs
+
+-- src/lib.rt:63:20
+array-read-r-2 : tie.Need-array-read-r-2 Inv-loop μ-loop
+array-read-r-2 c = search needs
+
+-- src/lib.rt:63:11
+add-r : tie.Need-add-r Inv-loop μ-loop
+add-r c = search needs
+
+-- src/lib.rt:63:9
+array-write-r-2 : tie.Need-array-write-r-2 Inv-loop μ-loop
+array-write-r-2 c = search needs
+
+-- src/lib.rt:64:20
+array-read-r-3 : tie.Need-array-read-r-3 Inv-loop μ-loop
+array-read-r-3 c = search needs
+
+-- src/lib.rt:64:11
+add-r-2 : tie.Need-add-r-2 Inv-loop μ-loop
+add-r-2 c = search needs
+
+-- src/lib.rt:64:9
+array-write-r-3 : tie.Need-array-write-r-3 Inv-loop μ-loop
+array-write-r-3 c = search needs
+
+-- src/lib.rt:65:20
+array-read-r-4 : tie.Need-array-read-r-4 Inv-loop μ-loop
+array-read-r-4 c = search needs
+
+-- src/lib.rt:65:11
+add-r-3 : tie.Need-add-r-3 Inv-loop μ-loop
+add-r-3 c = search needs
+
+-- src/lib.rt:65:9
+array-write-r-4 : tie.Need-array-write-r-4 Inv-loop μ-loop
+array-write-r-4 c = search needs
+
+-- src/lib.rt:66:9
+add-i : tie.Need-add-i Inv-loop μ-loop
+add-i c = search needs
+
+-- src/lib.rt:60:5
+loop-less : tie.Need-loop-less Inv-loop μ-loop
+loop-less c = search needs
+
+-- src/lib.rt:60:5
+loop-again : tie.Need-loop-again Inv-loop μ-loop
+loop-again c = let s : List ℕ = c .before .before .before .args .t1 in
+    let r : List ℕ = c .before .before .loop .r in
+    let i : ℕ = c .before .before .loop .i in
+    let l : length r ≡ 16 = c .before .before .loop .inv .1 in
+    let column : List ℕ = c .mix-column .result in
+    let got = c .mix-column .ensures in
+    let byte : (k : ℕ) → getD column k 0 ≡ _ = λ k. ap (λ (p : List ℕ). getD p k 0) got in (
+      filled-four r (columns mixRow s) i _ _ _ _ (omega arith) (omega arith) (c .before .before .loop .inv .0)
+          (byte 0 ∙ column-at-0 mixRow s i (omega arith) (omega arith)) (byte 1 ∙ column-at-1 mixRow s i (omega arith) (omega arith))
+          (byte 2 ∙ column-at-2 mixRow s i (omega arith) (omega arith)) (byte 3 ∙ column-at-3 mixRow s i (omega arith) (omega arith)),
+      simp length-set l,
+      omega arith,
+      omega arith,
+    )
+
+-- src/lib.rt:55:1
+returns : tie.Need-returns Inv-loop μ-loop
+unfolding mixColumns
+returns c = filled (c .before .loop .r) (columns mixRow (c .before .before .args .t1)) (c .before .loop .i) (omega arith) (omega arith) (c .before .loop .inv .0)
+
+pub mix-columns-spec : {M : Type 1} → statement M
+mix-columns-spec =
+    tie.close
+    (tie.spec
+    Inv-loop
+    μ-loop
+    loop-holds
+    array-read-mix-column
+    add-mix-column
+    array-read-mix-column-2
+    add-mix-column-2
+    array-read-mix-column-3
+    add-mix-column-3
+    array-read-mix-column-4
+    mix-column-requires
+    array-read-r
+    array-write-r
+    array-read-r-2
+    add-r
+    array-write-r-2
+    array-read-r-3
+    add-r-2
+    array-write-r-3
+    array-read-r-4
+    add-r-3
+    array-write-r-4
+    add-i
+    loop-less
+    loop-again
+    returns)

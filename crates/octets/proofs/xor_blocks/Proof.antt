@@ -1,0 +1,78 @@
+use mathlib.Core.Path.{_≡_, refl, sym, ap, _∙_}
+use mathlib.Core.List.{List}
+use Prim.Native.Nat.{ℕ, _+_, _-_, _%_, _≤_, _<_}
+use native.Mathlib.Omega.{arith}
+use borrow.Author.Needs.{needs}
+use lib.ListN.{length, take, length-set}
+use Rattle.octets.specs.Bytes.{xorBytes}
+use Rattle.octets.proofs.Lists.{getD-xor-bytes, length-xor-bytes}
+use Rattle.octets.proofs.Filling.{filled-more, filled}
+use Rattle.octets.proofs.xor_blocks.Statement.{statement}
+use Rattle.octets.proofs.xor_blocks.Tie as tie
+use Rattle.octets.proofs.xor_blocks.Reads as reads
+use Rattle.octets.proofs.xor_blocks.Lts as lts
+
+abbrev Inv-loop : tie.InvT-loop
+Inv-loop s k r₀ i₀ r i = (take i r ≡ take i (xorBytes s k)) × (length r ≡ 16) × (i ≤ 16)
+
+abbrev μ-loop : tie.MeasureT-loop
+μ-loop s k r₀ i₀ r i = 16 - i
+
+-- src/lib.rt:77:5
+loop-holds : tie.Need-loop-holds Inv-loop μ-loop
+loop-holds c = (refl, search needs, omega arith)
+
+-- src/lib.rt:78:16
+array-read-r : tie.Need-array-read-r Inv-loop μ-loop
+array-read-r c = search needs
+
+-- src/lib.rt:78:23
+array-read-r-2 : tie.Need-array-read-r-2 Inv-loop μ-loop
+array-read-r-2 c = search needs
+
+-- src/lib.rt:78:9
+array-write-r : tie.Need-array-write-r Inv-loop μ-loop
+array-write-r c = search needs
+
+-- src/lib.rt:79:9
+add-i : tie.Need-add-i Inv-loop μ-loop
+add-i c = search needs
+
+-- src/lib.rt:77:5
+loop-less : tie.Need-loop-less Inv-loop μ-loop
+loop-less c = search needs
+
+-- src/lib.rt:77:5
+loop-again : tie.Need-loop-again Inv-loop μ-loop
+loop-again c = let s : List ℕ = c .before .before .args .t1 in
+    let k : List ℕ = c .before .before .args .t2 in
+    let r : List ℕ = c .before .loop .r in
+    let i : ℕ = c .before .loop .i in
+    let ls : length s ≡ 16 = search needs in
+    let lk : length k ≡ 16 = search needs in (
+      filled-more r (xorBytes s k) i _ (omega arith) (omega (arith, length-xor-bytes s k)) (c .before .loop .inv .0) (sym (getD-xor-bytes s k i (omega arith) (omega arith))),
+      simp length-set (search needs),
+      omega arith,
+    )
+
+-- src/lib.rt:72:1
+returns : tie.Need-returns Inv-loop μ-loop
+returns c = let s : List ℕ = c .before .before .args .t1 in
+    let k : List ℕ = c .before .before .args .t2 in
+    let ls : length s ≡ 16 = search needs in
+    filled (c .before .loop .r) (xorBytes s k) (c .before .loop .i) (omega arith) (omega (arith, length-xor-bytes s k)) (c .before .loop .inv .0)
+
+pub xor-blocks-spec : {M : Type 1} → statement M
+xor-blocks-spec =
+    tie.close
+    (tie.spec
+    Inv-loop
+    μ-loop
+    loop-holds
+    array-read-r
+    array-read-r-2
+    array-write-r
+    add-i
+    loop-less
+    loop-again
+    returns)
