@@ -1,11 +1,12 @@
 -- The steps of a round byte by byte: what stands at each place of a step's result, for code that computes it place by place.
 -- Assumes nothing.
 use mathlib.Core.Path.{_≡_, refl, sym, ap, ap₂, _∙_}
-use mathlib.Core.List.{List}
+use mathlib.Core.List.{List, [], _∷_}
 use Prim.Native.Nat.{ℕ, _+_, _-_, _*_, _/_, _%_, _<_}
 use native.Mathlib.Omega.{arith}
-use lib.ListN.{getD}
+use lib.ListN.{getD, set}
 use Rattle.octets.proofs.Lists.{getD-tabulate}
+use Rattle.octets.proofs.Filling.{Filled, filled-four}
 use Rattle.aes.specs.Cipher.{at, shiftRows, columns}
 use Rattle.aes.specs.InvCipher.{invShiftRows}
 
@@ -38,14 +39,24 @@ module _ (m : ℕ → ℕ → ℕ → ℕ → ℕ) (s : List ℕ) where
       ∙ sym (getD-tabulate 16 (λ i. m (at s (i % 4) (i / 4)) (at s ((i % 4 + 1) % 4) (i / 4)) (at s ((i % 4 + 2) % 4) (i / 4)) (at s ((i % 4 + 3) % 4) (i / 4))) k h)
 
   module _ (i : ℕ) (h : i < 16) (column : i % 4 ≡ 0) where
-    pub column-at-0 : turned i (i + 1) (i + 2) (i + 3) ≡ getD (columns m s) i 0
+    column-at-0 : turned i (i + 1) (i + 2) (i + 3) ≡ getD (columns m s) i 0
     column-at-0 = from-place i i (i + 1) (i + 2) (i + 3) h (omega arith) (omega arith) (omega arith) (omega arith)
 
-    pub column-at-1 : turned (i + 1) (i + 2) (i + 3) i ≡ getD (columns m s) (i + 1) 0
+    column-at-1 : turned (i + 1) (i + 2) (i + 3) i ≡ getD (columns m s) (i + 1) 0
     column-at-1 = from-place (i + 1) (i + 1) (i + 2) (i + 3) i (omega arith) (omega arith) (omega arith) (omega arith) (omega arith)
 
-    pub column-at-2 : turned (i + 2) (i + 3) i (i + 1) ≡ getD (columns m s) (i + 2) 0
+    column-at-2 : turned (i + 2) (i + 3) i (i + 1) ≡ getD (columns m s) (i + 2) 0
     column-at-2 = from-place (i + 2) (i + 2) (i + 3) i (i + 1) (omega arith) (omega arith) (omega arith) (omega arith) (omega arith)
 
-    pub column-at-3 : turned (i + 3) i (i + 1) (i + 2) ≡ getD (columns m s) (i + 3) 0
+    column-at-3 : turned (i + 3) i (i + 1) (i + 2) ≡ getD (columns m s) (i + 3) 0
     column-at-3 = from-place (i + 3) (i + 3) i (i + 1) (i + 2) (omega arith) (omega arith) (omega arith) (omega arith) (omega arith)
+
+  -- a turn of a loop that fills the result column by column
+  pub column-filled : (r column : List ℕ) (i : ℕ) → Filled 16 (columns m s) r i → i < 16 → i % 4 ≡ 0
+      → column ≡ turned i (i + 1) (i + 2) (i + 3) ∷ turned (i + 1) (i + 2) (i + 3) i ∷ turned (i + 2) (i + 3) i (i + 1) ∷ turned (i + 3) i (i + 1) (i + 2) ∷ []
+      → Filled 16 (columns m s)
+      (set (set (set (set r i (getD column 0 0)) (i + 1) (getD column 1 0)) (i + 2) (getD column 2 0)) (i + 3) (getD column 3 0)) (i + 4)
+  column-filled r column i f h e got =
+      filled-four (getD column 0 0) (getD column 1 0) (getD column 2 0) (getD column 3 0) f (omega arith)
+      (ap (λ (p : List ℕ). getD p 0 0) got ∙ column-at-0 i h e) (ap (λ (p : List ℕ). getD p 1 0) got ∙ column-at-1 i h e)
+      (ap (λ (p : List ℕ). getD p 2 0) got ∙ column-at-2 i h e) (ap (λ (p : List ℕ). getD p 3 0) got ∙ column-at-3 i h e)

@@ -6,13 +6,11 @@ ghost use mathlib.Core.List.{[], _∷_};
 ghost use lib.ListN.{length};
 ghost use Rattle.field.specs.Tables.{sbox};
 ghost use Rattle.aes.specs.Cipher.{subBytes, shiftRows, mixRow, mixColumns, cipher};
+use aes_keys::ROUNDS;
 use aes_keys::round_key;
 use byte_ops::sub_byte;
 use byte_ops::x_times;
 use octets::xor_blocks;
-
-// Rounds of AES-256 (FIPS 197, table 3).
-pub const ROUNDS: usize = 14;
 
 fn sub_bytes(table: &[u8; 256], s: [u8; 16]) -> [u8; 16]
     requires { ⌜ now table ≡ sbox ⌝ }

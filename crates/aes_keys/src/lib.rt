@@ -15,6 +15,9 @@ pub const KEY_BYTES: usize = 32;
 
 pub const SCHEDULE_BYTES: usize = 240;
 
+// Rounds of AES-256 (FIPS 197, table 3).
+pub const ROUNDS: usize = 14;
+
 // The word that begins at byte `at`.
 fn word_at(w: &[u8], at: usize) -> [u8; 4]
     requires { ⌜ at + 4 ≤ length (now w) ⌝ }

@@ -1,6 +1,7 @@
--- A loop that fills a list from the front: after turn i the first i elements are those of the list that is wanted, and at the end all are.
+-- A loop that fills a list of n elements from the front: after turn i the first i elements are those of the list that is wanted, and at
+-- the end all are.
 -- Assumes nothing.
-use mathlib.Core.Path.{_≡_, sym, ap, ap₂, _∙_}
+use mathlib.Core.Path.{_≡_, refl, sym, ap, ap₂, _∙_, subst}
 use mathlib.Core.List.{List, [], _∷_, _++_}
 use Prim.Native.Nat.{ℕ, suc, _+_, _≤_, _<_}
 use native.Mathlib.Numerals.{add-one}
@@ -8,41 +9,43 @@ use native.Mathlib.Omega.{arith}
 use lib.ListN.{length, take, getD, set, length-set}
 use lib.Seq.{take-suc, take-suc-set, take-all}
 
-pub filled-more : (r want : List ℕ) (i v : ℕ) → i < length r → i < length want → take i r ≡ take i want → v ≡ getD want i 0
-    → take (i + 1) (set r i v) ≡ take (i + 1) want
-filled-more r want i v hr hw e ev =
-    ap (λ (n : ℕ). take n (set r i v)) (add-one i)
-    ∙ take-suc-set r i v hr
-    ∙ ap₂ (λ (p : List ℕ) (x : ℕ). p ++ (x ∷ [])) e ev
-    ∙ sym (take-suc want i 0 hw)
-    ∙ ap (λ (n : ℕ). take n want) (sym (add-one i))
+-- the loop's invariant: r holds the first i of the n elements of want
+pub record Filled (n : ℕ) (want r : List ℕ) (i : ℕ) : Type 0 where
+  pub front : take i r ≡ take i want
+  pub long : length r ≡ n
+  pub wanted : length want ≡ n
+  pub within : i ≤ n
 
-pub filled : (r want : List ℕ) (i : ℕ) → length r ≤ i → length want ≤ i → take i r ≡ take i want → r ≡ want
-filled r want i hr hw e = sym (take-all i r hr) ∙ e ∙ take-all i want hw
+module _ {n : ℕ} {want : List ℕ} where
+  pub filled-none : {r : List ℕ} → length r ≡ n → length want ≡ n → Filled n want r 0
+  filled-none h g = record { front = refl; long = h; wanted = g; within = omega arith }
 
--- four elements in one turn
-pub filled-four : (r want : List ℕ) (i v₀ v₁ v₂ v₃ : ℕ) → i + 4 ≤ length r → i + 4 ≤ length want → take i r ≡ take i want
-    → v₀ ≡ getD want i 0 → v₁ ≡ getD want (i + 1) 0 → v₂ ≡ getD want (i + 2) 0 → v₃ ≡ getD want (i + 3) 0
-    → take (i + 4) (set (set (set (set r i v₀) (i + 1) v₁) (i + 2) v₂) (i + 3) v₃) ≡ take (i + 4) want
-filled-four r want i v₀ v₁ v₂ v₃ hr hw e e₀ e₁ e₂ e₃ =
-    next (set r₁ (i + 2) v₂) (i + 3) (i + 4) v₃ (omega arith) (omega (arith, l₂)) (omega arith)
-    (next r₁ (i + 2) (i + 3) v₂ (omega arith) (omega (arith, l₁)) (omega arith)
-    (next (set r i v₀) (i + 1) (i + 2) v₁ (omega arith) (omega (arith, l₀)) (omega arith)
-    (filled-more r want i v₀ (omega arith) (omega arith) e e₀) e₁) e₂) e₃
-  where
-    r₁ : List ℕ
-    r₁ = set (set r i v₀) (i + 1) v₁
+  pub filled-one : {r : List ℕ} {i : ℕ} (v : ℕ) → Filled n want r i → i < n → v ≡ getD want i 0 → Filled n want (set r i v) (i + 1)
+  filled-one {r} {i} v f h e =
+      record {
+        front =
+            ap (λ (k : ℕ). take k (set r i v)) (add-one i)
+            ∙ take-suc-set r i v (omega (arith, f .long))
+            ∙ ap₂ (λ (p : List ℕ) (x : ℕ). p ++ (x ∷ [])) (f .front) e
+            ∙ sym (take-suc want i 0 (omega (arith, f .wanted)))
+            ∙ ap (λ (k : ℕ). take k want) (sym (add-one i));
+        long = length-set r i v ∙ f .long;
+        wanted = f .wanted;
+        within = omega arith;
+      }
 
-    l₀ : length (set r i v₀) ≡ length r
-    l₀ = length-set r i v₀
+  -- four elements in one turn
+  pub filled-four : {r : List ℕ} {i : ℕ} (v₀ v₁ v₂ v₃ : ℕ) → Filled n want r i → i + 4 ≤ n
+      → v₀ ≡ getD want i 0 → v₁ ≡ getD want (i + 1) 0 → v₂ ≡ getD want (i + 2) 0 → v₃ ≡ getD want (i + 3) 0
+      → Filled n want (set (set (set (set r i v₀) (i + 1) v₁) (i + 2) v₂) (i + 3) v₃) (i + 4)
+  filled-four {r} {i} v₀ v₁ v₂ v₃ f h e₀ e₁ e₂ e₃ =
+      next (i + 3) (i + 4) v₃ (omega arith) (omega arith) e₃
+      (next (i + 2) (i + 3) v₂ (omega arith) (omega arith) e₂
+      (next (i + 1) (i + 2) v₁ (omega arith) (omega arith) e₁
+      (filled-one v₀ f (omega arith) e₀)))
+    where
+      next : {x : List ℕ} (k m v : ℕ) → m ≡ k + 1 → k < n → v ≡ getD want k 0 → Filled n want x k → Filled n want (set x k v) m
+      next {x} k m v em hk ev fx = subst (λ (j : ℕ). Filled n want (set x k v) j) (sym em) (filled-one v fx hk ev)
 
-    l₁ : length r₁ ≡ length r
-    l₁ = length-set (set r i v₀) (i + 1) v₁ ∙ l₀
-
-    l₂ : length (set r₁ (i + 2) v₂) ≡ length r
-    l₂ = length-set r₁ (i + 2) v₂ ∙ l₁
-
-    next : (x : List ℕ) (k n v : ℕ) → n ≡ k + 1 → k < length x → k < length want → take k x ≡ take k want → v ≡ getD want k 0
-        → take n (set x k v) ≡ take n want
-    next x k n v en hx hk ex ev =
-        ap (λ (m : ℕ). take m (set x k v)) en ∙ filled-more x want k v hx hk ex ev ∙ ap (λ (m : ℕ). take m want) (sym en)
+  pub filled-all : {r : List ℕ} {i : ℕ} → Filled n want r i → n ≤ i → r ≡ want
+  filled-all {r} {i} f h = sym (take-all i r (omega (arith, f .long))) ∙ f .front ∙ take-all i want (omega (arith, f .wanted))

@@ -1,12 +1,10 @@
-use mathlib.Core.Path.{_≡_, refl, sym, ap, _∙_}
-use mathlib.Core.List.{List}
-use Prim.Native.Nat.{ℕ, _+_, _-_, _%_, _≤_, _<_}
+use mathlib.Core.Path.{_≡_, refl}
+use Prim.Native.Nat.{ℕ, _-_, _%_}
 use native.Mathlib.Omega.{arith}
 use borrow.Author.Needs.{needs}
-use lib.ListN.{length, take, getD, length-set}
-use Rattle.octets.proofs.Filling.{filled-four, filled}
+use Rattle.octets.proofs.Filling.{Filled, filled-none, filled-all}
 use Rattle.aes.specs.Cipher.{columns, mixRow, mixColumns}
-use Rattle.aes.proofs.Elements.{column-at-0, column-at-1, column-at-2, column-at-3}
+use Rattle.aes.proofs.Elements.{column-filled}
 use Rattle.aes_encrypt.proofs.mix_columns.Statement.{statement}
 use Rattle.aes_encrypt.proofs.mix_columns.Tie as tie
 use Rattle.aes_encrypt.proofs.mix_columns.Reads as reads
@@ -14,14 +12,14 @@ use Rattle.aes_encrypt.proofs.mix_columns.Lts as lts
 use Rattle.aes_encrypt.proofs.mix_column.Reads as mix-column-reads
 
 abbrev Inv-loop : tie.InvT-loop
-Inv-loop s r₀ i₀ r i = (take i r ≡ take i (columns mixRow s)) × (length r ≡ 16) × (i ≤ 16) × (i % 4 ≡ 0)
+Inv-loop s r₀ i₀ r i = Filled 16 (columns mixRow s) r i × (i % 4 ≡ 0)
 
 abbrev μ-loop : tie.MeasureT-loop
 μ-loop s r₀ i₀ r i = 16 - i
 
 -- src/lib.rt:60:5
 loop-holds : tie.Need-loop-holds Inv-loop μ-loop
-loop-holds c = (refl, search needs, omega arith, omega arith)
+loop-holds c = (filled-none (search needs) refl, refl)
 
 -- src/lib.rt:61:33
 array-read-mix-column : tie.Need-array-read-mix-column Inv-loop μ-loop
@@ -109,25 +107,13 @@ loop-less c = search needs
 
 -- src/lib.rt:60:5
 loop-again : tie.Need-loop-again Inv-loop μ-loop
-loop-again c = let s : List ℕ = c .before .before .before .args .t1 in
-    let r : List ℕ = c .before .before .loop .r in
-    let i : ℕ = c .before .before .loop .i in
-    let l : length r ≡ 16 = c .before .before .loop .inv .1 in
-    let column : List ℕ = c .mix-column .result in
-    let got = c .mix-column .ensures in
-    let byte : (k : ℕ) → getD column k 0 ≡ _ = λ k. ap (λ (p : List ℕ). getD p k 0) got in (
-      filled-four r (columns mixRow s) i _ _ _ _ (omega arith) (omega arith) (c .before .before .loop .inv .0)
-          (byte 0 ∙ column-at-0 mixRow s i (omega arith) (omega arith)) (byte 1 ∙ column-at-1 mixRow s i (omega arith) (omega arith))
-          (byte 2 ∙ column-at-2 mixRow s i (omega arith) (omega arith)) (byte 3 ∙ column-at-3 mixRow s i (omega arith) (omega arith)),
-      simp length-set l,
-      omega arith,
-      omega arith,
-    )
+loop-again c = let l = c .before .before .loop in
+    (column-filled mixRow (c .before .before .before .args .t1) (l .r) (c .mix-column .result) (l .i) (l .inv .0) (omega arith) (omega arith) (c .mix-column .ensures), omega arith)
 
 -- src/lib.rt:55:1
 returns : tie.Need-returns Inv-loop μ-loop
 unfolding mixColumns
-returns c = filled (c .before .loop .r) (columns mixRow (c .before .before .args .t1)) (c .before .loop .i) (omega arith) (omega arith) (c .before .loop .inv .0)
+returns c = filled-all (c .before .loop .inv .0) (omega arith)
 
 pub mix-columns-spec : {M : Type 1} → statement M
 mix-columns-spec =

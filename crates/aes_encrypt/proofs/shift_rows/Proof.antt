@@ -1,10 +1,8 @@
-use mathlib.Core.Path.{_≡_, refl, sym, ap, _∙_}
-use mathlib.Core.List.{List}
-use Prim.Native.Nat.{ℕ, _+_, _-_, _%_, _≤_, _<_}
+use mathlib.Core.Path.{refl}
+use Prim.Native.Nat.{ℕ, _-_}
 use native.Mathlib.Omega.{arith}
 use borrow.Author.Needs.{needs}
-use lib.ListN.{length, take, length-set}
-use Rattle.octets.proofs.Filling.{filled-more, filled}
+use Rattle.octets.proofs.Filling.{Filled, filled-none, filled-one, filled-all}
 use Rattle.aes.specs.Cipher.{shiftRows}
 use Rattle.aes.proofs.Elements.{shift-rows-at}
 use Rattle.aes_encrypt.proofs.shift_rows.Statement.{statement}
@@ -13,14 +11,15 @@ use Rattle.aes_encrypt.proofs.shift_rows.Reads as reads
 use Rattle.aes_encrypt.proofs.shift_rows.Lts as lts
 
 abbrev Inv-loop : tie.InvT-loop
-Inv-loop s r₀ i₀ r i = (take i r ≡ take i (shiftRows s)) × (length r ≡ 16) × (i ≤ 16)
+Inv-loop s r₀ i₀ r i = Filled 16 (shiftRows s) r i
 
 abbrev μ-loop : tie.MeasureT-loop
 μ-loop s r₀ i₀ r i = 16 - i
 
 -- src/lib.rt:35:5
 loop-holds : tie.Need-loop-holds Inv-loop μ-loop
-loop-holds c = (refl, search needs, omega arith)
+unfolding shiftRows
+loop-holds c = filled-none (search needs) refl
 
 -- src/lib.rt:36:23
 mul-r : tie.Need-mul-r Inv-loop μ-loop
@@ -48,16 +47,11 @@ loop-less c = search needs
 
 -- src/lib.rt:35:5
 loop-again : tie.Need-loop-again Inv-loop μ-loop
-unfolding shiftRows
-loop-again c = let s : List ℕ = c .before .before .args .t1 in
-    let r : List ℕ = c .before .loop .r in
-    let i : ℕ = c .before .loop .i in
-    (filled-more r (shiftRows s) i _ (omega arith) (omega arith) (c .before .loop .inv .0) (shift-rows-at s i (omega arith)), simp length-set (search needs), omega arith)
+loop-again c = filled-one _ (c .before .loop .inv) (omega arith) (shift-rows-at (c .before .before .args .t1) (c .before .loop .i) (omega arith))
 
 -- src/lib.rt:30:1
 returns : tie.Need-returns Inv-loop μ-loop
-unfolding shiftRows
-returns c = filled (c .before .loop .r) (shiftRows (c .before .before .args .t1)) (c .before .loop .i) (omega arith) (omega arith) (c .before .loop .inv .0)
+returns c = filled-all (c .before .loop .inv) (omega arith)
 
 pub shift-rows-spec : {M : Type 1} → statement M
 shift-rows-spec =

@@ -1,12 +1,12 @@
-use mathlib.Core.Path.{_≡_, refl, sym, ap, _∙_}
+use mathlib.Core.Path.{_≡_, sym, _∙_}
 use mathlib.Core.List.{List, map}
-use Prim.Native.Nat.{ℕ, _+_, _-_, _≤_, _<_}
+use Prim.Native.Nat.{ℕ, _-_}
 use native.Mathlib.Omega.{arith}
 use borrow.Author.Needs.{needs}
-use lib.ListN.{length, take, length-set, length-map}
-use Rattle.field.specs.Field.{subByte}
+use lib.ListN.{length, length-map}
 use Rattle.octets.proofs.Lists.{getD-map}
-use Rattle.octets.proofs.Filling.{filled-more, filled}
+use Rattle.octets.proofs.Filling.{Filled, filled-none, filled-one, filled-all}
+use Rattle.field.specs.Field.{subByte}
 use Rattle.aes.specs.Cipher.{subBytes}
 use Rattle.aes_encrypt.proofs.sub_bytes.Statement.{statement}
 use Rattle.aes_encrypt.proofs.sub_bytes.Tie as tie
@@ -15,14 +15,14 @@ use Rattle.aes_encrypt.proofs.sub_bytes.Lts as lts
 use Rattle.byte_ops.proofs.sub_byte.Reads as sub-byte-reads
 
 abbrev Inv-loop : tie.InvT-loop
-Inv-loop table s r₀ i₀ r i = (take i r ≡ take i (map subByte s)) × (length r ≡ 16) × (i ≤ 16)
+Inv-loop table s r₀ i₀ r i = Filled 16 (map subByte s) r i
 
 abbrev μ-loop : tie.MeasureT-loop
 μ-loop table s r₀ i₀ r i = 16 - i
 
 -- src/lib.rt:22:5
 loop-holds : tie.Need-loop-holds Inv-loop μ-loop
-loop-holds c = (refl, search needs, omega arith)
+loop-holds c = filled-none (search needs) (length-map (c .args .t2) subByte ∙ search needs)
 
 -- src/lib.rt:23:32
 array-read-sub-byte : tie.Need-array-read-sub-byte Inv-loop μ-loop
@@ -47,20 +47,13 @@ loop-less c = search needs
 -- src/lib.rt:22:5
 loop-again : tie.Need-loop-again Inv-loop μ-loop
 loop-again c = let s : List ℕ = c .before .before .before .args .t2 in
-    let r : List ℕ = c .before .before .loop .r in
-    let i : ℕ = c .before .before .loop .i in
-    let ls : length s ≡ 16 = search needs in (
-      filled-more r (map subByte s) i _ (omega arith) (omega (arith, length-map s subByte)) (c .before .before .loop .inv .0) (c .sub-byte .ensures ∙ sym (getD-map subByte s i (omega arith))),
-      simp length-set (search needs),
-      omega arith,
-    )
+    let l : length s ≡ 16 = search needs in
+    filled-one _ (c .before .before .loop .inv) (omega arith) (c .sub-byte .ensures ∙ sym (getD-map subByte s (c .before .before .loop .i) (omega arith)))
 
 -- src/lib.rt:16:1
 returns : tie.Need-returns Inv-loop μ-loop
 unfolding subBytes
-returns c = let s : List ℕ = c .before .before .args .t2 in
-    let ls : length s ≡ 16 = search needs in
-    filled (c .before .loop .r) (map subByte s) (c .before .loop .i) (omega arith) (omega (arith, length-map s subByte)) (c .before .loop .inv .0)
+returns c = filled-all (c .before .loop .inv) (omega arith)
 
 pub sub-bytes-spec : {M : Type 1} → statement M
 sub-bytes-spec =

@@ -1,26 +1,26 @@
-use mathlib.Core.Path.{_≡_, refl, sym, ap, _∙_}
+use mathlib.Core.Path.{_≡_, sym, _∙_}
 use mathlib.Core.List.{List}
-use Prim.Native.Nat.{ℕ, _+_, _-_, _%_, _≤_, _<_}
+use Prim.Native.Nat.{ℕ, _-_}
 use native.Mathlib.Omega.{arith}
 use borrow.Author.Needs.{needs}
-use lib.ListN.{length, take, length-set}
+use lib.ListN.{length}
 use Rattle.octets.specs.Bytes.{xorBytes}
 use Rattle.octets.proofs.Lists.{getD-xor-bytes, length-xor-bytes}
-use Rattle.octets.proofs.Filling.{filled-more, filled}
+use Rattle.octets.proofs.Filling.{Filled, filled-none, filled-one, filled-all}
 use Rattle.octets.proofs.xor_blocks.Statement.{statement}
 use Rattle.octets.proofs.xor_blocks.Tie as tie
 use Rattle.octets.proofs.xor_blocks.Reads as reads
 use Rattle.octets.proofs.xor_blocks.Lts as lts
 
 abbrev Inv-loop : tie.InvT-loop
-Inv-loop s k r₀ i₀ r i = (take i r ≡ take i (xorBytes s k)) × (length r ≡ 16) × (i ≤ 16)
+Inv-loop s k r₀ i₀ r i = Filled 16 (xorBytes s k) r i
 
 abbrev μ-loop : tie.MeasureT-loop
 μ-loop s k r₀ i₀ r i = 16 - i
 
 -- src/lib.rt:77:5
 loop-holds : tie.Need-loop-holds Inv-loop μ-loop
-loop-holds c = (refl, search needs, omega arith)
+loop-holds c = filled-none (search needs) (length-xor-bytes (c .args .t1) (c .args .t2) ∙ search needs)
 
 -- src/lib.rt:78:16
 array-read-r : tie.Need-array-read-r Inv-loop μ-loop
@@ -46,21 +46,13 @@ loop-less c = search needs
 loop-again : tie.Need-loop-again Inv-loop μ-loop
 loop-again c = let s : List ℕ = c .before .before .args .t1 in
     let k : List ℕ = c .before .before .args .t2 in
-    let r : List ℕ = c .before .loop .r in
-    let i : ℕ = c .before .loop .i in
     let ls : length s ≡ 16 = search needs in
-    let lk : length k ≡ 16 = search needs in (
-      filled-more r (xorBytes s k) i _ (omega arith) (omega (arith, length-xor-bytes s k)) (c .before .loop .inv .0) (sym (getD-xor-bytes s k i (omega arith) (omega arith))),
-      simp length-set (search needs),
-      omega arith,
-    )
+    let lk : length k ≡ 16 = search needs in
+    filled-one _ (c .before .loop .inv) (omega arith) (sym (getD-xor-bytes s k (c .before .loop .i) (omega arith) (omega arith)))
 
 -- src/lib.rt:72:1
 returns : tie.Need-returns Inv-loop μ-loop
-returns c = let s : List ℕ = c .before .before .args .t1 in
-    let k : List ℕ = c .before .before .args .t2 in
-    let ls : length s ≡ 16 = search needs in
-    filled (c .before .loop .r) (xorBytes s k) (c .before .loop .i) (omega arith) (omega (arith, length-xor-bytes s k)) (c .before .loop .inv .0)
+returns c = filled-all (c .before .loop .inv) (omega arith)
 
 pub xor-blocks-spec : {M : Type 1} → statement M
 xor-blocks-spec =
