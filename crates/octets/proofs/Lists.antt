@@ -6,13 +6,13 @@ use mathlib.Core.List.{List, [], _∷_, _++_, append-assoc, append-nil, map}
 use Prim.Native.Nat.{ℕ, zero, suc, _+_, _-_, _≤_, _<_}
 use native.Mathlib.Nat.{not-suc-le-zero, le-of-suc-le-suc}
 use native.Mathlib.Omega.{arith}
-use lib.Bits.{bitXor, xor-lt, xor-comm}
+use lib.Bits.{bitXor, xor-lt, xor-zero-r}
 use lib.Dec.{T, eqb, eqb→eq, eqb-refl}
-use lib.ListN.{length, take, drop, getD, replicate, length-append, length-take, length-drop}
+use lib.ListN.{length, take, drop, getD, replicate, length-append, length-drop, drop-of-length-le}
 use lib.Seq.{drop-cons, take-at, drop-at, take-all, drop-drop, length-take-le, take-append-le}
 use borrow.Author.Tests.{eq-eqb, eqb-true}
 use Rattle.octets.specs.Bytes.{Bytes, Block, tabulate, xorBytes, overwrite, sameBytes}
-use Rattle.octets.proofs.Xor.{xor-undo, xor-assoc}
+use Rattle.octets.proofs.Xor.{xor-undo}
 use Rattle.octets.proofs.Table.{and-left, and-right}
 
 -- two lists are the same where their heads and their tails are
@@ -90,6 +90,11 @@ xor-bytes-undo [] t = refl
 xor-bytes-undo (x ∷ s) [] = refl
 xor-bytes-undo (x ∷ s) (y ∷ t) = xor-undo x y & xor-bytes-undo s t
 
+pub xor-zeros : (s : List ℕ) (n : ℕ) → xorBytes s (replicate n 0) ≡ s
+xor-zeros [] n = refl
+xor-zeros (x ∷ s) zero = refl
+xor-zeros (x ∷ s) (suc n) = xor-zero-r x & xor-zeros s n
+
 pub length-xor-bytes : (s t : List ℕ) → length (xorBytes s t) ≡ length s
 length-xor-bytes [] t = refl
 length-xor-bytes (x ∷ s) [] = refl
@@ -146,6 +151,10 @@ overwrite-next s at n t u e h =
         ∙ ap (drop (length u)) (drop-overwrite s at t fits)
         ∙ drop-drop (length u) (at + length t) s
         ∙ ap (λ (m : ℕ). drop m s) more
+
+-- a list written over all of another
+pub overwrite-whole : (s t : List ℕ) → length t ≡ length s → overwrite s 0 t ≡ t
+overwrite-whole s t h = ap (λ (r : List ℕ). t ++ r) (drop-of-length-le s {i = 0 + length t} (omega arith)) ∙ append-nil t
 
 -- ---- sameBytes
 pub same-refl : (s : List ℕ) → sameBytes s s ≡ true

@@ -1,0 +1,57 @@
+use mathlib.Core.Path.{_≡_, ap, _∙_}
+use mathlib.Core.List.{List}
+use Prim.Native.Nat.{ℕ}
+use Rattle.aes.specs.InvCipher.{invCipher}
+use Rattle.aes.specs.Aes.{invAes256}
+use Rattle.cbc.specs.Mode.{cbcDecrypt}
+use borrow.Author.Needs.{needs}
+use Rattle.cbc.proofs.cbc_decrypt.Statement.{statement}
+use Rattle.cbc.proofs.cbc_decrypt.Tie as tie
+use Rattle.cbc.proofs.cbc_decrypt.Reads as reads
+use Rattle.cbc.proofs.cbc_decrypt.Lts as lts
+use Rattle.aes_keys.proofs.key_expansion.Reads as key-expansion-reads
+use Rattle.byte_ops.proofs.inv_sbox_table.Reads as inv-sbox-table-reads
+use Rattle.byte_ops.proofs.sbox_table.Reads as sbox-table-reads
+use Rattle.cbc.proofs.decrypt_blocks.Reads as decrypt-blocks-reads
+
+-- src/lib.rt:90:17
+sbox-table-requires : tie.Need-sbox-table-requires
+sbox-table-requires c κs = search needs
+
+-- src/lib.rt:91:13
+key-expansion-requires : tie.Need-key-expansion-requires
+key-expansion-requires c κs = search needs
+
+-- src/lib.rt:92:19
+inv-sbox-table-requires : tie.Need-inv-sbox-table-requires
+inv-sbox-table-requires c κs = search needs
+
+-- src/lib.rt:93:30
+slice-aggregate-decrypt-blocks : tie.Need-slice-aggregate-decrypt-blocks
+slice-aggregate-decrypt-blocks c = search needs
+
+-- src/lib.rt:93:5
+decrypt-blocks-requires : tie.Need-decrypt-blocks-requires
+decrypt-blocks-requires c κs = search needs
+
+-- src/lib.rt:86:1
+same-length : tie.Need-same-length
+same-length c = search needs
+
+-- src/lib.rt:86:1
+returns : tie.Need-returns
+unfolding invAes256
+returns c = let g = c .before .before .before .before .before .before .before .before .before .before .before .args in
+    c .before .before .decrypt-blocks .ensures ∙ ap (λ (w : List ℕ). cbcDecrypt (invCipher w) (g .iv) (g .buf .now)) (c .before .before .before .before .before .before .before .key-expansion .ensures)
+
+pub cbc-decrypt-spec : {M : Type 1} → statement M
+cbc-decrypt-spec =
+    tie.close
+    (tie.spec
+    sbox-table-requires
+    key-expansion-requires
+    inv-sbox-table-requires
+    slice-aggregate-decrypt-blocks
+    decrypt-blocks-requires
+    same-length
+    returns)

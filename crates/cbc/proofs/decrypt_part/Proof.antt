@@ -1,0 +1,61 @@
+use mathlib.Core.Path.{_≡_, sym, ap, _∙_}
+use mathlib.Core.List.{List}
+use Prim.Native.Nat.{ℕ}
+use Rattle.octets.specs.Bytes.{xorBytes}
+use Rattle.octets.proofs.Lists.{overwrite-whole}
+use Rattle.aes.specs.InvCipher.{invCipher}
+use borrow.Author.Needs.{needs}
+use Rattle.cbc.proofs.decrypt_part.Statement.{statement}
+use Rattle.cbc.proofs.decrypt_part.Tie as tie
+use Rattle.cbc.proofs.decrypt_part.Reads as reads
+use Rattle.cbc.proofs.decrypt_part.Lts as lts
+use Rattle.aes_decrypt.proofs.decrypt_block.Reads as decrypt-block-reads
+use Rattle.octets.proofs.block.Reads as block-reads
+use Rattle.octets.proofs.put.Reads as put-reads
+use Rattle.octets.proofs.xor_blocks.Reads as xor-blocks-reads
+
+-- src/lib.rt:63:9
+block-requires : tie.Need-block-requires
+block-requires c κs = search needs
+
+-- src/lib.rt:64:36
+decrypt-block-requires : tie.Need-decrypt-block-requires
+decrypt-block-requires c κs = search needs
+
+-- src/lib.rt:64:17
+xor-blocks-requires : tie.Need-xor-blocks-requires
+xor-blocks-requires c κs = search needs
+
+-- src/lib.rt:65:26
+slice-aggregate-put : tie.Need-slice-aggregate-put
+slice-aggregate-put c = search needs
+
+-- src/lib.rt:65:5
+put-requires : tie.Need-put-requires
+put-requires c κs = search needs
+
+-- src/lib.rt:56:1
+same-length : tie.Need-same-length
+same-length c = search needs
+
+-- src/lib.rt:56:1
+returns : tie.Need-returns
+returns c = let st = c .before .before .before .before .before .before .before .before .before .before .before in
+    let part : List ℕ = st .args .part .now in
+    let w : List ℕ = st .args .w .now in (
+      c .before .before .before .before .before .before .before .block .ensures,
+      c .before .before .put .ensures ∙ overwrite-whole part (c .before .before .before .before .before .xor-blocks .result) (search needs)
+          ∙ c .before .before .before .before .before .xor-blocks .ensures ∙ ap (λ (x : List ℕ). xorBytes x (st .args .prev)) (c .before .before .before .before .before .before .decrypt-block .ensures ∙ ap (invCipher w) (c .before .before .before .before .before .before .before .block .ensures)),
+    )
+
+pub decrypt-part-spec : {M : Type 1} → statement M
+decrypt-part-spec =
+    tie.close
+    (tie.spec
+    block-requires
+    decrypt-block-requires
+    xor-blocks-requires
+    slice-aggregate-put
+    put-requires
+    same-length
+    returns)
