@@ -16,6 +16,16 @@ pub record Filled (n : ℕ) (want r : List ℕ) (i : ℕ) : Type 0 where
   pub wanted : length want ≡ n
   pub within : i ≤ n
 
+-- one more element, in a list that may go on behind what is wanted
+pub front-more : (r want : List ℕ) (i v : ℕ) → i < length r → i < length want → take i r ≡ take i want → v ≡ getD want i 0
+    → take (i + 1) (set r i v) ≡ take (i + 1) want
+front-more r want i v hr hw e ev =
+    ap (λ (k : ℕ). take k (set r i v)) (add-one i)
+    ∙ take-suc-set r i v hr
+    ∙ ap₂ (λ (p : List ℕ) (x : ℕ). p ++ (x ∷ [])) e ev
+    ∙ sym (take-suc want i 0 hw)
+    ∙ ap (λ (k : ℕ). take k want) (sym (add-one i))
+
 module _ {n : ℕ} {want : List ℕ} where
   pub filled-none : {r : List ℕ} → length r ≡ n → length want ≡ n → Filled n want r 0
   filled-none h g = record { front = refl; long = h; wanted = g; within = omega arith }
@@ -23,12 +33,7 @@ module _ {n : ℕ} {want : List ℕ} where
   pub filled-one : {r : List ℕ} {i : ℕ} (v : ℕ) → Filled n want r i → i < n → v ≡ getD want i 0 → Filled n want (set r i v) (i + 1)
   filled-one {r} {i} v f h e =
       record {
-        front =
-            ap (λ (k : ℕ). take k (set r i v)) (add-one i)
-            ∙ take-suc-set r i v (omega (arith, f .long))
-            ∙ ap₂ (λ (p : List ℕ) (x : ℕ). p ++ (x ∷ [])) (f .front) e
-            ∙ sym (take-suc want i 0 (omega (arith, f .wanted)))
-            ∙ ap (λ (k : ℕ). take k want) (sym (add-one i));
+        front = front-more r want i v (omega (arith, f .long)) (omega (arith, f .wanted)) (f .front) e;
         long = length-set r i v ∙ f .long;
         wanted = f .wanted;
         within = omega arith;
