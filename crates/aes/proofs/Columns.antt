@@ -18,15 +18,12 @@ use Rattle.aes.specs.InvCipher.{invMixRow}
 module _ (a b c d : ℕ) (ha : a < 256) (hb : b < 256) (hc : c < 256) (hd : d < 256) where
   pub mix-row-byte : mixRow a b c d < 256
   unfolding mixRow
-  mix-row-byte =
-      xor-lt 8 (2 • a) (3 • b ⊕ c ⊕ d) (product-byte 2 a ha)
-      (xor-lt 8 (3 • b) (c ⊕ d) (product-byte 3 b hb) (xor-lt 8 c d hc hd))
+  mix-row-byte = xor-lt 8 _ _ (product-byte _ a ha) (xor-lt 8 _ _ (product-byte _ b hb) (xor-lt 8 c d hc hd))
 
   pub inv-mix-row-byte : invMixRow a b c d < 256
   unfolding invMixRow
   inv-mix-row-byte =
-      xor-lt 8 (14 • a) (11 • b ⊕ 13 • c ⊕ 9 • d) (product-byte 14 a ha)
-      (xor-lt 8 (11 • b) (13 • c ⊕ 9 • d) (product-byte 11 b hb) (xor-lt 8 (13 • c) (9 • d) (product-byte 13 c hc) (product-byte 9 d hd)))
+      xor-lt 8 _ _ (product-byte _ a ha) (xor-lt 8 _ _ (product-byte _ b hb) (xor-lt 8 _ _ (product-byte _ c hc) (product-byte _ d hd)))
 
 -- ---- a matrix whose rows are the first one, turned, and a second such matrix: their product with a column
 abbrev row : ℕ → ℕ → ℕ → ℕ → ℕ → ℕ → ℕ → ℕ → ℕ

@@ -21,9 +21,9 @@ fn encrypt_part(table: &[u8; 256], w: &[u8], prev: [u8; 16], part: &mut [u8]) ->
     ensures { λ r. ⌜ now (part .exit) ≡ r ⌝ }
 {
     let plain = octets::block(part);
-    let c = aes_encrypt::encrypt_block(table, w, octets::xor_blocks(plain, prev));
-    octets::put(part, 0, &c);
-    c
+    let ciphertext = aes_encrypt::encrypt_block(table, w, octets::xor_blocks(plain, prev));
+    octets::put(part, 0, &ciphertext);
+    ciphertext
 }
 
 fn encrypt_blocks(table: &[u8; 256], w: &[u8], iv: [u8; 16], buf: &mut [u8])
@@ -60,10 +60,10 @@ fn decrypt_part(table: &[u8; 256], w: &[u8], prev: [u8; 16], part: &mut [u8]) ->
     ensures { λ r. ⌜ r ≡ now (part .entry) ⌝ }
     ensures { λ r. ⌜ now (part .exit) ≡ decryptBlock (invCipher (now (w .entry))) prev (now (part .entry)) ⌝ }
 {
-    let c = octets::block(part);
-    let plain = octets::xor_blocks(aes_decrypt::decrypt_block(table, w, c), prev);
+    let taken = octets::block(part);
+    let plain = octets::xor_blocks(aes_decrypt::decrypt_block(table, w, taken), prev);
     octets::put(part, 0, &plain);
-    c
+    taken
 }
 
 fn decrypt_blocks(table: &[u8; 256], w: &[u8], iv: [u8; 16], buf: &mut [u8])
@@ -100,14 +100,15 @@ fn last_block(table: &[u8; 256], w: &[u8], iv: [u8; 16], xs: &[u8]) -> [u8; 16]
     requires { ⌜ length (now xs) % 16 ≡ 0 ⌝ }
     ensures { λ r. ⌜ r ≡ lastBlock iv (cbcEncrypt (cipher (now (w .entry))) iv (now (xs .entry))) ⌝ }
 {
+    let end = xs.len();
     let mut prev = iv;
     let mut i = 0;
-    while i < xs.len() {
-        let end = i + BLOCK_BYTES;
-        let plain = octets::block(&xs[i..end]);
+    while i < end {
+        let next = i + BLOCK_BYTES;
+        let plain = octets::block(&xs[i..next]);
         let c = aes_encrypt::encrypt_block(table, w, octets::xor_blocks(plain, prev));
         prev = c;
-        i = end;
+        i = next;
     }
     prev
 }

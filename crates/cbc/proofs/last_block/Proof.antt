@@ -18,20 +18,20 @@ use Rattle.octets.proofs.block.Reads as block-reads
 use Rattle.octets.proofs.xor_blocks.Reads as xor-blocks-reads
 
 abbrev Inv-loop : tie.InvT-loop
-Inv-loop table w xs prev₀ i₀ prev i = (lastBlock prev (chain (encryptBlock (cipher w)) (encryptBlock (cipher w)) ((length xs - i) / 16) prev (drop i xs))
+Inv-loop table w xs end prev₀ i₀ prev i = (lastBlock prev (chain (encryptBlock (cipher w)) (encryptBlock (cipher w)) ((length xs - i) / 16) prev (drop i xs))
     ≡ lastBlock prev₀ (chain (encryptBlock (cipher w)) (encryptBlock (cipher w)) (length xs / 16) prev₀ xs))
     × (i % 16 ≡ 0) × (i ≤ length xs) × (length prev ≡ 16)
 
 abbrev μ-loop : tie.MeasureT-loop
-μ-loop table w xs prev₀ i₀ prev i = length xs - i
+μ-loop table w xs end prev₀ i₀ prev i = length xs - i
 
 -- src/lib.rt:105:5
 loop-holds : tie.Need-loop-holds Inv-loop μ-loop
 loop-holds c = (rw sub-zero, omega arith, omega arith, search needs)
 
 -- src/lib.rt:106:19
-add-end : tie.Need-add-end Inv-loop μ-loop
-add-end c = search needs
+add-next : tie.Need-add-next Inv-loop μ-loop
+add-next c = search needs
 
 -- src/lib.rt:107:35
 sub-block : tie.Need-sub-block Inv-loop μ-loop
@@ -90,7 +90,7 @@ last-block-spec =
     Inv-loop
     μ-loop
     loop-holds
-    add-end
+    add-next
     sub-block
     part-block-start
     part-block-end
