@@ -17,6 +17,14 @@ pub enum Unpadded {
     Wrong,
 }
 
+// The length of data_bytes bytes of data when they are padded: the next multiple of 16 that is larger.
+pub fn padded_bytes(data_bytes: usize) -> usize
+    requires { ⌜ «data_bytes» ≤ 65536 ⌝ }
+    ensures { λ r. ⌜ r ≡ paddedBytes «data_bytes» ⌝ }
+{
+    data_bytes + (BLOCK_BYTES - data_bytes % BLOCK_BYTES)
+}
+
 // Pads the first data_bytes bytes of buf where they stand; the answer is the padded length in bytes. Behind it buf stays as it is.
 pub fn pad_in_place(buf: &mut [u8], data_bytes: usize) -> usize
     requires { ⌜ paddedBytes «data_bytes» ≤ length (now buf) ⌝ }

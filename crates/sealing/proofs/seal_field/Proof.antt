@@ -1,0 +1,133 @@
+use mathlib.Core.Path.{_≡_, ap, _∙_}
+use mathlib.Core.List.{List, _++_}
+use Prim.Native.Nat.{ℕ, _+_, _%_}
+use lib.ListN.{length, drop}
+use Rattle.aes.specs.Aes.{aes256}
+use Rattle.cbc.specs.Mode.{cbcEncrypt, cbcMac}
+use Rattle.padding.specs.Padding.{paddedBytes}
+use Rattle.padding.proofs.Laws.{padded-whole}
+use Rattle.message.specs.Message.{ciphertext, macOf}
+use Rattle.sealing.proofs.Sealed.{lent, lent-whole, enciphered, sealed}
+use borrow.Author.Needs.{needs}
+use Rattle.sealing.proofs.seal_field.Statement.{statement}
+use Rattle.sealing.proofs.seal_field.Tie as tie
+use Rattle.sealing.proofs.seal_field.Reads as reads
+use Rattle.sealing.proofs.seal_field.Lts as lts
+use Rattle.cbc.proofs.cbc_encrypt.Reads as cbc-encrypt-reads
+use Rattle.cbc.proofs.cbc_mac.Reads as cbc-mac-reads
+use Rattle.octets.proofs.put.Reads as put-reads
+use Rattle.padding.proofs.pad_in_place.Reads as pad-in-place-reads
+
+-- src/lib.rt:62:40
+sub-pad-in-place : tie.Need-sub-pad-in-place
+sub-pad-in-place c = search needs
+
+-- src/lib.rt:62:40
+part-pad-in-place-start : tie.Need-part-pad-in-place-start
+part-pad-in-place-start c = search needs
+
+-- src/lib.rt:62:40
+part-pad-in-place-end : tie.Need-part-pad-in-place-end
+part-pad-in-place-end c = search needs
+
+-- src/lib.rt:62:9
+pad-in-place-requires : tie.Need-pad-in-place-requires
+pad-in-place-requires c κs = search needs
+
+-- src/lib.rt:63:15
+add-end : tie.Need-add-end
+add-end c = search needs
+
+-- src/lib.rt:66:36
+sub-cbc-encrypt : tie.Need-sub-cbc-encrypt
+sub-cbc-encrypt c = search needs
+
+-- src/lib.rt:66:36
+part-cbc-encrypt-start : tie.Need-part-cbc-encrypt-start
+part-cbc-encrypt-start c = search needs
+
+-- src/lib.rt:66:36
+part-cbc-encrypt-end : tie.Need-part-cbc-encrypt-end
+part-cbc-encrypt-end c = search needs
+
+-- src/lib.rt:66:5
+cbc-encrypt-requires : tie.Need-cbc-encrypt-requires
+cbc-encrypt-requires c κs = let g = c .before .before .before .before .before .before .before .before .before .args in
+    let p = c .before .before .before .before .before .before .pad-in-place in
+    ap (λ (m : ℕ). m % 16) (lent-whole (g .buf .now) (g .data-bytes) (p .result) (p .ensures .0) (c .before .before .before .before .before .before .before .before .before .pre) (p .last .0) (p .ensures .1)) ∙ padded-whole (g .data-bytes)
+
+-- src/lib.rt:68:44
+sub-cbc-mac : tie.Need-sub-cbc-mac
+sub-cbc-mac c = search needs
+
+-- src/lib.rt:68:44
+part-cbc-mac-start : tie.Need-part-cbc-mac-start
+part-cbc-mac-start c = search needs
+
+-- src/lib.rt:68:44
+part-cbc-mac-end : tie.Need-part-cbc-mac-end
+part-cbc-mac-end c = search needs
+
+-- src/lib.rt:68:15
+cbc-mac-requires : tie.Need-cbc-mac-requires
+cbc-mac-requires c κs = let g = c .before .before .before .before .before .before .before .before .before .before .before .before .before .before .before .before .args in
+    let p = c .before .before .before .before .before .before .before .before .before .before .before .before .before .pad-in-place in
+    let e = c .before .before .before .before .before .before .cbc-encrypt in
+    ap (λ (l : List ℕ). length l % 16) (enciphered (g .buf .now) (g .data-bytes) (p .result) (p .ensures .0) (c .before .before .before .before .before .before .before .before .before .before .before .before .before .before .before .before .pre) (p .last .0) (p .ensures .1) (e .last .1 .1 .0) (e .kept .1 .1 .0))
+    ∙ ap (λ (m : ℕ). m % 16) (e .kept .1 .1 .0 ∙ lent-whole (g .buf .now) (g .data-bytes) (p .result) (p .ensures .0) (c .before .before .before .before .before .before .before .before .before .before .before .before .before .before .before .before .pre) (p .last .0) (p .ensures .1))
+    ∙ padded-whole (g .data-bytes)
+
+-- src/lib.rt:69:25
+slice-aggregate-put : tie.Need-slice-aggregate-put
+slice-aggregate-put c = search needs
+
+-- src/lib.rt:69:5
+put-requires : tie.Need-put-requires
+put-requires c κs = search needs
+
+-- src/lib.rt:58:1
+same-length : tie.Need-same-length
+same-length c = search needs
+
+-- src/lib.rt:58:1
+returns : tie.Need-returns
+unfolding ciphertext macOf
+returns c = let g = c .before .before .before .before .before .before .before .before .before .before .before .before .before .before .before .before .before .before .before .before .before .before .args in
+    let B : List ℕ = g .buf .now in
+    let n : ℕ = g .data-bytes in
+    let p = c .before .before .before .before .before .before .before .before .before .before .before .before .before .before .before .before .before .before .before .pad-in-place in
+    let e = c .before .before .before .before .before .before .before .before .before .before .before .before .cbc-encrypt in
+    let y : List ℕ = e .last .1 .1 .0 in
+    let mac : List ℕ = c .before .before .before .before .before .cbc-mac .result in
+    let part = lent B n (p .result) (p .ensures .0) (c .before .before .before .before .before .before .before .before .before .before .before .before .before .before .before .before .before .before .before .before .before .before .pre) (p .last .0) (p .ensures .1) in
+    let text : y ≡ ciphertext (g .s) _ = e .ensures ∙ ap (cbcEncrypt (aes256 (g .s .«enc_key»)) (g .s .iv)) part in
+    record {
+      told = c .before .before .before .before .before .cbc-mac .ensures
+          ∙ ap (λ (x : List ℕ). cbcMac (aes256 (g .s .«mac_key»)) (g .head ++ x))
+          (enciphered B n (p .result) (p .ensures .0) (c .before .before .before .before .before .before .before .before .before .before .before .before .before .before .before .before .before .before .before .before .before .before .pre) (p .last .0) (p .ensures .1) y (e .kept .1 .1 .0) ∙ text);
+      left = c .before .before .put .ensures
+          ∙ sealed B n (p .result) (p .ensures .0) (c .before .before .before .before .before .before .before .before .before .before .before .before .before .before .before .before .before .before .before .before .before .before .pre) (p .last .0) (p .ensures .1) y (e .kept .1 .1 .0) mac (search needs)
+          ∙ ap (λ (x : List ℕ). (mac ++ x) ++ drop (16 + paddedBytes n) B) text;
+    }
+
+pub seal-field-spec : {M : Type 1} → statement M
+seal-field-spec =
+    tie.close
+    (tie.spec
+    sub-pad-in-place
+    part-pad-in-place-start
+    part-pad-in-place-end
+    pad-in-place-requires
+    add-end
+    sub-cbc-encrypt
+    part-cbc-encrypt-start
+    part-cbc-encrypt-end
+    cbc-encrypt-requires
+    sub-cbc-mac
+    part-cbc-mac-start
+    part-cbc-mac-end
+    cbc-mac-requires
+    slice-aggregate-put
+    put-requires
+    same-length
+    returns)

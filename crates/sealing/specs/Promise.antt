@@ -1,0 +1,21 @@
+-- What the card's side of sealing and opening promises, as records whose parts have names. Lengths are in bytes.
+use Prim.Native.Nat.{ℕ, _+_}
+use mathlib.Core.List.{List, _++_}
+use mathlib.Core.Option.{Option, some}
+use mathlib.Core.Path.{_≡_}
+use lib.ListN.{length, take, drop}
+use Rattle.padding.specs.Padding.{paddedBytes}
+use Rattle.message.specs.declared.Session.{Session}
+use Rattle.message.specs.declared.Opening.{Opening}
+use Rattle.message.specs.Message.{ciphertext, macOf, openingOf}
+
+-- n bytes of data that stood 16 bytes into the buffer were sealed there under a head block: the MAC is the answer and stands first, the
+-- ciphertext straight behind it, and what stands behind the field is kept
+pub record FieldSealed (s : Session) (head : List ℕ) (n : ℕ) (before mac after : List ℕ) : Type 0 where
+  pub told : mac ≡ macOf s head (ciphertext s (take n (drop 16 before)))
+  pub left : after ≡ (mac ++ ciphertext s (take n (drop 16 before))) ++ drop (16 + paddedBytes n) before
+
+-- an opening gives the length of the opened data, which stands at the start of `plain`; or that there is none
+pub record Opens (data′ : Option (List ℕ)) (r : Opening) (plain : List ℕ) : Type 0 where
+  pub told : r ≡ openingOf data′
+  pub left : (x : List ℕ) → data′ ≡ some x → x ≡ take (length x) plain

@@ -1,0 +1,129 @@
+// Sealing and opening of a field: what both ends of the channel share, and the card's side.
+// Every length is in bytes: a field is a MAC of 16 with the ciphertext straight behind it, 32 to 240 in all.
+// Proved: a field is sealed and opened as the definitions say, for every session and every content.
+ghost use mathlib.Core.Path.{_≡_};
+ghost use mathlib.Core.List.{_++_};
+ghost use Prim.Native.Nat.{_+_, _-_, _≤_, _<_, _%_};
+ghost use lib.ListN.{length, take, drop};
+ghost use Rattle.padding.specs.Padding.{paddedBytes};
+ghost use Rattle.message.specs.Message.{commandHead, responseHead, fieldForm, opened, openField};
+ghost use Rattle.sealing.specs.Promise.{FieldSealed, Opens};
+use message::FIELD_MAX_BYTES;
+use message::FIELD_MIN_BYTES;
+use message::MAC_BYTES;
+use message::Opening;
+use message::Session;
+use padding::Unpadded;
+
+// The longest ciphertext of a field, in bytes.
+pub const CIPHERTEXT_MAX_BYTES: usize = 224;
+
+// The head block of a command: CLA INS P1 P2, Lc, and 11 zeros. Lc counts the MAC and the ciphertext, in bytes.
+pub fn command_head(header: [u8; 4], ciphertext_bytes: usize) -> [u8; 16]
+    requires { ⌜ «ciphertext_bytes» < 240 ⌝ }
+    ensures { λ r. ⌜ r ≡ commandHead header «ciphertext_bytes» ⌝ }
+{
+    let lc = (MAC_BYTES + ciphertext_bytes) as u8;
+    [
+        header[0],
+        header[1],
+        header[2],
+        header[3],
+        lc,
+        0,
+        0,
+        0,
+        0,
+        0,
+        0,
+        0,
+        0,
+        0,
+        0,
+        0,
+    ]
+}
+
+// The head block of a response: Lr and 15 zeros. Lr counts the ciphertext, in bytes.
+pub fn response_head(ciphertext_bytes: usize) -> [u8; 16]
+    requires { ⌜ «ciphertext_bytes» < 240 ⌝ }
+    ensures { λ r. ⌜ r ≡ responseHead «ciphertext_bytes» ⌝ }
+{
+    let lr = ciphertext_bytes as u8;
+    [lr, 0, 0, 0, 0, 0, 0, 0, 0, 0, 0, 0, 0, 0, 0, 0]
+}
+
+// Seals the data_bytes bytes that stand MAC_BYTES into buf: they are padded and enciphered where they stand, in the part of buf that is
+// lent to the CBC routine, and the MAC over head and ciphertext is written in front of them. The answer is the MAC.
+pub fn seal_field(s: Session, head: [u8; 16], buf: &mut [u8], data_bytes: usize) -> [u8; 16]
+    requires { ⌜ 16 + paddedBytes «data_bytes» ≤ length (now buf) ⌝ }
+    ensures { λ r. ⌜ FieldSealed s head «data_bytes» (now (buf .entry)) r (now (buf .exit)) ⌝ }
+{
+    let padded = padding::pad_in_place(&mut buf[MAC_BYTES..], data_bytes);
+    let end = MAC_BYTES + padded;
+    let enc_key = s.enc_key;
+    let iv = s.iv;
+    cbc::cbc_encrypt(&enc_key, iv, &mut buf[MAC_BYTES..end]);
+    let mac_key = s.mac_key;
+    let mac = cbc::cbc_mac(&mac_key, head, &buf[MAC_BYTES..end]);
+    octets::put(buf, 0, &mac);
+    mac
+}
+
+// Whether a field of this many bytes can be one: 32 to 240, and a multiple of 16.
+fn well_formed(field_bytes: usize) -> bool
+    ensures { λ r. ⌜ r ≡ fieldForm «field_bytes» ⌝ }
+{
+    let long_enough = FIELD_MIN_BYTES <= field_bytes;
+    let short_enough = field_bytes <= FIELD_MAX_BYTES;
+    let whole = field_bytes % 16 == 0;
+    long_enough & short_enough & whole
+}
+
+// Opens a field of a right length under a head block: first the MAC, then the padding. The data is left at the start of `plain`.
+fn open_formed(s: Session, head: [u8; 16], field: &[u8], plain: &mut [u8]) -> Opening
+    requires { ⌜ (32 ≤ length (now field)) × (length (now field) ≤ 240) × (length (now field) % 16 ≡ 0) ⌝ }
+    requires { ⌜ length (now plain) ≡ 224 ⌝ }
+    ensures { λ r. ⌜ Opens (opened s head (now (field .entry))) r (now (plain .exit)) ⌝ }
+{
+    let mac_key = s.mac_key;
+    let mac = cbc::cbc_mac(&mac_key, head, &field[MAC_BYTES..]);
+    if !octets::same(&mac, &field[0..MAC_BYTES]) {
+        return Opening::Refused;
+    }
+    let n = field.len() - MAC_BYTES;
+    octets::put(plain, 0, &field[MAC_BYTES..]);
+    let enc_key = s.enc_key;
+    let iv = s.iv;
+    cbc::cbc_decrypt(&enc_key, iv, &mut plain[0..n]);
+    match padding::find_data(&plain[0..n]) {
+        Unpadded::Bytes(data_bytes) => Opening::Bytes(data_bytes),
+        Unpadded::Wrong => Opening::Refused,
+    }
+}
+
+// Opens a command's data field under the card's session.
+pub fn open_command(s: Session, header: [u8; 4], field: &[u8], plain: &mut [u8]) -> Opening
+    requires { ⌜ length (now plain) ≡ 224 ⌝ }
+    ensures { λ r. ⌜ Opens (openField s (commandHead header) (now (field .entry))) r (now (plain .exit)) ⌝ }
+{
+    let n = field.len();
+    if well_formed(n) {
+        open_formed(s, command_head(header, n - MAC_BYTES), field, plain)
+    } else {
+        Opening::Refused
+    }
+}
+
+// Opens a response's field under the terminal's session.
+pub fn open_response(s: Session, field: &[u8], plain: &mut [u8]) -> Opening
+    requires { ⌜ length (now plain) ≡ 224 ⌝ }
+    ensures { λ r. ⌜ Opens (openField s responseHead (now (field .entry))) r (now (plain .exit)) ⌝ }
+{
+    let n = field.len();
+    if well_formed(n) {
+        open_formed(s, response_head(n - MAC_BYTES), field, plain)
+    } else {
+        Opening::Refused
+    }
+}
