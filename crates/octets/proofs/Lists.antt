@@ -152,6 +152,31 @@ overwrite-next s at n t u e h =
         ∙ drop-drop (length u) (at + length t) s
         ∙ ap (λ (m : ℕ). drop m s) more
 
+-- behind what was written
+pub drop-overwrite-behind : (s : List ℕ) (at : ℕ) (t : List ℕ) (m : ℕ) → at + length t ≤ m → m ≤ length s → drop m (overwrite s at t) ≡ drop m s
+drop-overwrite-behind s at t m h l =
+    ap (λ (k : ℕ). drop k (overwrite s at t)) more
+    ∙ sym (drop-drop (m - (at + length t)) (at + length t) (overwrite s at t))
+    ∙ ap (drop (m - (at + length t))) (drop-overwrite s at t (omega arith))
+    ∙ drop-drop (m - (at + length t)) (at + length t) s
+    ∙ ap (λ (k : ℕ). drop k s) (sym more)
+  where
+    more : m ≡ (at + length t) + (m - (at + length t))
+    more = omega arith
+
+-- what was written
+pub overwritten : (s : List ℕ) (at : ℕ) (t : List ℕ) → at + length t ≤ length s → take (length t) (drop at (overwrite s at t)) ≡ t
+overwritten s at t h =
+    ap (λ (r : List ℕ). take (length t) (drop at r)) (append-assoc (take at s) t (drop (at + length t) s))
+    ∙ ap (take (length t)) (drop-at (take at s) (t ++ drop (at + length t) s) at (length-take-le at s (omega arith)))
+    ∙ take-at t (drop (at + length t) s) (length t) refl
+
+-- a list written straight behind another
+pub overwrite-behind : (x r t : List ℕ) (n : ℕ) → length x ≡ n → overwrite (x ++ r) n t ≡ (x ++ t) ++ drop (length t) r
+overwrite-behind x r t n h =
+    ap₂ (λ (p q : List ℕ). p ++ t ++ q) (take-at x r n h)
+    (sym (drop-drop (length t) n (x ++ r)) ∙ ap (drop (length t)) (drop-at x r n h))
+
 -- a list written over all of another
 pub overwrite-whole : (s t : List ℕ) → length t ≡ length s → overwrite s 0 t ≡ t
 overwrite-whole s t h = ap (λ (r : List ℕ). t ++ r) (drop-of-length-le s {i = 0 + length t} (omega arith)) ∙ append-nil t

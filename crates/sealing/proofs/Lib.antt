@@ -1,2 +1,3 @@
 pub mod Sealed
 pub mod Unsealed
+pub mod Responses

@@ -7,15 +7,24 @@ use lib.ListN.{length, take, drop}
 use Rattle.padding.specs.Padding.{paddedBytes}
 use Rattle.message.specs.declared.Session.{Session}
 use Rattle.message.specs.declared.Opening.{Opening}
-use Rattle.message.specs.Message.{ciphertext, macOf, openingOf}
+use Rattle.message.specs.Message.{withIv, responseHead, ciphertext, macOf, fieldMac, openingOf}
+use Rattle.message.specs.Terminal.{sealedResponse}
+use Rattle.sealing.specs.declared.Response.{Response}
 
 -- n bytes of data that stood 16 bytes into the buffer were sealed there under a head block: the MAC is the answer and stands first, the
 -- ciphertext straight behind it, and what stands behind the field is kept
 pub record FieldSealed (s : Session) (head : List ℕ) (n : ℕ) (before mac after : List ℕ) : Type 0 where
   pub told : mac ≡ macOf s head (ciphertext s (take n (drop 16 before)))
   pub left : after ≡ (mac ++ ciphertext s (take n (drop 16 before))) ++ drop (16 + paddedBytes n) before
+  pub long : length (ciphertext s (take n (drop 16 before))) ≡ paddedBytes n
 
 -- an opening gives the length of the opened data, which stands at the start of `plain`; or that there is none
 pub record Opens (data′ : Option (List ℕ)) (r : Opening) (plain : List ℕ) : Type 0 where
   pub told : r ≡ openingOf data′
   pub left : (x : List ℕ) → data′ ≡ some x → x ≡ take (length x) plain
+
+-- a response's data and status word were sealed from the buffer's start, with 9000 in the clear behind them
+pub record ResponseSealed (s : Session) (plain : List ℕ) (before : List ℕ) (r : Response) (after : List ℕ) : Type 0 where
+  pub count : r .count ≡ length (sealedResponse s plain)
+  pub session : r .session ≡ withIv s (fieldMac s responseHead plain)
+  pub left : after ≡ sealedResponse s plain ++ drop (length (sealedResponse s plain)) before

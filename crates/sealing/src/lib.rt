@@ -2,12 +2,12 @@
 // Every length is in bytes: a field is a MAC of 16 with the ciphertext straight behind it, 32 to 240 in all.
 // Proved: a field is sealed and opened as the definitions say, for every session and every content.
 ghost use mathlib.Core.Path.{_≡_};
-ghost use mathlib.Core.List.{_++_};
+ghost use mathlib.Core.List.{[], _∷_, _++_};
 ghost use Prim.Native.Nat.{_+_, _-_, _≤_, _<_, _%_};
 ghost use lib.ListN.{length, take, drop};
 ghost use Rattle.padding.specs.Padding.{paddedBytes};
 ghost use Rattle.message.specs.Message.{commandHead, responseHead, fieldForm, opened, openField};
-ghost use Rattle.sealing.specs.Promise.{FieldSealed, Opens};
+ghost use Rattle.sealing.specs.Promise.{FieldSealed, Opens, ResponseSealed};
 use message::FIELD_MAX_BYTES;
 use message::FIELD_MIN_BYTES;
 use message::MAC_BYTES;
@@ -17,6 +17,15 @@ use padding::Unpadded;
 
 // The longest ciphertext of a field, in bytes.
 pub const CIPHERTEXT_MAX_BYTES: usize = 224;
+
+// The status word of success, which follows a sealed response in the clear.
+pub const PLAIN_SUCCESS: [u8; 2] = [0x90, 0x00];
+
+// A sealed response: how many bytes it has, and the session of the end that sealed it.
+pub struct Response {
+    pub count: usize,
+    pub session: Session,
+}
 
 // The head block of a command: CLA INS P1 P2, Lc, and 11 zeros. Lc counts the MAC and the ciphertext, in bytes.
 pub fn command_head(header: [u8; 4], ciphertext_bytes: usize) -> [u8; 16]
@@ -125,5 +134,24 @@ pub fn open_response(s: Session, field: &[u8], plain: &mut [u8]) -> Opening
         open_formed(s, response_head(n - MAC_BYTES), field, plain)
     } else {
         Opening::Refused
+    }
+}
+
+// Seals a response's data and status word, SW1 SW2, together from the buffer's start, and writes 9000 behind them.
+pub fn seal_response(s: Session, response: &[u8], sw1: u8, sw2: u8, buf: &mut [u8]) -> Response
+    requires { ⌜ (length (now response) ≤ 221) × (258 ≤ length (now buf)) ⌝ }
+    ensures { λ r. ⌜ ResponseSealed s (now (response .entry) ++ (sw1 ∷ sw2 ∷ [])) (now (buf .entry)) r (now (buf .exit)) ⌝ }
+{
+    let plain_bytes = response.len() + 2;
+    octets::put(buf, MAC_BYTES, response);
+    let status = [sw1, sw2];
+    octets::put(buf, MAC_BYTES + response.len(), &status);
+    let padded = padding::padded_bytes(plain_bytes);
+    let mac = seal_field(s, response_head(padded), buf, plain_bytes);
+    let end = MAC_BYTES + padded;
+    octets::put(buf, end, &PLAIN_SUCCESS);
+    Response {
+        count: end + 2,
+        session: s.after(mac),
     }
 }

@@ -1,4 +1,4 @@
-use mathlib.Core.Path.{_≡_, ap, _∙_}
+use mathlib.Core.Path.{_≡_, sym, ap, _∙_}
 use mathlib.Core.List.{List, _++_}
 use Prim.Native.Nat.{ℕ, _+_, _%_}
 use lib.ListN.{length, drop}
@@ -108,6 +108,7 @@ returns c = let g = c .before .before .before .before .before .before .before .b
       left = c .before .before .put .ensures
           ∙ sealed B n (p .result) (p .ensures .0) (c .before .before .before .before .before .before .before .before .before .before .before .before .before .before .before .before .before .before .before .before .before .before .pre) (p .last .0) (p .ensures .1) y (e .kept .1 .1 .0) mac (search needs)
           ∙ ap (λ (x : List ℕ). (mac ++ x) ++ drop (16 + paddedBytes n) B) text;
+      long = sym (ap length text) ∙ e .kept .1 .1 .0 ∙ lent-whole B n (p .result) (p .ensures .0) (c .before .before .before .before .before .before .before .before .before .before .before .before .before .before .before .before .before .before .before .before .before .before .pre) (p .last .0) (p .ensures .1);
     }
 
 pub seal-field-spec : {M : Type 1} → statement M

@@ -1,0 +1,102 @@
+use mathlib.Core.Path.{_≡_, refl, sym, ap, _∙_}
+use mathlib.Core.List.{List, [], _∷_}
+use Prim.Native.Nat.{ℕ, _+_, _≤_}
+use native.Mathlib.Omega.{arith}
+use lib.ListN.{length}
+use Rattle.padding.specs.Padding.{paddedBytes}
+use Rattle.sealing.proofs.Responses.{response-fits, response-sealed}
+use borrow.Author.Needs.{needs}
+use Rattle.sealing.proofs.seal_response.Statement.{statement}
+use Rattle.sealing.proofs.seal_response.Tie as tie
+use Rattle.sealing.proofs.seal_response.Reads as reads
+use Rattle.sealing.proofs.seal_response.Lts as lts
+use Rattle.message.proofs.Session.after.Reads as after-reads
+use Rattle.octets.proofs.put.Reads as put-reads
+use Rattle.padding.proofs.padded_bytes.Reads as padded-bytes-reads
+use Rattle.sealing.proofs.response_head.Reads as response-head-reads
+use Rattle.sealing.proofs.seal_field.Reads as seal-field-reads
+
+-- src/lib.rt:145:23
+add-plain-bytes : tie.Need-add-plain-bytes
+add-plain-bytes c = search needs
+
+-- src/lib.rt:146:5
+put-requires : tie.Need-put-requires
+put-requires c κs = search needs
+
+-- src/lib.rt:147:22
+add-put : tie.Need-add-put
+add-put c = search needs
+
+-- src/lib.rt:147:50
+slice-aggregate-put : tie.Need-slice-aggregate-put
+slice-aggregate-put c = search needs
+
+-- src/lib.rt:147:5
+put-requires-2 : tie.Need-put-requires-2
+put-requires-2 c κs = search needs
+
+-- src/lib.rt:148:9
+padded-bytes-requires : tie.Need-padded-bytes-requires
+padded-bytes-requires c κs = search needs
+
+-- src/lib.rt:149:29
+response-head-requires : tie.Need-response-head-requires
+response-head-requires c κs = omega (arith, c .padded-bytes .ensures, response-fits (length (c .before .before .before .before .before .before .before .before .before .before .before .before .args .response .now) + 2) (omega (arith, c .before .before .before .before .before .before .before .before .before .before .before .before .pre)))
+
+-- src/lib.rt:149:9
+seal-field-requires : tie.Need-seal-field-requires
+seal-field-requires c κs = omega (arith, c .before .before .before .before .before .put2 .kept .0, c .before .before .before .before .before .before .before .before .before .before .put .kept .0, c .before .before .before .before .before .before .before .before .before .before .before .before .before .before .pre, response-fits (length (c .before .before .before .before .before .before .before .before .before .before .before .before .before .before .args .response .now) + 2) (omega (arith, c .before .before .before .before .before .before .before .before .before .before .before .before .before .before .pre)))
+
+-- src/lib.rt:150:15
+add-end : tie.Need-add-end
+add-end c = omega (arith, c .before .before .before .before .before .padded-bytes .ensures, response-fits (length (c .before .before .before .before .before .before .before .before .before .before .before .before .before .before .before .before .before .args .response .now) + 2) (omega (arith, c .before .before .before .before .before .before .before .before .before .before .before .before .before .before .before .before .before .pre)))
+
+-- src/lib.rt:151:27
+slice-aggregate-put-2 : tie.Need-slice-aggregate-put-2
+slice-aggregate-put-2 c = search needs
+
+-- src/lib.rt:151:5
+put-requires-3 : tie.Need-put-requires-3
+put-requires-3 c κs = omega (arith, c .before .before .before .before .seal-field .kept .1 .1 .0, c .before .before .before .before .before .before .before .before .before .before .put2 .kept .0, c .before .before .before .before .before .before .before .before .before .before .before .before .before .before .before .put .kept .0, c .before .before .before .before .before .before .before .padded-bytes .ensures, c .before .before .before .before .before .before .before .before .before .before .before .before .before .before .before .before .before .before .before .pre, response-fits (length (c .before .before .before .before .before .before .before .before .before .before .before .before .before .before .before .before .before .before .before .args .response .now) + 2) (omega (arith, c .before .before .before .before .before .before .before .before .before .before .before .before .before .before .before .before .before .before .before .pre)))
+
+-- src/lib.rt:153:16
+add-t12 : tie.Need-add-t12
+add-t12 c = omega (arith, c .before .before .before .before .before .before .before .before .before .before .padded-bytes .ensures, response-fits (length (c .before .before .before .before .before .before .before .before .before .before .before .before .before .before .before .before .before .before .before .before .before .before .args .response .now) + 2) (omega (arith, c .before .before .before .before .before .before .before .before .before .before .before .before .before .before .before .before .before .before .before .before .before .before .pre)))
+
+-- src/lib.rt:154:18
+after-requires : tie.Need-after-requires
+after-requires c κs = search needs
+
+-- src/lib.rt:141:1
+same-length : tie.Need-same-length
+same-length c = search needs
+
+-- src/lib.rt:141:1
+returns : tie.Need-returns
+returns c = let g = c .before .before .before .before .before .before .before .before .before .before .before .before .before .before .before .before .before .before .before .before .before .before .before .args in
+    let f = c .before .before .before .before .before .before .before .before .seal-field in
+    response-sealed (g .s) (g .buf .now) (c .before .before .before .before .before .before .before .before .before .before .before .before .before .before .before .before .before .before .before .put .last .0) (c .before .before .before .before .before .before .before .before .before .before .before .before .before .before .put2 .last .0) (f .last .1 .1 .0) (c .before .before .before .put3 .last .0) (g .response .now) (g .sw1 ∷ g .sw2 ∷ [])
+    (c .before .before .before .before .before .before .before .before .before .before .response-head .result) (f .result) (length (g .response .now) + 2) (c .before .before .before .before .before .before .before .before .before .before .before .padded-bytes .result) (c .before .before .before .before .before .before .before .before .before .before .before .before .before .before .before .before .before .before .before .before .before .before .before .pre .1) (c .before .before .before .before .before .before .before .before .before .before .before .before .before .before .before .before .before .before .before .before .before .before .before .pre .0) refl refl
+    (c .before .before .before .before .before .before .before .before .before .before .before .padded-bytes .ensures) (c .before .before .before .before .before .before .before .before .before .before .before .before .before .before .before .before .before .before .before .put .ensures) (c .before .before .before .before .before .before .before .before .before .before .before .before .before .before .put2 .ensures) (c .before .before .before .before .before .before .before .before .before .before .response-head .ensures) (f .ensures) (search needs) (c .before .before .before .put3 .ensures)
+    _ refl (c .after .ensures)
+
+pub seal-response-spec : {M : Type 1} → statement M
+seal-response-spec =
+    tie.close
+    (tie.spec
+    add-plain-bytes
+    put-requires
+    add-put
+    slice-aggregate-put
+    put-requires-2
+    padded-bytes-requires
+    response-head-requires
+    seal-field-requires
+    add-end
+    slice-aggregate-put-2
+    put-requires-3
+    add-t12
+    after-requires
+    same-length
+    returns)
