@@ -14,7 +14,7 @@ use Rattle.padding.proofs.Laws.{length-pad, padded-larger}
 pub tail-is : (a : ℕ) (xs : List ℕ) → take (length xs - a) (drop a xs) ≡ drop a xs
 tail-is a xs = take-all (length xs - a) (drop a xs) (omega (arith, length-drop a xs))
 
-tail-put : (a : ℕ) (xs y : List ℕ) → take a xs ++ (y ++ drop (length xs - a) (drop a xs)) ≡ take a xs ++ y
+pub tail-put : (a : ℕ) (xs y : List ℕ) → take a xs ++ (y ++ drop (length xs - a) (drop a xs)) ≡ take a xs ++ y
 tail-put a xs y =
     ap (λ (r : List ℕ). take a xs ++ (y ++ r)) (drop-of-length-le (drop a xs) {i = length xs - a} (omega (arith, length-drop a xs)))
     ∙ ap (λ (r : List ℕ). take a xs ++ r) (append-nil y)

@@ -24,7 +24,7 @@ use Rattle.sealing.proofs.Sealed.{tail-is}
 -- nothing is opened
 pub opens-none : (o : Option (List ℕ)) (plain : List ℕ) → o ≡ none → Opens o opening.Refused plain
 opens-none o plain e =
-    record { told = sym (ap openingOf e); left = λ x f. let z : _≡_ {A = ℕ} 0 1 = cc in absurd (omega arith) }
+    record { told = sym (ap openingOf e); left = λ x f. let z : _≡_ {A = ℕ} 0 1 = cc in absurd (omega arith); short = λ x f. let z : _≡_ {A = ℕ} 0 1 = cc in absurd (omega arith) }
 
 module _ (s : Session) (head field : List ℕ) where
   abbrev test : Bool
@@ -50,14 +50,18 @@ module _ (s : Session) (head field : List ℕ) where
   length-of none n e = let z : _≡_ {A = ℕ} 0 1 = cc in absurd (omega arith)
   length-of (some x) n e = let l : n ≡ length x = cc in ap opening.Bytes l
 
-  pub padding-right : (y rest : List ℕ) (n : ℕ) → test ≡ true → y ≡ plaintext → found.Bytes n ≡ answer (unpad plaintext)
+  pub padding-right : (y rest : List ℕ) (n : ℕ) → length y ≤ 224 → test ≡ true → y ≡ plaintext → found.Bytes n ≡ answer (unpad plaintext)
       → Opens (opened s head field) (opening.Bytes n) (y ++ rest)
-  padding-right y rest n e ey f =
+  padding-right y rest n ly e ey f =
       record {
         told = length-of (unpad plaintext) n f ∙ ap openingOf (sym (opened-is e));
         left = λ x o. front x (sym (opened-is e) ∙ o);
+        short = λ x o. small x (sym (opened-is e) ∙ o);
       }
     where
+      small : (x : List ℕ) → unpad plaintext ≡ some x → length x ≤ 223
+      small x o = omega (arith, ap length ey, unpad-shorter x plaintext o, padded-larger (length x))
+
       front : (x : List ℕ) → unpad plaintext ≡ some x → x ≡ take (length x) (y ++ rest)
       front x o =
           unpad-front x plaintext o
@@ -82,6 +86,9 @@ module _ (s : Session) (head field : List ℕ) where
 
     pub deciphered : y₂ ≡ plaintext
     deciphered = e₂ ∙ ap (cbcDecrypt (invAes256 (s .«enc_key»)) (s .iv)) copied
+
+    pub deciphered-long : length y₂ ≡ length (take m y₁) → length y₂ ≡ length field - 16
+    deciphered-long l₂ = l₂ ∙ ap length copied ∙ length-drop 16 field
 
     -- the part that was searched is the plaintext
     pub searched : (rest : List ℕ) → length y₂ ≡ length (take m y₁) → take m (y₂ ++ rest) ≡ plaintext

@@ -1,5 +1,5 @@
 -- What the card's side of sealing and opening promises, as records whose parts have names. Lengths are in bytes.
-use Prim.Native.Nat.{ℕ, _+_}
+use Prim.Native.Nat.{ℕ, _+_, _≤_}
 use mathlib.Core.List.{List, _++_}
 use mathlib.Core.Option.{Option, some}
 use mathlib.Core.Path.{_≡_}
@@ -18,10 +18,12 @@ pub record FieldSealed (s : Session) (head : List ℕ) (n : ℕ) (before mac aft
   pub left : after ≡ (mac ++ ciphertext s (take n (drop 16 before))) ++ drop (16 + paddedBytes n) before
   pub long : length (ciphertext s (take n (drop 16 before))) ≡ paddedBytes n
 
--- an opening gives the length of the opened data, which stands at the start of `plain`; or that there is none
+-- an opening gives the length of the opened data, at most 223, which stands at the start of `plain`; or that
+-- there is none
 pub record Opens (data′ : Option (List ℕ)) (r : Opening) (plain : List ℕ) : Type 0 where
   pub told : r ≡ openingOf data′
   pub left : (x : List ℕ) → data′ ≡ some x → x ≡ take (length x) plain
+  pub short : (x : List ℕ) → data′ ≡ some x → length x ≤ 223
 
 -- a response's data and status word were sealed from the buffer's start, with 9000 in the clear behind them
 pub record ResponseSealed (s : Session) (plain : List ℕ) (before : List ℕ) (r : Response) (after : List ℕ) : Type 0 where

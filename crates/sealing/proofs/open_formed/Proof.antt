@@ -6,7 +6,7 @@ use native.Mathlib.Omega.{arith}
 use lib.ListN.{length, take, drop}
 use borrow.Author.Tests.{not-true, not-false}
 use Rattle.message.specs.Message.{opened}
-use Rattle.sealing.proofs.Unsealed.{mac-differs, padding-wrong, padding-right, compared, deciphered, searched}
+use Rattle.sealing.proofs.Unsealed.{mac-differs, padding-wrong, padding-right, compared, deciphered, deciphered-long, searched}
 use borrow.Author.Needs.{needs}
 use Rattle.sealing.proofs.open_formed.Statement.{statement}
 use Rattle.sealing.proofs.open_formed.Tie as tie
@@ -134,6 +134,7 @@ returns-2 c = let g = c .before .before .before .before .before .before .before 
     let room : length field - 16 ≤ length (g .plain .now) = omega (arith, c .before .before .before .before .before .before .before .before .before .before .before .before .before .before .before .before .before .before .before .before .before .before .before .before .before .before .before .before .pre .0, c .before .before .before .before .before .before .before .before .before .before .before .before .before .before .before .before .before .before .before .before .before .before .before .before .before .before .before .before .pre .1) in
     let same = c .before .before .before .before .before .before .before .before .before .before .before .before .before .before .before .before .before .before .before .same in
     padding-right (g .s) (g .head) field y₂ _ _
+    (omega (arith, c .before .before .before .before .before .before .before .before .before .before .before .before .before .before .before .before .before .before .before .before .before .before .before .before .before .before .before .before .pre .0, deciphered-long (g .s) (g .head) field (g .plain .now) y₁ y₂ (length field - 16 - 0) (omega arith) room (c .before .before .before .before .before .before .before .before .before .before .before .before .before .before .before .put .ensures) (d .ensures) (d .kept .1 .1 .0)))
     (compared (g .s) (g .head) field (c .before .before .before .before .before .before .before .before .before .before .before .before .before .before .before .before .before .before .before .before .before .before .cbc-mac .result) (same .result) (c .before .before .before .before .before .before .before .before .before .before .before .before .before .before .before .before .before .before .before .before .before .before .cbc-mac .ensures) (same .ensures) ∙ not-false _ (c .before .before .before .before .before .before .before .before .before .before .before .before .before .before .before .before .before .before .if1 .left))
     (deciphered (g .s) (g .head) field (g .plain .now) y₁ y₂ (length field - 16 - 0) (omega arith) room (c .before .before .before .before .before .before .before .before .before .before .before .before .before .before .before .put .ensures) (d .ensures))
     (sym (c .before .data-bytes .given .1) ∙ c .before .before .before .find-data .ensures

@@ -1,0 +1,86 @@
+-- UNSEAL's cases behind the opening of the field: nothing opened, too little opened, and the plaintext written.
+-- Assumes nothing.
+use mathlib.Core.Path.{_≡_, refl, sym, ap, ap₂, _∙_}
+use mathlib.Core.Bool.{Bool, false, cond}
+use mathlib.Core.List.{List, [], _∷_, _++_}
+use mathlib.Core.Option.{Option, none, some}
+use Prim.Native.Nat.{ℕ, _+_, _-_, _≤_, _<_}
+use native.Mathlib.Omega.{arith}
+use borrow.Author.Tests.{lt-ltb, le-ltb}
+use lib.ListN.{length, take, drop, length-drop}
+use Rattle.octets.specs.Bytes.{overwrite, sameBytes}
+use Rattle.octets.proofs.Lists.{same-lengths}
+use Rattle.message.specs.declared.Session.{Session}
+use Rattle.message.specs.declared.Opening.{Opening}
+use Rattle.message.specs.declared.Opening.the-variants as opening
+use Rattle.message.specs.Message.{withIv, responseHead, fieldForm, opened, openField, openingOf}
+use Rattle.message.specs.Terminal.{Out, refused, plainSuccess, unsealed}
+use Rattle.message.proofs.Fields.{provided-some, Form, form-is}
+use Rattle.sealing.specs.Promise.{Opens}
+use Rattle.terminal.specs.declared.Outcome.{Outcome}
+use Rattle.terminal.specs.Did.{Did}
+
+-- ---- what an opening's answer says of the option that it stands for
+pub closed : (o : Option (List ℕ)) → opening.Refused ≡ openingOf o → o ≡ none
+closed none e = refl
+closed (some x) e = let z : _≡_ {A = ℕ} 0 1 = cc in absurd (omega arith)
+
+pub record Holds (o : Option (List ℕ)) (n : ℕ) : Type 0 where
+  pub plain : List ℕ
+  pub is : o ≡ some plain
+  pub long : length plain ≡ n
+
+pub holds : (o : Option (List ℕ)) (n : ℕ) → opening.Bytes n ≡ openingOf o → Holds o n
+holds none n e = let z : _≡_ {A = ℕ} 0 1 = cc in absurd (omega arith)
+holds (some x) n e = record { plain = x; is = refl; long = cc }
+
+-- a field that opens has a right length
+pub opens-long : (s : Session) (field x : List ℕ) → openField s responseHead field ≡ some x → 32 ≤ length field
+unfolding openField
+opens-long s field x e =
+    form-is (length field) (provided-some (fieldForm (length field)) (opened s (responseHead (length field - 16)) field) x e) .low
+
+-- ---- the cases
+module _ (s : Session) (field : List ℕ) (o : Option (List ℕ)) where
+  pub unseal-closed : o ≡ none → unsealed s field o ≡ refused s 7
+  unseal-closed e = ap (unsealed s field) e
+
+  pub unseal-short : (n : ℕ) → Holds o n → n < 2 → unsealed s field o ≡ refused s 7
+  unseal-short n h l = ap (unsealed s field) (h .is) ∙ rw (lt-ltb (length (h .plain)) 2 (omega (arith, h .long)))
+
+  unseal-held : (n : ℕ) (h : Holds o n) → 2 ≤ n → unsealed s field o ≡ record { refusal = 0; session = withIv s (take 16 field); bytes = h .plain }
+  unseal-held n h l = ap (unsealed s field) (h .is) ∙ rw (le-ltb (length (h .plain)) 2 (omega (arith, h .long)))
+
+  -- scratch is where the opening left the plaintext; m is its length as the code counts the part
+  pub did-unseal : (n m : ℕ) (scratch before after : List ℕ) (r : Opening) (t : Outcome) (mac : List ℕ) → Opens o r scratch → (h : Holds o n) → 2 ≤ n → m ≡ n
+      → after ≡ overwrite before 0 (take m scratch) → mac ≡ take 16 field → t .refusal ≡ 0 → t .count ≡ n → t .session ≡ withIv s mac
+      → Did (unsealed s field o) t before after
+  did-unseal n m scratch before after r t mac p h l em ea eb er ec es =
+      let e = unseal-held n h l in
+      record {
+        refusal = er ∙ sym (ap (λ (x : Out). x .refusal) e);
+        count = ec ∙ sym (h .long) ∙ sym (ap (λ (x : Out). length (x .bytes)) e);
+        session = es ∙ ap (withIv s) eb ∙ sym (ap (λ (x : Out). x .session) e);
+        left = ea ∙ ap (overwrite before 0) plain-is ∙ ap (λ (k : ℕ). h .plain ++ drop k before) none-before ∙ sym (ap (λ (x : Out). x .bytes ++ drop (length (x .bytes)) before) e);
+      }
+    where
+      plain-is : take m scratch ≡ h .plain
+      plain-is = ap (λ (k : ℕ). take k scratch) (em ∙ sym (h .long)) ∙ sym (p .left (h .plain) (h .is))
+
+      none-before : 0 + length (h .plain) ≡ length (h .plain)
+      none-before = omega arith
+
+-- the opened length is at most 223, and the field at least 32
+pub held-short : (o : Option (List ℕ)) (n : ℕ) (r : Opening) (scratch : List ℕ) → Opens o r scratch → r ≡ opening.Bytes n → n ≤ 223
+held-short o n r scratch p e =
+    let h : Holds o n = holds o n (sym e ∙ p .told) in
+    omega (arith, h .long, p .short (h .plain) (h .is))
+
+pub field-long : (s : Session) (field : List ℕ) (n : ℕ) (r : Opening) (scratch : List ℕ) → Opens (openField s responseHead field) r scratch → r ≡ opening.Bytes n → 32 ≤ length field
+field-long s field n r scratch p e =
+    let h : Holds (openField s responseHead field) n = holds (openField s responseHead field) n (sym e ∙ p .told) in
+    opens-long s field (h .plain) (h .is)
+
+-- a response of fewer than two bytes does not end in 9000
+pub too-short : (response : List ℕ) → length response < 2 → sameBytes (drop (length response - 2) response) plainSuccess ≡ false
+too-short response h = same-lengths (drop (length response - 2) response) plainSuccess (λ e. omega (arith, e, length-drop (length response - 2) response))

@@ -1,0 +1,62 @@
+-- What SEAL and UNSEAL give in each case, and that a refusal with its number, no byte written and the session given is what a definition
+-- gives that refuses.
+-- Assumes nothing.
+use mathlib.Core.Path.{_≡_, refl, sym, ap, _∙_}
+use mathlib.Core.Bool.{Bool, true, false, cond}
+use mathlib.Core.List.{List, [], _∷_, _++_}
+use mathlib.Core.Option.{Option, none, some}
+use Prim.Native.Nat.{ℕ, _-_, _≤_, _<_}
+use borrow.Author.Tests.{lt-ltb, le-ltb}
+use lib.Dec.{ltb}
+use lib.ListN.{length, take, drop}
+use Rattle.octets.specs.Bytes.{sameBytes}
+use Rattle.message.specs.declared.Session.{Session}
+use Rattle.message.specs.Message.{withIv, commandHead, responseHead, fieldMac, openField}
+use Rattle.message.specs.Terminal.{Out, refused, sealedCommand, sealOut, plainSuccess, fieldOf, unsealed, unsealOut}
+use Rattle.terminal.specs.declared.Outcome.{Outcome}
+use Rattle.terminal.specs.Did.{Did}
+
+pub did-refuse : (o : Out) (s : Session) (n : ℕ) (r : Outcome) (before : List ℕ) → o ≡ refused s n → r .refusal ≡ n → r .count ≡ 0 → r .session ≡ s
+    → Did o r before before
+did-refuse o s n r before e er ec es =
+    record {
+      refusal = er ∙ sym (ap (λ (x : Out). x .refusal) e);
+      count = ec ∙ sym (ap (λ (x : Out). length (x .bytes)) e);
+      session = es ∙ sym (ap (λ (x : Out). x .session) e);
+      left = sym (ap (λ (x : Out). x .bytes ++ drop (length (x .bytes)) before) e);
+    }
+
+-- ---- SEAL
+module _ (s : Session) (header d : List ℕ) (room : ℕ) where
+  pub seal-no-room : room < 261 → sealOut s header d room ≡ refused s 2
+  unfolding sealOut
+  seal-no-room h = rw (lt-ltb room 261 h)
+
+  pub seal-too-long : 261 ≤ room → 223 < length d → sealOut s header d room ≡ refused s 6
+  unfolding sealOut
+  seal-too-long h l = rw (le-ltb room 261 h, lt-ltb 223 (length d) l)
+
+  pub seal-done : 261 ≤ room → length d ≤ 223
+      → sealOut s header d room ≡ record { refusal = 0; session = withIv s (fieldMac s (commandHead header) d); bytes = sealedCommand s header d }
+  unfolding sealOut
+  seal-done h l = rw (le-ltb room 261 h, le-ltb 223 (length d) l)
+
+-- ---- UNSEAL
+module _ (s : Session) (response : List ℕ) (room : ℕ) where
+  abbrev inner : Out
+  inner = unsealed s (fieldOf response) (openField s responseHead (fieldOf response))
+
+  abbrev ends : Bool
+  ends = sameBytes (drop (length response - 2) response) plainSuccess
+
+  pub unseal-no-room : room < 223 → unsealOut s response room ≡ refused s 2
+  unfolding unsealOut
+  unseal-no-room h = rw (lt-ltb room 223 h)
+
+  pub unseal-other-end : 223 ≤ room → ends ≡ false → unsealOut s response room ≡ refused s 7
+  unfolding unsealOut
+  unseal-other-end h e = rw (le-ltb room 223 h, e)
+
+  pub unseal-opened : 223 ≤ room → ends ≡ true → unsealOut s response room ≡ inner
+  unfolding unsealOut
+  unseal-opened h e = rw (le-ltb room 223 h, e)

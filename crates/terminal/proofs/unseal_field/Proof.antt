@@ -1,0 +1,127 @@
+use mathlib.Core.Path.{_≡_, refl, sym, ap, _∙_}
+use mathlib.Core.List.{List}
+use Prim.Native.Nat.{ℕ, _+_, _-_, _≤_}
+use native.Mathlib.Omega.{arith}
+use lib.ListN.{length, take, length-take}
+use Rattle.message.specs.Message.{responseHead, openField}
+use Rattle.message.specs.Terminal.{unsealed}
+use Rattle.terminal.proofs.Outcomes.{did-refuse}
+use Rattle.terminal.proofs.Openings.{closed, Holds, holds, unseal-closed, unseal-short, did-unseal, held-short, field-long}
+use borrow.Author.Needs.{needs}
+use Rattle.terminal.proofs.unseal_field.Statement.{statement}
+use Rattle.terminal.proofs.unseal_field.Tie as tie
+use Rattle.terminal.proofs.unseal_field.Reads as reads
+use Rattle.terminal.proofs.unseal_field.Lts as lts
+use Rattle.message.proofs.Session.after.Reads as after-reads
+use Rattle.octets.proofs.block.Reads as block-reads
+use Rattle.octets.proofs.put.Reads as put-reads
+use Rattle.sealing.proofs.open_response.Reads as open-response-reads
+
+-- src/lib.rt:81:66
+slice-aggregate-open-response : tie.Need-slice-aggregate-open-response
+slice-aggregate-open-response c = search needs
+
+-- src/lib.rt:81:33
+open-response-requires : tie.Need-open-response-requires
+open-response-requires c κs = search needs
+
+-- src/lib.rt:81:24
+enum-known-count : tie.Need-enum-known-count
+enum-known-count c = search needs
+
+-- src/lib.rt:82:9
+enum-told : tie.Need-enum-told
+enum-told c = search needs
+
+-- src/lib.rt:82:9
+returns : tie.Need-returns
+returns c = let g = c .before .before .before .before .before .before .before .args in
+    let o = openField (g .s) responseHead (g .field .now) in
+    did-refuse (unsealed (g .s) (g .field .now) o) (g .s) 7 _ (g .buf .now)
+    (unseal-closed (g .s) (g .field .now) o (closed o (sym (c .enum-told .given .1) ∙ c .before .before .before .open-response .ensures .told))) refl refl refl
+
+-- src/lib.rt:89:9
+returns-2 : tie.Need-returns-2
+returns-2 c = let g = c .before .before .before .before .before .before .before .before .before .args in
+    let o = openField (g .s) responseHead (g .field .now) in
+    let n : ℕ = c .before .before .count .given .0 .0 in
+    did-refuse (unsealed (g .s) (g .field .now) o) (g .s) 7 _ (g .buf .now)
+    (unseal-short (g .s) (g .field .now) o n (holds o n (sym (c .before .before .count .given .1) ∙ c .before .before .before .before .before .open-response .ensures .told)) (c .if1 .taken)) refl refl refl
+
+-- src/lib.rt:95:25
+sub-put : tie.Need-sub-put
+sub-put c = search needs
+
+-- src/lib.rt:95:25
+part-put-start : tie.Need-part-put-start
+part-put-start c = search needs
+
+-- src/lib.rt:95:25
+part-put-end : tie.Need-part-put-end
+part-put-end c = let g = c .before .before .before .before .before .before .before .before .before .before .before .args in
+    let p = c .before .before .before .before .before .before .before .open-response in
+    omega (arith, held-short (openField (g .s) responseHead (g .field .now)) (c .before .before .before .before .count .given .0 .0) (p .result) (p .last .1 .1 .0) (p .ensures) (c .before .before .before .before .count .given .1), p .kept .1 .1 .0)
+
+-- src/lib.rt:95:5
+put-requires : tie.Need-put-requires
+put-requires c κs = let g = c .before .before .before .before .before .before .before .before .before .before .before .before .args in
+    let p = c .before .before .before .before .before .before .before .before .open-response in
+    let n : ℕ = c .before .before .before .before .before .count .given .0 .0 in
+    omega (arith, held-short (openField (g .s) responseHead (g .field .now)) n (p .result) (p .last .1 .1 .0) (p .ensures) (c .before .before .before .before .before .count .given .1), length-take (n - 0) (p .last .1 .1 .0), c .before .before .before .before .before .before .before .before .before .before .before .before .pre)
+
+-- src/lib.rt:96:29
+sub-block : tie.Need-sub-block
+sub-block c = search needs
+
+-- src/lib.rt:96:29
+part-block-start : tie.Need-part-block-start
+part-block-start c = search needs
+
+-- src/lib.rt:96:29
+part-block-end : tie.Need-part-block-end
+part-block-end c = let g = c .before .before .before .before .before .before .before .before .before .before .before .before .before .before .before .args in
+    let p = c .before .before .before .before .before .before .before .before .before .before .before .open-response in
+    omega (arith, field-long (g .s) (g .field .now) (c .before .before .before .before .before .before .before .before .count .given .0 .0) (p .result) (p .last .1 .1 .0) (p .ensures) (c .before .before .before .before .before .before .before .before .count .given .1))
+
+-- src/lib.rt:96:9
+block-requires : tie.Need-block-requires
+block-requires c κs = search needs
+
+-- src/lib.rt:100:18
+after-requires : tie.Need-after-requires
+after-requires c κs = search needs
+
+-- src/lib.rt:76:1
+same-length : tie.Need-same-length
+same-length c = search needs
+
+-- src/lib.rt:76:1
+returns-3 : tie.Need-returns-3
+returns-3 c = let g = c .before .before .before .before .before .before .before .before .before .before .before .before .before .before .before .before .before .before .args in
+    let o = openField (g .s) responseHead (g .field .now) in
+    let n : ℕ = c .before .before .before .before .before .before .before .before .before .before .before .count .given .0 .0 in
+    let opens = c .before .before .before .before .before .before .before .before .before .before .before .before .before .before .open-response .ensures in
+    did-unseal (g .s) (g .field .now) o n (n - 0) (c .before .before .before .before .before .before .before .before .before .before .before .before .before .before .open-response .last .1 .1 .0) (g .buf .now) (c .before .before .before .before .before .put .last .0) (c .before .before .before .before .before .before .before .before .before .before .before .before .before .before .open-response .result) _ (c .before .block .result) opens
+    (holds o n (sym (c .before .before .before .before .before .before .before .before .before .before .before .count .given .1) ∙ opens .told)) (c .before .before .before .before .before .before .before .before .before .if1 .left) (omega arith) (c .before .before .before .before .before .put .ensures) (c .before .block .ensures) refl refl (c .after .ensures)
+
+pub unseal-field-spec : {M : Type 1} → statement M
+unseal-field-spec =
+    tie.close
+    (tie.spec
+    slice-aggregate-open-response
+    open-response-requires
+    enum-known-count
+    enum-told
+    returns
+    returns-2
+    sub-put
+    part-put-start
+    part-put-end
+    put-requires
+    sub-block
+    part-block-start
+    part-block-end
+    block-requires
+    after-requires
+    same-length
+    returns-3)
