@@ -211,7 +211,8 @@ fn try_texts(
     let iv_read = read_iv(s, mode, e.iv, &mut iv);
     let plain_read = read_hex(s, e.plain, plain);
     let cipher_read = read_hex(s, e.cipher, cipher);
-    let is_read = key_read & iv_read & plain_read & cipher_read;
+    let is_counted = !text::is_none(e.count);
+    let is_read = is_counted & key_read & iv_read & plain_read & cipher_read;
     if !is_read {
         report::say_entry(name, e.section, s, e.count);
         report::say(b"the entry is malformed\n");
