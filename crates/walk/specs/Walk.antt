@@ -8,6 +8,7 @@ use lib.ListN.{length, take, drop}
 use Rattle.template.specs.declared.Head.{Head}
 use Rattle.template.specs.declared.Head.the-variants.{Of, Unreadable}
 use Rattle.template.specs.Template.{readHead, tagOf, isTemplate}
+use Rattle.walk.specs.declared.Fault.{Fault}
 use Rattle.walk.specs.declared.Fault.the-variants.{Malformed, TooDeep}
 use Rattle.walk.specs.declared.Field.{Field}
 use Rattle.walk.specs.declared.Field.the-variants.{Whole, Faulty}
@@ -57,15 +58,19 @@ sequenceOf levels s = fieldsOf (valueOf levels) (length s) s
 abbrev pub walkOf : List ℕ → Walked
 walkOf s = sequenceOf 4 s
 
--- what the paper calls each answer: the number of the refusal, 0 for none, and the count of fields
+-- the number of each refusal (01, Operations and numbered refusals)
+abbrev pub refusalNumber : Fault → ℕ
+refusalNumber Malformed = 4
+refusalNumber TooDeep = 5
+
+-- what each answer says in those terms: the number of the refusal, 0 for none, and the count of fields
 pub record Report : Type 0 where
   pub refusal : ℕ
   pub count : ℕ
 
 abbrev pub report : Walked → Report
 report (Fields n) = record { refusal = 0; count = n }
-report (Refused Malformed) = record { refusal = 4; count = 0 }
-report (Refused TooDeep) = record { refusal = 5; count = 0 }
+report (Refused f) = record { refusal = refusalNumber f; count = 0 }
 
 abbrev pub WALK : List ℕ → Report
 WALK s = report (walkOf s)

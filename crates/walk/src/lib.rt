@@ -85,3 +85,26 @@ pub fn walk(s: &[u8]) -> Walked
 {
     read_sequence(s, MAX_DEPTH)
 }
+
+// The number that WALK's refusal has in the paper, 0 where there is none.
+pub fn refusal(w: Walked) -> u8
+    ensures { λ r. ⌜ r ≡ report w .refusal ⌝ }
+{
+    match w {
+        Walked::Fields(_) => 0,
+        Walked::Refused(fault) => match fault {
+            Fault::Malformed => 4,
+            Fault::TooDeep => 5,
+        },
+    }
+}
+
+// How many fields WALK counted, 0 where it refused.
+pub fn count(w: Walked) -> usize
+    ensures { λ r. ⌜ r ≡ report w .count ⌝ }
+{
+    match w {
+        Walked::Fields(fields) => fields,
+        Walked::Refused(_) => 0,
+    }
+}
