@@ -11,13 +11,12 @@ ghost use Rattle.answer_templates.specs.Answers.{preInitialised, applica
 ghost use Rattle.answer_templates.specs.Answers.{keyByte, status, pair, signature};
 use octets::put;
 use template::TAG_INTEGER;
+use template::TAG_PUBLIC_KEY;
 use template::der_bytes;
 use template::field_bytes;
 use template::put_field;
 use template::put_head;
 use template::put_integer;
-
-pub const TAG_PUBLIC_KEY: u8 = 0x80;
 
 pub const TAG_APPLICATION_INFO: u8 = 0xA4;
 
@@ -25,11 +24,20 @@ pub const TAG_INSTANCE_UID: u8 = 0x8F;
 
 pub const TAG_KEY_UID: u8 = 0x8E;
 
+pub const VERSION_BYTES: usize = 2;
+
 pub const VERSION_MAJOR: u8 = 2;
 
 pub const VERSION_MINOR: u8 = 0;
 
+pub const FREE_SLOTS_BYTES: usize = 1;
+
 pub const TAG_STATUS: u8 = 0xA3;
+
+// GET STATUS's three fields, and its whole template with them.
+pub const STATUS_VALUE_BYTES: u8 = 9;
+
+pub const STATUS_BYTES: usize = 11;
 
 pub const TAG_BOOLEAN: u8 = 0x01;
 
@@ -60,7 +68,11 @@ fn application_bytes(uid_bytes: usize, key_bytes: usize, key_uid_bytes: usize) -
     let uid_field = field_bytes(uid_bytes);
     let key_field = field_bytes(key_bytes);
     let key_uid_field = field_bytes(key_uid_bytes);
-    uid_field + key_field + field_bytes(2) + field_bytes(1) + key_uid_field
+    uid_field
+        + key_field
+        + field_bytes(VERSION_BYTES)
+        + field_bytes(FREE_SLOTS_BYTES)
+        + key_uid_field
 }
 
 // The fields of SELECT's answer after INIT.
@@ -121,7 +133,7 @@ pub fn put_status(buf: &mut [u8], at: usize, pin_tries: u8, puk_tries: u8, has_k
     let key = key_byte(has_key);
     let bytes = [
         TAG_STATUS,
-        9,
+        STATUS_VALUE_BYTES,
         TAG_INTEGER,
         1,
         pin_tries,
@@ -133,7 +145,7 @@ pub fn put_status(buf: &mut [u8], at: usize, pin_tries: u8, puk_tries: u8, has_k
         key,
     ];
     put(buf, at, &bytes);
-    at + 11
+    at + STATUS_BYTES
 }
 
 // How many bytes the DER integers of r and s, 32 bytes each, take together.

@@ -4,12 +4,11 @@
 ghost use mathlib.Core.Path.{_≡_};
 ghost use Rattle.keypair.specs.Keypair.{privateFields, keypair, exactly};
 use template::Head;
+use template::TAG_PUBLIC_KEY;
 use template::begins_with;
 use template::read_head;
 
 pub const TAG_KEYPAIR: u8 = 0xA1;
-
-pub const TAG_PUBLIC_KEY: u8 = 0x80;
 
 pub const TAG_PRIVATE_KEY: u8 = 0x81;
 

@@ -14,6 +14,9 @@ use octets::put;
 pub const LONG_FORM_MIN_BYTES: u8 = 128;
 // The first byte of the long form; the second is the length.
 pub const LONG_FORM: u8 = 0x81;
+// The tag of a public key, which SELECT, SIGN and LOAD share.
+pub const TAG_PUBLIC_KEY: u8 = 0x80;
+
 // The tag of a DER integer, and the bit that makes its first byte negative.
 pub const TAG_INTEGER: u8 = 0x02;
 

@@ -7,7 +7,7 @@ use native.Mathlib.Nat.{add-zero, add-sub-cancel-left}
 use native.Mathlib.Numerals.{sub-one}
 use native.Mathlib.Omega.{arith}
 use lib.Bits.{bitAnd}
-use lib.ListN.{length, take, drop, length-take, length-drop}
+use lib.ListN.{length, take, drop, length-drop}
 use lib.Seq.{drop-drop}
 use borrow.Author.Tests.{lt-ltb, le-ltb, eq-eqb, ne-eqb}
 use Rattle.template.specs.declared.Head.{Head}
@@ -72,9 +72,6 @@ module _ (levels : ℕ) (s : List ℕ) (r : Head) (e : r ≡ readHead s) where
           (q ∙ ap (λ (k : ℕ). sequenceOf (levels - 1) (take k (drop h s))) (add-sub-cancel-left h n) ∙ sym
           (one-level levels (take n (drop h s)) z))
           ∙ field-template u
-
-pub value-shorter : (h n : ℕ) (s : List ℕ) → h + n ≤ length s → length (take (h + n - h) (drop h s)) ≤ n
-value-shorter h n s p = rw add-sub-cancel-left (simp length-take (omega arith))
 
 -- ---- a sequence whose field at a place has been read
 module _ (levels : ℕ) (s : List ℕ) (at : ℕ) (r : Field) (e : r ≡ fieldOf (valueOf levels) (take (length s - at) (drop at s))) where

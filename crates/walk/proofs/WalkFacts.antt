@@ -3,7 +3,7 @@
 -- Assumes nothing.
 use mathlib.Core.Path.{_≡_, refl, sym, ap, _∙_}
 use mathlib.Core.Bool.{cond}
-use mathlib.Core.List.{List}
+use mathlib.Core.List.{List, []}
 use Prim.Native.Nat.{ℕ, zero, suc, _+_, _-_, _≤_}
 use native.Mathlib.Nat.{zero-add, add-assoc}
 use native.Mathlib.Omega.{arith}
@@ -18,7 +18,7 @@ use Rattle.walk.specs.declared.Field.{Field}
 use Rattle.walk.specs.declared.Field.the-variants.{Whole, Faulty}
 use Rattle.walk.specs.declared.Walked.{Walked}
 use Rattle.walk.specs.declared.Walked.the-variants.{Fields, Refused}
-use Rattle.walk.specs.Walk.{asField, fieldWith, fieldOf, plus, andThen, fieldsOf, valueOf, sequenceOf}
+use Rattle.walk.specs.Walk.{asField, fieldWith, fieldOf, plus, andThen, fieldsOf, valueOf, sequenceOf, walkOf}
 
 -- ---- plus
 pub plus-none : (w : Walked) → plus 0 w ≡ w
@@ -119,3 +119,7 @@ sequence-empty d s e = rw e
 pub sequence-step : (levels : ℕ) (s : List ℕ) → (length s ≡ 0 → ⊥)
     → sequenceOf levels s ≡ andThen (fieldOf (valueOf levels) s) (λ (b : ℕ). sequenceOf levels (drop b s))
 sequence-step d s h = fields-step (valueOf d) (value-few d) (length s) s refl h
+
+-- empty input counts 0
+pub walk-empty : walkOf [] ≡ Fields 0
+walk-empty = sequence-empty 4 [] refl

@@ -4,7 +4,7 @@
 use mathlib.Core.Path.{_≡_, sym, ap, _∙_}
 use Prim.Native.Nat.{_+_, _-_, _≤_, ℕ, _<_}
 use native.Mathlib.Omega.{arith}
-use lib.ListN.{length, drop}
+use lib.ListN.{length, drop, length-take, length-drop}
 use borrow.Author.Needs.{needs}
 use borrow.Fn.Kinds.{In}
 use borrow.Fn.PlainCycle.{Measures, is, falls, and}
@@ -12,130 +12,94 @@ use Rattle.template.proofs.HeadFacts.{head-facts}
 use Rattle.template.proofs.Parts.{length-part-from}
 use Rattle.walk.specs.Walk.{asField, plus, sequenceOf}
 use Rattle.walk.proofs.WalkFacts.{plus-none}
-use Rattle.walk.proofs.Reading.{field-unreadable, field-overruns, field-plain, field-too-deep, field-of-value, value-shorter}
+use Rattle.walk.proofs.Reading.{field-unreadable, field-overruns, field-plain, field-too-deep, field-of-value}
 use Rattle.walk.proofs.Reading.{field-facts, sequence-next, sequence-faulty, sequence-end}
 use Rattle.walk.proofs.+read_field+read_sequence.{statement}
 use Rattle.walk.proofs.+read_field+read_sequence.Tie.{close}
-use Rattle.walk.proofs.read_field.Reads as read-field
-use Rattle.walk.proofs.read_field.Kinds as read-field-kinds
-use Rattle.walk.proofs.+read_field+read_sequence.Lts-read_field as read-field-lts
-use Rattle.walk.proofs.read_sequence.Reads as read-sequence
-use Rattle.walk.proofs.read_sequence.Kinds as read-sequence-kinds
-use Rattle.walk.proofs.+read_field+read_sequence.Lts-read_sequence as read-sequence-lts
-use Rattle.template.proofs.read_head.Reads as read-head-reads
+use Rattle.walk.proofs.read_field.Reads as field
+use Rattle.walk.proofs.read_field.Kinds as field-kinds
+use Rattle.walk.proofs.+read_field+read_sequence.Lts-read_field as field-lts
+use Rattle.walk.proofs.read_sequence.Reads as sequence
+use Rattle.walk.proofs.read_sequence.Kinds as sequence-kinds
+use Rattle.walk.proofs.+read_field+read_sequence.Lts-read_sequence as sequence-lts
+use Rattle.template.proofs.read_head.Reads as head
 
-abbrev μ-read-field : Measures 1 read-field-kinds.ps ℕ
+abbrev μ-read-field : Measures 1 field-kinds.ps ℕ
 μ-read-field κs a = length (a .0 .now) + a .1 .0 + a .1 .0
 
-abbrev μ-read-sequence : Measures 1 read-sequence-kinds.ps ℕ
+abbrev μ-read-sequence : Measures 1 sequence-kinds.ps ℕ
 μ-read-sequence κs a = length (a .0 .now) + a .1 .0 + a .1 .0 + 1
 
-abbrev read-field-at : ℕ → In 1 read-field-kinds.ps
-read-field-at t =
-    and 1 read-field-kinds.ps (is 1 read-field-kinds.ps μ-read-field t) read-field.Pre
+abbrev field-at : ℕ → In 1 field-kinds.ps
+field-at t =
+    and 1 field-kinds.ps (is 1 field-kinds.ps μ-read-field t) field.Pre
 
-abbrev read-field-below : ℕ → In 1 read-field-kinds.ps
-read-field-below t =
-    and 1 read-field-kinds.ps (falls 1 read-field-kinds.ps _<_ μ-read-field t) read-field.Pre
+abbrev field-below : ℕ → In 1 field-kinds.ps
+field-below t =
+    and 1 field-kinds.ps (falls 1 field-kinds.ps _<_ μ-read-field t) field.Pre
 
-abbrev read-sequence-at : ℕ → In 1 read-sequence-kinds.ps
-read-sequence-at t =
-    and 1 read-sequence-kinds.ps (is 1 read-sequence-kinds.ps μ-read-sequence t) read-sequence.Pre
+abbrev sequence-at : ℕ → In 1 sequence-kinds.ps
+sequence-at t =
+    and 1 sequence-kinds.ps (is 1 sequence-kinds.ps μ-read-sequence t) sequence.Pre
 
-abbrev read-sequence-below : ℕ → In 1 read-sequence-kinds.ps
-read-sequence-below t =
+abbrev sequence-below : ℕ → In 1 sequence-kinds.ps
+sequence-below t =
     and
     1
-    read-sequence-kinds.ps
-    (falls 1 read-sequence-kinds.ps _<_ μ-read-sequence t)
-    read-sequence.Pre
+    sequence-kinds.ps
+    (falls 1 sequence-kinds.ps _<_ μ-read-sequence t)
+    sequence.Pre
 
-read-field-read-head-requires : (t : ℕ) → read-field-lts.Need-read-head-requires (
-  read-head-reads.Asked,
-  read-head-reads.Learnt,
-  read-sequence-below t,
-  read-sequence.Post,
-) (read-field-at t) read-field.Post
+read-field-read-head-requires : (t : ℕ)
+    → field-lts.Need-read-head-requires (head.Asked, head.Learnt, sequence-below t, sequence.Post) (field-at t) field.Post
 read-field-read-head-requires t c κs = search needs
 
-read-field-enum-known-head-bytes : (t : ℕ) → read-field-lts.Need-enum-known-head-bytes (
-  read-head-reads.Asked,
-  read-head-reads.Learnt,
-  read-sequence-below t,
-  read-sequence.Post,
-) (read-field-at t) read-field.Post
+read-field-enum-known-head-bytes : (t : ℕ)
+    → field-lts.Need-enum-known-head-bytes (head.Asked, head.Learnt, sequence-below t, sequence.Post) (field-at t) field.Post
 read-field-enum-known-head-bytes t c = search needs
 
-read-field-enum-told : (t : ℕ) → read-field-lts.Need-enum-told (
-  read-head-reads.Asked,
-  read-head-reads.Learnt,
-  read-sequence-below t,
-  read-sequence.Post,
-) (read-field-at t) read-field.Post
+read-field-enum-told : (t : ℕ)
+    → field-lts.Need-enum-told (head.Asked, head.Learnt, sequence-below t, sequence.Post) (field-at t) field.Post
 read-field-enum-told t c = search needs
 
-read-field-returns : (t : ℕ) → read-field-lts.Need-returns (
-  read-head-reads.Asked,
-  read-head-reads.Learnt,
-  read-sequence-below t,
-  read-sequence.Post,
-) (read-field-at t) read-field.Post
+read-field-returns : (t : ℕ)
+    → field-lts.Need-returns (head.Asked, head.Learnt, sequence-below t, sequence.Post) (field-at t) field.Post
 read-field-returns t c =
     let b4 = c .before .before .before .before in
     field-unreadable (b4 .args .levels) (b4 .args .s .now) _ (c .before .before .read-head .ensures) (c .enum-told .given .1)
 
-read-field-sub-if1 : (t : ℕ) → read-field-lts.Need-sub-if1 (
-  read-head-reads.Asked,
-  read-head-reads.Learnt,
-  read-sequence-below t,
-  read-sequence.Post,
-) (read-field-at t) read-field.Post
+read-field-sub-if1 : (t : ℕ)
+    → field-lts.Need-sub-if1 (head.Asked, head.Learnt, sequence-below t, sequence.Post) (field-at t) field.Post
 read-field-sub-if1 t c =
     let b3 = c .before .before .before in
     let b5 = b3 .before .before in
     omega (arith, head-facts (b5 .args .s .now) _ _ _ (b3 .read-head .ensures) (c .before .head-bytes .given .1))
 
-read-field-returns-2 : (t : ℕ) → read-field-lts.Need-returns-2 (
-  read-head-reads.Asked,
-  read-head-reads.Learnt,
-  read-sequence-below t,
-  read-sequence.Post,
-) (read-field-at t) read-field.Post
+read-field-returns-2 : (t : ℕ)
+    → field-lts.Need-returns-2 (head.Asked, head.Learnt, sequence-below t, sequence.Post) (field-at t) field.Post
 read-field-returns-2 t c =
     let b4 = c .before .before .before .before in
     let b6 = b4 .before .before in
     field-overruns (b6 .args .levels) (b6 .args .s .now) _ (b4 .read-head .ensures) _ _ (c .before .before .head-bytes .given .1)
     (c .if1 .taken)
 
-read-field-add-end : (t : ℕ) → read-field-lts.Need-add-end (
-  read-head-reads.Asked,
-  read-head-reads.Learnt,
-  read-sequence-below t,
-  read-sequence.Post,
-) (read-field-at t) read-field.Post
+read-field-add-end : (t : ℕ)
+    → field-lts.Need-add-end (head.Asked, head.Learnt, sequence-below t, sequence.Post) (field-at t) field.Post
 read-field-add-end t c =
     let b4 = c .before .before .before .before in
     let b6 = b4 .before .before in
     omega (arith, head-facts (b6 .args .s .now) _ _ _ (b4 .read-head .ensures) (c .before .before .head-bytes .given .1))
 
-read-field-shared-slice-read-if2 : (t : ℕ) → read-field-lts.Need-shared-slice-read-if2 (
-  read-head-reads.Asked,
-  read-head-reads.Learnt,
-  read-sequence-below t,
-  read-sequence.Post,
-) (read-field-at t) read-field.Post
+read-field-shared-slice-read-if2 : (t : ℕ)
+    → field-lts.Need-shared-slice-read-if2 (head.Asked, head.Learnt, sequence-below t, sequence.Post) (field-at t) field.Post
 read-field-shared-slice-read-if2 t c =
     let b3 = c .before .before .before in
     let b5 = b3 .before .before in
     let b7 = b5 .before .before in
     omega (arith, head-facts (b7 .args .s .now) _ _ _ (b5 .read-head .ensures) (b3 .head-bytes .given .1))
 
-read-field-returns-3 : (t : ℕ) → read-field-lts.Need-returns-3 (
-  read-head-reads.Asked,
-  read-head-reads.Learnt,
-  read-sequence-below t,
-  read-sequence.Post,
-) (read-field-at t) read-field.Post
+read-field-returns-3 : (t : ℕ)
+    → field-lts.Need-returns-3 (head.Asked, head.Learnt, sequence-below t, sequence.Post) (field-at t) field.Post
 read-field-returns-3 t c =
     let b4 = c .before .before .before .before in
     let b6 = b4 .before .before in
@@ -143,12 +107,8 @@ read-field-returns-3 t c =
     field-plain (b8 .args .levels) (b8 .args .s .now) _ (b6 .read-head .ensures) _ _ (b4 .head-bytes .given .1)
     (c .before .before .if1 .left) (c .if2 .taken)
 
-read-field-returns-4 : (t : ℕ) → read-field-lts.Need-returns-4 (
-  read-head-reads.Asked,
-  read-head-reads.Learnt,
-  read-sequence-below t,
-  read-sequence.Post,
-) (read-field-at t) read-field.Post
+read-field-returns-4 : (t : ℕ)
+    → field-lts.Need-returns-4 (head.Asked, head.Learnt, sequence-below t, sequence.Post) (field-at t) field.Post
 read-field-returns-4 t c =
     let b3 = c .before .before .before in
     let b5 = b3 .before .before in
@@ -157,78 +117,53 @@ read-field-returns-4 t c =
     field-too-deep (b9 .args .levels) (b9 .args .s .now) _ (b7 .read-head .ensures) _ _ (b5 .head-bytes .given .1) (b3 .if1 .left)
     (c .before .if2 .left) (c .if3 .taken)
 
-read-field-sub-read-sequence : (t : ℕ) → read-field-lts.Need-sub-read-sequence (
-  read-head-reads.Asked,
-  read-head-reads.Learnt,
-  read-sequence-below t,
-  read-sequence.Post,
-) (read-field-at t) read-field.Post
-read-field-sub-read-sequence t c = search needs
+read-field-sub-read-sequence : (t : ℕ)
+    → field-lts.Need-sub-read-sequence (head.Asked, head.Learnt, sequence-below t, sequence.Post) (field-at t) field.Post
+read-field-sub-read-sequence t c =
+    let b5 = c .before .before .before .before .before in
+    let b7 = b5 .before .before in
+    let b9 = b7 .before .before in
+    omega (arith, head-facts (b9 .args .s .now) _ _ _ (b7 .read-head .ensures) (b5 .head-bytes .given .1))
 
-read-field-part-read-sequence-start : (t : ℕ) → read-field-lts.Need-part-read-sequence-start (
-  read-head-reads.Asked,
-  read-head-reads.Learnt,
-  read-sequence-below t,
-  read-sequence.Post,
-) (read-field-at t) read-field.Post
-read-field-part-read-sequence-start t c = search needs
+read-field-part-read-sequence-start : (t : ℕ)
+    → field-lts.Need-part-read-sequence-start (head.Asked, head.Learnt, sequence-below t, sequence.Post) (field-at t) field.Post
+read-field-part-read-sequence-start t c =
+    let b5 = c .before .before .before .before .before in
+    let b7 = b5 .before .before in
+    let b9 = b7 .before .before in
+    omega (arith, head-facts (b9 .args .s .now) _ _ _ (b7 .read-head .ensures) (b5 .head-bytes .given .1))
 
-read-field-part-read-sequence-end : (t : ℕ) → read-field-lts.Need-part-read-sequence-end (
-  read-head-reads.Asked,
-  read-head-reads.Learnt,
-  read-sequence-below t,
-  read-sequence.Post,
-) (read-field-at t) read-field.Post
+read-field-part-read-sequence-end : (t : ℕ)
+    → field-lts.Need-part-read-sequence-end (head.Asked, head.Learnt, sequence-below t, sequence.Post) (field-at t) field.Post
 read-field-part-read-sequence-end t c =
     let b5 = c .before .before .before .before .before in
     let b7 = b5 .before .before in
     let b9 = b7 .before .before in
     omega (arith, head-facts (b9 .args .s .now) _ _ _ (b7 .read-head .ensures) (b5 .head-bytes .given .1))
 
-read-field-sub-read-sequence-2 : (t : ℕ) → read-field-lts.Need-sub-read-sequence-2 (
-  read-head-reads.Asked,
-  read-head-reads.Learnt,
-  read-sequence-below t,
-  read-sequence.Post,
-) (read-field-at t) read-field.Post
+read-field-sub-read-sequence-2 : (t : ℕ)
+    → field-lts.Need-sub-read-sequence-2 (head.Asked, head.Learnt, sequence-below t, sequence.Post) (field-at t) field.Post
 read-field-sub-read-sequence-2 t c = search needs
 
-read-field-read-sequence-requires : (t : ℕ) → read-field-lts.Need-read-sequence-requires (
-  read-head-reads.Asked,
-  read-head-reads.Learnt,
-  read-sequence-below t,
-  read-sequence.Post,
-) (read-field-at t) read-field.Post
+read-field-read-sequence-requires : (t : ℕ)
+    → field-lts.Need-read-sequence-requires (head.Asked, head.Learnt, sequence-below t, sequence.Post) (field-at t) field.Post
 read-field-read-sequence-requires t c κs =
     let b6 = c .before .before .before .before .before .before in
     let b8 = b6 .before .before in
     let b10 = b8 .before .before in
-    let s = b10 .args .s .now in let g = b6 .head-bytes .given in
-    let h = head-facts s _ _ _ (b8 .read-head .ensures) (g .1) in
-    (omega (arith, b10 .pre .0, value-shorter (g .0 .0) (g .0 .1 .0) s (omega arith)), tt)
+    let h = head-facts (b10 .args .s .now) _ _ _ (b8 .read-head .ensures) (b6 .head-bytes .given .1) in
+    (simp (length-take, length-drop) (omega (arith, b10 .pre .0, h)), tt)
 
-read-field-enum-known-fields : (t : ℕ) → read-field-lts.Need-enum-known-fields (
-  read-head-reads.Asked,
-  read-head-reads.Learnt,
-  read-sequence-below t,
-  read-sequence.Post,
-) (read-field-at t) read-field.Post
+read-field-enum-known-fields : (t : ℕ)
+    → field-lts.Need-enum-known-fields (head.Asked, head.Learnt, sequence-below t, sequence.Post) (field-at t) field.Post
 read-field-enum-known-fields t c = search needs
 
-read-field-enum-known-fault : (t : ℕ) → read-field-lts.Need-enum-known-fault (
-  read-head-reads.Asked,
-  read-head-reads.Learnt,
-  read-sequence-below t,
-  read-sequence.Post,
-) (read-field-at t) read-field.Post
+read-field-enum-known-fault : (t : ℕ)
+    → field-lts.Need-enum-known-fault (head.Asked, head.Learnt, sequence-below t, sequence.Post) (field-at t) field.Post
 read-field-enum-known-fault t c = search needs
 
-read-field-returns-5 : (t : ℕ) → read-field-lts.Need-returns-5 (
-  read-head-reads.Asked,
-  read-head-reads.Learnt,
-  read-sequence-below t,
-  read-sequence.Post,
-) (read-field-at t) read-field.Post
+read-field-returns-5 : (t : ℕ)
+    → field-lts.Need-returns-5 (head.Asked, head.Learnt, sequence-below t, sequence.Post) (field-at t) field.Post
 read-field-returns-5 t c =
     let b3 = c .before .before .before in
     let b5 = b3 .before .before in
@@ -241,12 +176,8 @@ read-field-returns-5 t c =
     ∙ field-of-value (b14 .args .levels) (b14 .args .s .now) _ (b12 .read-head .ensures) _ _ (b10 .head-bytes .given .1)
     (b8 .if1 .left) (b6 .if2 .left) (b5 .if3 .left) _ (b3 .read-sequence .ensures)
 
-read-field-returns-6 : (t : ℕ) → read-field-lts.Need-returns-6 (
-  read-head-reads.Asked,
-  read-head-reads.Learnt,
-  read-sequence-below t,
-  read-sequence.Post,
-) (read-field-at t) read-field.Post
+read-field-returns-6 : (t : ℕ)
+    → field-lts.Need-returns-6 (head.Asked, head.Learnt, sequence-below t, sequence.Post) (field-at t) field.Post
 read-field-returns-6 t c =
     let b3 = c .before .before .before in
     let b5 = b3 .before .before in
@@ -259,55 +190,41 @@ read-field-returns-6 t c =
     ∙ field-of-value (b14 .args .levels) (b14 .args .s .now) _ (b12 .read-head .ensures) _ _ (b10 .head-bytes .given .1)
     (b8 .if1 .left) (b6 .if2 .left) (b5 .if3 .left) _ (b3 .read-sequence .ensures)
 
-abbrev read-sequence-Inv-loop : read-sequence-lts.InvT-loop
+abbrev read-sequence-Inv-loop : sequence-lts.InvT-loop
 read-sequence-Inv-loop s levels count₀ at₀ count at =
     (at ≤ length s) × (count ≤ at) × (sequenceOf levels s ≡ plus count (sequenceOf levels (drop at s)))
 
-abbrev read-sequence-μ-loop : read-sequence-lts.MeasureT-loop
+abbrev read-sequence-μ-loop : sequence-lts.MeasureT-loop
 read-sequence-μ-loop s levels count₀ at₀ count at = length s - at
 
-read-sequence-loop-holds : (t : ℕ) → read-sequence-lts.Need-loop-holds (
-  read-field-below t,
-  read-field.Post,
-) (read-sequence-at t) read-sequence.Post read-sequence-Inv-loop read-sequence-μ-loop
+read-sequence-loop-holds : (t : ℕ)
+    → sequence-lts.Need-loop-holds (field-below t, field.Post) (sequence-at t) sequence.Post read-sequence-Inv-loop read-sequence-μ-loop
 read-sequence-loop-holds t c = (omega arith, omega arith, sym (plus-none _))
 
-read-sequence-sub-read-field : (t : ℕ) → read-sequence-lts.Need-sub-read-field (
-  read-field-below t,
-  read-field.Post,
-) (read-sequence-at t) read-sequence.Post read-sequence-Inv-loop read-sequence-μ-loop
+read-sequence-sub-read-field : (t : ℕ)
+    → sequence-lts.Need-sub-read-field (field-below t, field.Post) (sequence-at t) sequence.Post read-sequence-Inv-loop read-sequence-μ-loop
 read-sequence-sub-read-field t c = search needs
 
-read-sequence-part-read-field-start : (t : ℕ) → read-sequence-lts.Need-part-read-field-start (
-  read-field-below t,
-  read-field.Post,
-) (read-sequence-at t) read-sequence.Post read-sequence-Inv-loop read-sequence-μ-loop
+read-sequence-part-read-field-start : (t : ℕ)
+    → sequence-lts.Need-part-read-field-start (field-below t, field.Post) (sequence-at t) sequence.Post read-sequence-Inv-loop read-sequence-μ-loop
 read-sequence-part-read-field-start t c = search needs
 
-read-sequence-part-read-field-end : (t : ℕ) → read-sequence-lts.Need-part-read-field-end (
-  read-field-below t,
-  read-field.Post,
-) (read-sequence-at t) read-sequence.Post read-sequence-Inv-loop read-sequence-μ-loop
+read-sequence-part-read-field-end : (t : ℕ)
+    → sequence-lts.Need-part-read-field-end (field-below t, field.Post) (sequence-at t) sequence.Post read-sequence-Inv-loop read-sequence-μ-loop
 read-sequence-part-read-field-end t c = search needs
 
-read-sequence-read-field-requires : (t : ℕ) → read-sequence-lts.Need-read-field-requires (
-  read-field-below t,
-  read-field.Post,
-) (read-sequence-at t) read-sequence.Post read-sequence-Inv-loop read-sequence-μ-loop
+read-sequence-read-field-requires : (t : ℕ)
+    → sequence-lts.Need-read-field-requires (field-below t, field.Post) (sequence-at t) sequence.Post read-sequence-Inv-loop read-sequence-μ-loop
 read-sequence-read-field-requires t c κs =
     let b4 = c .before .before .before .before in
     (omega (arith, b4 .pre .0, length-part-from (c .before .before .loop .at) (b4 .args .s .now)), tt)
 
-read-sequence-enum-known-fields : (t : ℕ) → read-sequence-lts.Need-enum-known-fields (
-  read-field-below t,
-  read-field.Post,
-) (read-sequence-at t) read-sequence.Post read-sequence-Inv-loop read-sequence-μ-loop
+read-sequence-enum-known-fields : (t : ℕ)
+    → sequence-lts.Need-enum-known-fields (field-below t, field.Post) (sequence-at t) sequence.Post read-sequence-Inv-loop read-sequence-μ-loop
 read-sequence-enum-known-fields t c = search needs
 
-read-sequence-add-count : (t : ℕ) → read-sequence-lts.Need-add-count (
-  read-field-below t,
-  read-field.Post,
-) (read-sequence-at t) read-sequence.Post read-sequence-Inv-loop read-sequence-μ-loop
+read-sequence-add-count : (t : ℕ)
+    → sequence-lts.Need-add-count (field-below t, field.Post) (sequence-at t) sequence.Post read-sequence-Inv-loop read-sequence-μ-loop
 read-sequence-add-count t c =
     let b3 = c .before .before .before in
     let b6 = b3 .before .before .before in
@@ -317,10 +234,8 @@ read-sequence-add-count t c =
       field-facts (b8 .args .levels) (b8 .args .s .now) (b6 .loop .at) _ (b3 .read-field .ensures) _ _ (c .before .fields .given .1),
     )
 
-read-sequence-add-at : (t : ℕ) → read-sequence-lts.Need-add-at (
-  read-field-below t,
-  read-field.Post,
-) (read-sequence-at t) read-sequence.Post read-sequence-Inv-loop read-sequence-μ-loop
+read-sequence-add-at : (t : ℕ)
+    → sequence-lts.Need-add-at (field-below t, field.Post) (sequence-at t) sequence.Post read-sequence-Inv-loop read-sequence-μ-loop
 read-sequence-add-at t c =
     let b3 = c .before .before .before in
     let b6 = b3 .before .before .before in
@@ -330,10 +245,8 @@ read-sequence-add-at t c =
       field-facts (b8 .args .levels) (b8 .args .s .now) (b6 .loop .at) _ (b3 .read-field .ensures) _ _ (c .before .fields .given .1),
     )
 
-read-sequence-loop-less : (t : ℕ) → read-sequence-lts.Need-loop-less (
-  read-field-below t,
-  read-field.Post,
-) (read-sequence-at t) read-sequence.Post read-sequence-Inv-loop read-sequence-μ-loop
+read-sequence-loop-less : (t : ℕ)
+    → sequence-lts.Need-loop-less (field-below t, field.Post) (sequence-at t) sequence.Post read-sequence-Inv-loop read-sequence-μ-loop
 read-sequence-loop-less t c =
     let b3 = c .before .before .before in
     let b6 = b3 .before .before .before in
@@ -343,10 +256,8 @@ read-sequence-loop-less t c =
       field-facts (b8 .args .levels) (b8 .args .s .now) (b6 .loop .at) _ (b3 .read-field .ensures) _ _ (c .before .fields .given .1),
     )
 
-read-sequence-loop-again : (t : ℕ) → read-sequence-lts.Need-loop-again (
-  read-field-below t,
-  read-field.Post,
-) (read-sequence-at t) read-sequence.Post read-sequence-Inv-loop read-sequence-μ-loop
+read-sequence-loop-again : (t : ℕ)
+    → sequence-lts.Need-loop-again (field-below t, field.Post) (sequence-at t) sequence.Post read-sequence-Inv-loop read-sequence-μ-loop
 read-sequence-loop-again t c =
     let b3 = c .before .before .before in
     let b5 = b3 .before .before in
@@ -360,16 +271,12 @@ read-sequence-loop-again t c =
           (c .before .fields .given .1),
     )
 
-read-sequence-enum-known-fault : (t : ℕ) → read-sequence-lts.Need-enum-known-fault (
-  read-field-below t,
-  read-field.Post,
-) (read-sequence-at t) read-sequence.Post read-sequence-Inv-loop read-sequence-μ-loop
+read-sequence-enum-known-fault : (t : ℕ)
+    → sequence-lts.Need-enum-known-fault (field-below t, field.Post) (sequence-at t) sequence.Post read-sequence-Inv-loop read-sequence-μ-loop
 read-sequence-enum-known-fault t c = search needs
 
-read-sequence-returns : (t : ℕ) → read-sequence-lts.Need-returns (
-  read-field-below t,
-  read-field.Post,
-) (read-sequence-at t) read-sequence.Post read-sequence-Inv-loop read-sequence-μ-loop
+read-sequence-returns : (t : ℕ)
+    → sequence-lts.Need-returns (field-below t, field.Post) (sequence-at t) sequence.Post read-sequence-Inv-loop read-sequence-μ-loop
 read-sequence-returns t c =
     let b3 = c .before .before .before in
     let b5 = b3 .before .before in
@@ -379,24 +286,17 @@ read-sequence-returns t c =
     sequence-faulty (a .levels) (a .s .now) (l .at) _ (b3 .read-field .ensures) (l .count) (b5 .loop-test .taken) (l .inv .2) _
     (c .before .fault .given .1)
 
-read-sequence-returns-2 : (t : ℕ) → read-sequence-lts.Need-returns-2 (
-  read-field-below t,
-  read-field.Post,
-) (read-sequence-at t) read-sequence.Post read-sequence-Inv-loop read-sequence-μ-loop
+read-sequence-returns-2 : (t : ℕ)
+    → sequence-lts.Need-returns-2 (field-below t, field.Post) (sequence-at t) sequence.Post read-sequence-Inv-loop read-sequence-μ-loop
 read-sequence-returns-2 t c =
     let b3 = c .before .before .before in
     let a = b3 .args in let l = c .before .loop in
     sequence-end (a .levels) (a .s .now) (l .at) (l .count) (omega arith) (l .inv .2)
 
 pub +read-field+read-sequence-spec : {M : Type 1} → statement M
-+read-field+read-sequence-spec = close μ-read-field μ-read-sequence (λ t. read-field-lts.spec (
-  read-head-reads.Asked,
-  read-head-reads.Learnt,
-  read-sequence-below t,
-  read-sequence.Post,
-)
-    (read-field-at t)
-    read-field.Post
++read-field+read-sequence-spec = close μ-read-field μ-read-sequence (λ t. field-lts.spec (head.Asked, head.Learnt, sequence-below t, sequence.Post)
+    (field-at t)
+    field.Post
     (read-field-read-head-requires t)
     (read-field-enum-known-head-bytes t)
     (read-field-enum-told t)
@@ -416,10 +316,10 @@ pub +read-field+read-sequence-spec : {M : Type 1} → statement M
     (read-field-enum-known-fault t)
     (read-field-returns-5 t)
     (read-field-returns-6 t))
-    λ t. read-sequence-lts.spec
-    (read-field-below t, read-field.Post)
-    (read-sequence-at t)
-    read-sequence.Post
+    λ t. sequence-lts.spec
+    (field-below t, field.Post)
+    (sequence-at t)
+    sequence.Post
     read-sequence-Inv-loop
     read-sequence-μ-loop
     (read-sequence-loop-holds t)
