@@ -61,7 +61,7 @@ put-pair-requires c κs =
     let h = b7 .put-head in let k = b3 .put-field in
     let most = head-length-le 160 (b11 .field-bytes .result + b9 .field-bytes2 .result) in
     let key = short-field 128 (a .key .now) (omega (arith, p .0)) in
-    (p .1, p .2, omega (arith, p .0, p .3, h .ensures .place, h .kept .0, k .ensures .place, k .kept .0, most, key))
+    (omega (arith, p .1, p .2), omega (arith, p .1, p .2), omega (arith, p .0, p .3, h .ensures .place, h .kept .0, k .ensures .place, k .kept .0, most, key))
 
 same-length : tie.Need-same-length
 same-length c = search needs

@@ -79,14 +79,14 @@ sub-is-private c =
     let b7 = c .before .before .before .before .before .before .before in
     let b11 = b7 .before .before .before .before in
     let s = b11 .args .s .now in let h = b7 .head-bytes .given .0 .0 in
-    begins-facts 128 65 (take (length s - h) (drop h s)) (sym (c .before .begins-with .ensures) ∙ c .if3 .taken) .2
+    begins-facts 128 _ (take (length s - h) (drop h s)) (sym (c .before .begins-with .ensures) ∙ c .if3 .taken) .2
 
 part-is-private-start : tie.Need-part-is-private-start
 part-is-private-start c =
     let b7 = c .before .before .before .before .before .before .before in
     let b11 = b7 .before .before .before .before in
     let s = b11 .args .s .now in let h = b7 .head-bytes .given .0 .0 in
-    begins-facts 128 65 (take (length s - h) (drop h s)) (sym (c .before .begins-with .ensures) ∙ c .if3 .taken) .2
+    begins-facts 128 _ (take (length s - h) (drop h s)) (sym (c .before .begins-with .ensures) ∙ c .if3 .taken) .2
 
 part-is-private-end : tie.Need-part-is-private-end
 part-is-private-end c = search needs
