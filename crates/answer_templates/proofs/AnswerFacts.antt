@@ -59,14 +59,14 @@ pair-length-le r s p q = omega (arith, length-append (derInteger r) (derInteger 
 pub signature-bytes-le : (key both : ℕ) → key ≤ 65 → both ≤ 70 → fieldBytes key + fieldBytes both ≤ 139
 signature-bytes-le key both k b = omega (arith, field-bytes-short key (omega arith), field-bytes-short both (omega arith))
 
-pub signature-inner : (key r s : List ℕ) → length (field 128 key ++ field 48 (pair r s)) ≡ fieldBytes (length key) + fieldBytes
-    (length (pair r s))
+pub signature-inner : (key r s : List ℕ)
+    → length (field 128 key ++ field 48 (pair r s)) ≡ fieldBytes (length key) + fieldBytes (length (pair r s))
 signature-inner key r s =
     length-append (field 128 key) (field 48 (pair r s)) ∙ ap₂ _+_ (field-length 128 key) (field-length 48 (pair r s))
 
 -- the parts of the sequence of r and s, and those of SIGN's answer, as they are written one behind the other
-pub pair-parts : (r s : List ℕ) (n : ℕ) → n ≡ length (pair r s) → fieldHead 48 n ++ derInteger r ++ derInteger s ≡ field 48
-    (pair r s)
+pub pair-parts : (r s : List ℕ) (n : ℕ) → n ≡ length (pair r s)
+    → fieldHead 48 n ++ derInteger r ++ derInteger s ≡ field 48 (pair r s)
 pair-parts r s n e = append-assoc (fieldHead 48 n) (derInteger r) (derInteger s) ∙ ap (λ (k : ℕ). fieldHead 48 k ++ pair r s) e
 
 pub signature-parts : (key r s : List ℕ) (n : ℕ) → n ≡ fieldBytes (length key) + fieldBytes (length (pair r s))

@@ -15,12 +15,12 @@ pub walk-pre-initialised : (key : List ℕ) → walkOf (preInitialised key) ≡ 
 walk-pre-initialised key = walk-plain 128 key 4 refl
 
 -- one more field that is no template
-more : (levels tag : ℕ) (s v : List ℕ) (n : ℕ) → isTemplate tag ≡ false → sequenceOf levels s ≡ Fields n → sequenceOf levels
-    (s ++ field tag v) ≡ Fields (n + 1)
+more : (levels tag : ℕ) (s v : List ℕ) (n : ℕ) → isTemplate tag ≡ false → sequenceOf levels s ≡ Fields n
+    → sequenceOf levels (s ++ field tag v) ≡ Fields (n + 1)
 more levels tag s v n p e = sequence-sum levels s (field tag v) n 1 e (walk-plain tag v levels p)
 
-pub walk-application-info : (uid key : List ℕ) (free : ℕ) (keyUid : List ℕ) → walkOf (applicationInfo uid key free keyUid) ≡ Fields
-    5
+pub walk-application-info : (uid key : List ℕ) (free : ℕ) (keyUid : List ℕ)
+    → walkOf (applicationInfo uid key free keyUid) ≡ Fields 5
 walk-application-info uid key free keyUid =
     let uid1 = field 143 uid in
     let key2 = uid1 ++ field 128 key in

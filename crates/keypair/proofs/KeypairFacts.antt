@@ -30,8 +30,8 @@ module _ (s : List ℕ) where
   pub not-private : (chain : Bool) → beginsWith 129 32 s ≡ false → false ≡ exactly (privateFields chain) s
   not-private chain e = sym (rw e)
 
-  pub private-alone : (chain : Bool) → beginsWith 129 32 s ≡ true → chain ≡ false → eqb (length (take (length s - 34) (drop 34 s)))
-      0 ≡ exactly (privateFields chain) s
+  pub private-alone : (chain : Bool) → beginsWith 129 32 s ≡ true → chain ≡ false
+      → eqb (length (take (length s - 34) (drop 34 s))) 0 ≡ exactly (privateFields chain) s
   private-alone chain e f = rw (e, f, part-from 34 s)
 
   module _ (chain : Bool) (e : beginsWith 129 32 s ≡ true) (f : chain ≡ true) where
@@ -87,8 +87,8 @@ module _ (chain : Bool) (s : List ℕ) (r : Head) (e : r ≡ readHead s) where
         abbrev pub v : List ℕ
         v = take (length s - h) (drop h s)
 
-        pub keypair-with : (b : Bool) → beginsWith 128 65 v ≡ true → b ≡ exactly (privateFields chain)
-            (take (length v - 67) (drop 67 v)) → b ≡ keypair chain s
+        pub keypair-with : (b : Bool) → beginsWith 128 65 v ≡ true
+            → b ≡ exactly (privateFields chain) (take (length v - 67) (drop 67 v)) → b ≡ keypair chain s
         keypair-with b t u =
             u ∙ ap (exactly (privateFields chain)) (part-from 67 v) ∙ sym
             (value-is ∙ ap (keypairFields chain) (sym (part-from h s)) ∙ with-public chain v t)

@@ -55,8 +55,8 @@ exactly-length (f ∷ layout) s e =
       exactly-length layout (drop (fieldBytes (f .bytes)) s) (t .1),
     )
 
-pub exactly-walks : (layout : List Place) (levels : ℕ) (s : List ℕ) → Plain layout → exactly layout s ≡ true → sequenceOf levels s ≡
-    Fields (length layout)
+pub exactly-walks : (layout : List Place) (levels : ℕ) (s : List ℕ) → Plain layout → exactly layout s ≡ true
+    → sequenceOf levels s ≡ Fields (length layout)
 exactly-walks [] levels s p e = sequence-empty levels s (eqb-true (length s) 0 e)
 exactly-walks (f ∷ layout) levels s p e =
     let t = both (beginsWith (f .tag) (f .bytes) s) (exactly layout (drop (fieldBytes (f .bytes)) s)) e in
@@ -67,8 +67,8 @@ exactly-walks (f ∷ layout) levels s p e =
     ∙ ap Fields (one-add (length layout))
 
 -- a field that is written is taken, and what follows it is left
-pub exactly-written : (f : Place) (layout : List Place) (v rest : List ℕ) → length v ≡ f .bytes → exactly (f ∷ layout)
-    (field (f .tag) v ++ rest) ≡ exactly layout rest
+pub exactly-written : (f : Place) (layout : List Place) (v rest : List ℕ) → length v ≡ f .bytes
+    → exactly (f ∷ layout) (field (f .tag) v ++ rest) ≡ exactly layout rest
 exactly-written f layout v rest h =
     rw (← h)
     (rw (begins-written (f .tag) v rest)
@@ -76,12 +76,12 @@ exactly-written f layout v rest h =
 
 -- ---- keypair
 -- a template that is taken is A1 with a value of the layout
-pub keypair-value : (chain : Bool) (s : List ℕ) → keypair chain s ≡ true → (v : List ℕ) × (s ≡ field 161 v) ×
-    (keypairFields chain v ≡ true)
+pub keypair-value : (chain : Bool) (s : List ℕ) → keypair chain s ≡ true
+    → (v : List ℕ) × (s ≡ field 161 v) × (keypairFields chain v ≡ true)
 keypair-value chain s e = of-head (readHead s) refl e
   where
-    of-head : (r : Head) → readHead s ≡ r → keypairWith chain s r ≡ true → (v : List ℕ) × (s ≡ field 161 v) ×
-        (keypairFields chain v ≡ true)
+    of-head : (r : Head) → readHead s ≡ r → keypairWith chain s r ≡ true
+        → (v : List ℕ) × (s ≡ field 161 v) × (keypairFields chain v ≡ true)
     of-head Unreadable g t = absurd (let z : _≡_ {A = ℕ} 0 1 = cc in omega arith)
     of-head (Of h n) g t =
         let both1 = both (eqb (tagOf s) 161 && eqb (h + n) (length s)) (keypairFields chain (drop h s)) t in

@@ -26,8 +26,8 @@ not-zero : (x : ℕ) (s : List ℕ) → (x ≡ 0 → ⊥) → leadingZeros (x �
 not-zero zero s h = absurd (h refl)
 not-zero (suc x) s h = refl
 
-pub zeros-step : (s : List ℕ) (i : ℕ) → i < length s → getD s i 0 ≡ 0 → leadingZeros (drop i s) ≡ suc
-    (leadingZeros (drop (suc i) s))
+pub zeros-step : (s : List ℕ) (i : ℕ) → i < length s → getD s i 0 ≡ 0
+    → leadingZeros (drop i s) ≡ suc (leadingZeros (drop (suc i) s))
 zeros-step s i h e = rw (drop-cons s i 0 h, e)
 
 pub zeros-here : (s : List ℕ) (i : ℕ) → i < length s → (getD s i 0 ≡ 0 → ⊥) → leadingZeros (drop i s) ≡ 0

@@ -90,8 +90,8 @@ head-written (tag ∷ n ∷ s) =
     (λ _. by-test (Written (tag ∷ n ∷ s)) (eqb n 129)
     (λ e. subst (λ (k : ℕ). Written (tag ∷ k ∷ s) (readSecond s)) (sym (eqb-true n 129 e)) (second-written tag s)) (λ _. tt))
 
-pub length-read : (s : List ℕ) (h n : ℕ) → readHead s ≡ Of h n → (h ≡ length (fieldHead (tagOf s) n)) ×
-    (s ≡ fieldHead (tagOf s) n ++ drop h s)
+pub length-read : (s : List ℕ) (h n : ℕ) → readHead s ≡ Of h n
+    → (h ≡ length (fieldHead (tagOf s) n)) × (s ≡ fieldHead (tagOf s) n ++ drop h s)
 length-read s h n e = subst (λ (x : Head). Written s x) e (head-written s)
 
 -- ---- fieldBytes
@@ -139,8 +139,8 @@ module _ (s : List ℕ) (tag n : ℕ) (r : Head) (e : r ≡ readHead s) where
 
 -- ... and what a true answer says
 module _ (tag n : ℕ) (s : List ℕ) where
-  announced : (r : Head) → r ≡ readHead s → announces tag n s r ≡ true → (tagOf s ≡ tag) ×
-      (readHead s ≡ Of (length (fieldHead tag n)) n) × (fieldBytes n ≤ length s)
+  announced : (r : Head) → r ≡ readHead s → announces tag n s r ≡ true
+      → (tagOf s ≡ tag) × (readHead s ≡ Of (length (fieldHead tag n)) n) × (fieldBytes n ≤ length s)
   announced Unreadable e t = absurd (let z : _≡_ {A = ℕ} 0 1 = cc in omega arith)
   announced (Of h m) e t =
       let test : T (eqb (tagOf s) tag && eqb m n && leb (h + m) (length s)) = subst T (sym t) tt in
@@ -152,8 +152,8 @@ module _ (tag n : ℕ) (s : List ℕ) where
       let k : h ≡ length (fieldHead tag n) = length-read s h m (sym e) .0 ∙ rw q in
       (p, sym e ∙ rw (k, q), omega (arith, head-length tag n))
 
-  pub begins-facts : beginsWith tag n s ≡ true → (tagOf s ≡ tag) × (readHead s ≡ Of (length (fieldHead tag n)) n) ×
-      (fieldBytes n ≤ length s)
+  pub begins-facts : beginsWith tag n s ≡ true
+      → (tagOf s ≡ tag) × (readHead s ≡ Of (length (fieldHead tag n)) n) × (fieldBytes n ≤ length s)
   begins-facts t = announced (readHead s) refl t
 
   -- the field is there as it would be written, before what stands behind it

@@ -10,8 +10,8 @@ use Rattle.octets.proofs.Lists.{overwrite-next, length-overwrite}
 use Rattle.template.specs.Writing.{Wrote}
 
 -- what one call of put does
-pub wrote-one : {t : List ℕ} {at : ℕ} {a b : List ℕ} → at + length t ≤ length a → b ≡ overwrite a at t → Wrote t at (at + length
-    t) a b
+pub wrote-one : {t : List ℕ} {at : ℕ} {a b : List ℕ} → at + length t ≤ length a → b ≡ overwrite a at t
+    → Wrote t at (at + length t) a b
 wrote-one h e = record { place = refl; fits = h; buffer = e }
 
 module _ {t u : List ℕ} {at mid end : ℕ} {a b c : List ℕ} where

@@ -42,8 +42,8 @@ head-kept (tag ∷ n ∷ s) t =
 
 -- ---- fieldOf: a field that is read stays the same before other bytes
 module _ (inside : List ℕ → Walked) (s t : List ℕ) where
-  with-kept : (h : Head) → Within s h → Kept s h t → (c b : ℕ) → fieldWith inside s h ≡ Whole c b → fieldOf inside (s ++ t) ≡ Whole
-      c b
+  with-kept : (h : Head) → Within s h → Kept s h t → (c b : ℕ) → fieldWith inside s h ≡ Whole c b
+      → fieldOf inside (s ++ t) ≡ Whole c b
   unfolding fieldWith
   with-kept Unreadable w k c b e = absurd (let z : _≡_ {A = ℕ} 0 1 = cc in omega arith)
   with-kept (Of h n) w k c b e = ap (fieldWith inside (s ++ t)) k ∙ within (ltb (length s) (h + n)) refl e
@@ -55,8 +55,8 @@ module _ (inside : List ℕ → Walked) (s t : List ℕ) where
           (drop-append-le h s t (omega arith), take-append-le n (drop h s) t (simp length-drop (omega arith))) in
           rw (g, le-ltb (length (s ++ t)) (h + n) (rw length-append (omega arith)), List·getD-append s t 0 0 (omega arith), value)
 
-      within : (x : Bool) → ltb (length s) (h + n) ≡ x → fieldWith inside s (Of h n) ≡ Whole c b → fieldWith inside (s ++ t)
-          (Of h n) ≡ Whole c b
+      within : (x : Bool) → ltb (length s) (h + n) ≡ x → fieldWith inside s (Of h n) ≡ Whole c b
+          → fieldWith inside (s ++ t) (Of h n) ≡ Whole c b
       within true g f =
           absurd (let y : fieldWith inside s (Of h n) ≡ Faulty Malformed = rw g in let z : _≡_ {A = ℕ} 0 1 = cc in omega arith)
       within false g f = rest g ∙ f
@@ -110,8 +110,8 @@ module _ (levels : ℕ) (t : List ℕ) where
         | no p ↦ empty-joins s (omega arith)
       ]
 
-  pub sequence-join : (s : List ℕ) (a : ℕ) → sequenceOf levels s ≡ Fields a → sequenceOf levels (s ++ t) ≡ plus a
-      (sequenceOf levels t)
+  pub sequence-join : (s : List ℕ) (a : ℕ) → sequenceOf levels s ≡ Fields a
+      → sequenceOf levels (s ++ t) ≡ plus a (sequenceOf levels t)
   unfolding Joins
   sequence-join s a e = joins (length s) s (omega arith) a e
 
@@ -148,8 +148,8 @@ module _ (tag : ℕ) (v : List ℕ) where
   unfolding fieldWith
   walk-plain levels e = walked levels ∙ rw (le-ltb (length (field tag v)) (h + length v) (omega (arith, long)), e, alone levels)
 
-  last : (levels b : ℕ) (w : Walked) → sequenceOf levels (drop b (field tag v)) ≡ Fields 0 → andThen (asField b w)
-      (λ (b : ℕ). sequenceOf levels (drop b (field tag v))) ≡ w
+  last : (levels b : ℕ) (w : Walked) → sequenceOf levels (drop b (field tag v)) ≡ Fields 0
+      → andThen (asField b w) (λ (b : ℕ). sequenceOf levels (drop b (field tag v))) ≡ w
   last levels b (Fields n) e = rw e (ap Fields (add-zero n))
   last levels b (Refused f) e = refl
 

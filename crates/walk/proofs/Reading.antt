@@ -102,8 +102,7 @@ module _ (levels : ℕ) (s : List ℕ) (at : ℕ) (r : Field) (e : r ≡ fieldOf
     sequence-faulty f g =
         sym (step ∙ ap (λ (f : Field). plus count (andThen f (λ (b : ℕ). sequenceOf levels (drop b (drop at s))))) g)
 
-pub sequence-end : (levels : ℕ) (s : List ℕ) (at count : ℕ) → length s ≤ at → sequenceOf levels s ≡ plus count
-    (sequenceOf levels (drop at s))
-    → Fields count ≡ sequenceOf levels s
+pub sequence-end : (levels : ℕ) (s : List ℕ) (at count : ℕ) → length s ≤ at
+    → sequenceOf levels s ≡ plus count (sequenceOf levels (drop at s)) → Fields count ≡ sequenceOf levels s
 sequence-end levels s at count l inv =
     sym (inv ∙ ap (plus count) (sequence-empty levels (drop at s) (simp length-drop (omega arith))) ∙ ap Fields (add-zero count))

@@ -59,8 +59,8 @@ module _ (inside : List ℕ → Walked) (few : (t : List ℕ) → counted (insid
   field-inside s = with-inside s (readHead s) (head-within s)
 
   -- ---- andThen
-  then-few : (s : List ℕ) (f : Field) (rest : ℕ → Walked) → Inside s f → ((b : ℕ) → counted (rest b) ≤ length (drop b s)) → counted
-      (andThen f rest) ≤ length s
+  then-few : (s : List ℕ) (f : Field) (rest : ℕ → Walked) → Inside s f → ((b : ℕ) → counted (rest b) ≤ length (drop b s))
+      → counted (andThen f rest) ≤ length s
   then-few s (Whole c b) rest i h = plus-few (rest b) (rw length-drop at (h b))
     where
       plus-few : (w : Walked) → counted w ≤ length s - b → counted (plus c w) ≤ length s
@@ -68,8 +68,8 @@ module _ (inside : List ℕ → Walked) (few : (t : List ℕ) → counted (insid
       plus-few (Refused f) g = omega arith
   then-few s (Faulty f) rest i h = omega arith
 
-  then-same : (s : List ℕ) (f : Field) (r r′ : ℕ → Walked) → Inside s f → ((b : ℕ) → 2 ≤ b → b ≤ length s → r b ≡ r′ b) → andThen f
-      r ≡ andThen f r′
+  then-same : (s : List ℕ) (f : Field) (r r′ : ℕ → Walked) → Inside s f → ((b : ℕ) → 2 ≤ b → b ≤ length s → r b ≡ r′ b)
+      → andThen f r ≡ andThen f r′
   then-same s (Whole c b) r r′ i h = ap (plus c) (h b (i .0) (i .1))
   then-same s (Faulty f) r r′ i h = refl
 
