@@ -1,0 +1,2 @@
+pub mod KeypairFacts
+pub mod Walks

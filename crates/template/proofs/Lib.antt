@@ -1,0 +1,4 @@
+pub mod Parts
+pub mod HeadFacts
+pub mod DerFacts
+pub mod WritingFacts

@@ -1,0 +1,3 @@
+pub mod WalkFacts
+pub mod Reading
+pub mod Joining
