@@ -42,7 +42,8 @@ pub struct Outcome {
 
 // SEAL: the header CLA INS P1 P2 and at most 223 bytes of data to the whole sealed command, without Le.
 pub fn seal(s: Session, cla: u8, ins: u8, p1: u8, p2: u8, plain: &[u8], buf: &mut [u8]) -> Outcome
-    ensures { λ r. ⌜ Did (sealOut s (cla ∷ ins ∷ p1 ∷ p2 ∷ []) (now (plain .entry)) (length (now (buf .entry)))) r (now (buf .entry)) (now (buf .exit)) ⌝ }
+    ensures { λ r. ⌜ Did (sealOut s (cla ∷ ins ∷ p1 ∷ p2 ∷ []) (now (plain .entry)) (length (now (buf .entry)))) r
+        (now (buf .entry)) (now (buf .exit)) ⌝ }
 {
     if buf.len() < SEAL_ROOM_BYTES {
         return Outcome {
@@ -75,7 +76,8 @@ pub fn seal(s: Session, cla: u8, ins: u8, p1: u8, p2: u8, plain: &[u8], buf: &mu
 // Opens the field of a response that ends in 9000, and writes its plaintext, two bytes or more, from the buffer's start.
 fn unseal_field(s: Session, field: &[u8], buf: &mut [u8]) -> Outcome
     requires { ⌜ 223 ≤ length (now buf) ⌝ }
-    ensures { λ r. ⌜ Did (unsealed s (now (field .entry)) (openField s responseHead (now (field .entry)))) r (now (buf .entry)) (now (buf .exit)) ⌝ }
+    ensures { λ r. ⌜ Did (unsealed s (now (field .entry)) (openField s responseHead (now (field .entry)))) r
+        (now (buf .entry)) (now (buf .exit)) ⌝ }
 {
     let mut plain = [0u8; CIPHERTEXT_MAX_BYTES];
     let Opening::Bytes(count) = sealing::open_response(s, field, &mut plain) else {

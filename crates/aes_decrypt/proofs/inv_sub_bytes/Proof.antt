@@ -1,3 +1,5 @@
+-- `inv_sub_bytes` fills its result from the front with InvSubBytes' bytes.
+-- Assumes nothing.
 use mathlib.Core.Path.{_≡_, sym, _∙_}
 use mathlib.Core.List.{List, map}
 use Prim.Native.Nat.{ℕ, _-_}
@@ -10,9 +12,6 @@ use Rattle.field.specs.Field.{invSubByte}
 use Rattle.aes.specs.InvCipher.{invSubBytes}
 use Rattle.aes_decrypt.proofs.inv_sub_bytes.Statement.{statement}
 use Rattle.aes_decrypt.proofs.inv_sub_bytes.Tie as tie
-use Rattle.aes_decrypt.proofs.inv_sub_bytes.Reads as reads
-use Rattle.aes_decrypt.proofs.inv_sub_bytes.Lts as lts
-use Rattle.byte_ops.proofs.inv_sub_byte.Reads as inv-sub-byte-reads
 
 abbrev Inv-loop : tie.InvT-loop
 Inv-loop table s r₀ i₀ r i = Filled 16 (map invSubByte s) r i
@@ -20,37 +19,29 @@ Inv-loop table s r₀ i₀ r i = Filled 16 (map invSubByte s) r i
 abbrev μ-loop : tie.MeasureT-loop
 μ-loop table s r₀ i₀ r i = 16 - i
 
--- src/lib.rt:37:5
 loop-holds : tie.Need-loop-holds Inv-loop μ-loop
 loop-holds c = filled-none (search needs) (length-map (c .args .t2) invSubByte ∙ search needs)
 
--- src/lib.rt:38:36
 array-read-inv-sub-byte : tie.Need-array-read-inv-sub-byte Inv-loop μ-loop
 array-read-inv-sub-byte c = search needs
 
--- src/lib.rt:38:16
 inv-sub-byte-requires : tie.Need-inv-sub-byte-requires Inv-loop μ-loop
 inv-sub-byte-requires c κs = search needs
 
--- src/lib.rt:38:9
 array-write-r : tie.Need-array-write-r Inv-loop μ-loop
 array-write-r c = search needs
 
--- src/lib.rt:39:9
 add-i : tie.Need-add-i Inv-loop μ-loop
 add-i c = search needs
 
--- src/lib.rt:37:5
 loop-less : tie.Need-loop-less Inv-loop μ-loop
 loop-less c = search needs
 
--- src/lib.rt:37:5
 loop-again : tie.Need-loop-again Inv-loop μ-loop
 loop-again c = let s : List ℕ = c .before .before .before .args .t2 in
     let l : length s ≡ 16 = search needs in
     filled-one _ (c .before .before .loop .inv) (omega arith) (c .inv-sub-byte .ensures ∙ sym (getD-map invSubByte s (c .before .before .loop .i) (omega arith)))
 
--- src/lib.rt:31:1
 returns : tie.Need-returns Inv-loop μ-loop
 unfolding invSubBytes
 returns c = filled-all (c .before .loop .inv) (omega arith)

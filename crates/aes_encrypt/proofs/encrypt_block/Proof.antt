@@ -1,3 +1,5 @@
+-- Ahead of round r the state is that after the rounds 1 to r - 1; the last round completes the cipher.
+-- Assumes nothing.
 use mathlib.Core.Path.{_≡_, refl, ap, ap₂, _∙_}
 use mathlib.Core.List.{List}
 use Prim.Native.Nat.{ℕ, _-_, _≤_}
@@ -8,13 +10,6 @@ use Rattle.aes.specs.Cipher.{shiftRows, mixColumns, rounds}
 use Rattle.aes_encrypt.proofs.Turns.{turn, last-turn}
 use Rattle.aes_encrypt.proofs.encrypt_block.Statement.{statement}
 use Rattle.aes_encrypt.proofs.encrypt_block.Tie as tie
-use Rattle.aes_encrypt.proofs.encrypt_block.Reads as reads
-use Rattle.aes_encrypt.proofs.encrypt_block.Lts as lts
-use Rattle.aes_encrypt.proofs.mix_columns.Reads as mix-columns-reads
-use Rattle.aes_keys.proofs.round_key.Reads as round-key-reads
-use Rattle.aes_encrypt.proofs.shift_rows.Reads as shift-rows-reads
-use Rattle.aes_encrypt.proofs.sub_bytes.Reads as sub-bytes-reads
-use Rattle.octets.proofs.xor_blocks.Reads as xor-blocks-reads
 
 abbrev Inv-loop : tie.InvT-loop
 Inv-loop table w t₀ r₀ t r = (t ≡ rounds w (r - 1) t₀) × (1 ≤ r) × (r ≤ 14)
@@ -22,47 +17,36 @@ Inv-loop table w t₀ r₀ t r = (t ≡ rounds w (r - 1) t₀) × (1 ≤ r) × (
 abbrev μ-loop : tie.MeasureT-loop
 μ-loop table w t₀ r₀ t r = 14 - r
 
--- src/lib.rt:101:31
 round-key-requires : tie.Need-round-key-requires Inv-loop μ-loop
 round-key-requires c κs = search needs
 
--- src/lib.rt:101:9
 xor-blocks-requires : tie.Need-xor-blocks-requires Inv-loop μ-loop
 xor-blocks-requires c κs = search needs
 
--- src/lib.rt:103:5
 loop-holds : tie.Need-loop-holds Inv-loop μ-loop
 loop-holds c = (refl, omega arith, omega arith)
 
--- src/lib.rt:104:40
 sub-bytes-requires : tie.Need-sub-bytes-requires Inv-loop μ-loop
 sub-bytes-requires c κs = search needs
 
--- src/lib.rt:104:29
 shift-rows-requires : tie.Need-shift-rows-requires Inv-loop μ-loop
 shift-rows-requires c κs = search needs
 
--- src/lib.rt:104:13
 mix-columns-requires : tie.Need-mix-columns-requires Inv-loop μ-loop
 mix-columns-requires c κs = search needs
 
--- src/lib.rt:105:31
 round-key-requires-2 : tie.Need-round-key-requires-2 Inv-loop μ-loop
 round-key-requires-2 c κs = search needs
 
--- src/lib.rt:105:13
 xor-blocks-requires-2 : tie.Need-xor-blocks-requires-2 Inv-loop μ-loop
 xor-blocks-requires-2 c κs = search needs
 
--- src/lib.rt:107:9
 add-r : tie.Need-add-r Inv-loop μ-loop
 add-r c = search needs
 
--- src/lib.rt:103:5
 loop-less : tie.Need-loop-less Inv-loop μ-loop
 loop-less c = search needs
 
--- src/lib.rt:103:5
 loop-again : tie.Need-loop-again Inv-loop μ-loop
 loop-again c = let a = c .before .before .before .before .before .before in
     let w : List ℕ = c .before .before .before .before .before .before .before .before .before .before .args .w .now in (
@@ -73,23 +57,18 @@ loop-again c = let a = c .before .before .before .before .before .before in
       omega arith,
     )
 
--- src/lib.rt:109:27
 sub-bytes-requires-2 : tie.Need-sub-bytes-requires-2 Inv-loop μ-loop
 sub-bytes-requires-2 c κs = search needs
 
--- src/lib.rt:109:16
 shift-rows-requires-2 : tie.Need-shift-rows-requires-2 Inv-loop μ-loop
 shift-rows-requires-2 c κs = search needs
 
--- src/lib.rt:109:49
 round-key-requires-3 : tie.Need-round-key-requires-3 Inv-loop μ-loop
 round-key-requires-3 c κs = search needs
 
--- src/lib.rt:109:5
 xor-blocks-requires-3 : tie.Need-xor-blocks-requires-3 Inv-loop μ-loop
 xor-blocks-requires-3 c κs = search needs
 
--- src/lib.rt:96:1
 returns : tie.Need-returns Inv-loop μ-loop
 returns c = let a = c .before .before .before .before .before in
     let st = c .before .before .before .before .before .before .before .before .before in

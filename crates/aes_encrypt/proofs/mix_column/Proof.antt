@@ -1,3 +1,5 @@
+-- Each byte of a column, from the column's sum and one doubling, is the product of MixColumns' row.
+-- Assumes nothing.
 use mathlib.Core.Path.{_≡_, refl, ap, _∙_}
 use Prim.Native.Nat.{ℕ}
 use lib.Bits.{bitXor}
@@ -7,27 +9,19 @@ use Rattle.aes.proofs.Columns.{mix-row-by-sum, turn-sum}
 use borrow.Author.Needs.{needs}
 use Rattle.aes_encrypt.proofs.mix_column.Statement.{statement}
 use Rattle.aes_encrypt.proofs.mix_column.Tie as tie
-use Rattle.aes_encrypt.proofs.mix_column.Reads as reads
-use Rattle.aes_encrypt.proofs.mix_column.Lts as lts
-use Rattle.byte_ops.proofs.x_times.Reads as x-times-reads
 
--- src/lib.rt:48:20
 x-times-requires : tie.Need-x-times-requires
 x-times-requires c κs = search needs
 
--- src/lib.rt:49:20
 x-times-requires-2 : tie.Need-x-times-requires-2
 x-times-requires-2 c κs = search needs
 
--- src/lib.rt:50:20
 x-times-requires-3 : tie.Need-x-times-requires-3
 x-times-requires-3 c κs = search needs
 
--- src/lib.rt:51:20
 x-times-requires-4 : tie.Need-x-times-requires-4
 x-times-requires-4 c κs = search needs
 
--- src/lib.rt:43:1
 returns : tie.Need-returns
 returns c = let g = c .before .before .before .before .args in
     let sum : ℕ = g .a ⊕ g .b ⊕ g .c ⊕ g .d in

@@ -1,3 +1,5 @@
+-- `mix_columns` fills its result column by column with MixColumns' bytes.
+-- Assumes nothing.
 use mathlib.Core.Path.{_≡_, refl}
 use Prim.Native.Nat.{ℕ, _-_, _%_}
 use native.Mathlib.Omega.{arith}
@@ -7,9 +9,6 @@ use Rattle.aes.specs.Cipher.{columns, mixRow, mixColumns}
 use Rattle.aes.proofs.Elements.{column-filled}
 use Rattle.aes_encrypt.proofs.mix_columns.Statement.{statement}
 use Rattle.aes_encrypt.proofs.mix_columns.Tie as tie
-use Rattle.aes_encrypt.proofs.mix_columns.Reads as reads
-use Rattle.aes_encrypt.proofs.mix_columns.Lts as lts
-use Rattle.aes_encrypt.proofs.mix_column.Reads as mix-column-reads
 
 abbrev Inv-loop : tie.InvT-loop
 Inv-loop s r₀ i₀ r i = Filled 16 (columns mixRow s) r i × (i % 4 ≡ 0)
@@ -17,100 +16,76 @@ Inv-loop s r₀ i₀ r i = Filled 16 (columns mixRow s) r i × (i % 4 ≡ 0)
 abbrev μ-loop : tie.MeasureT-loop
 μ-loop s r₀ i₀ r i = 16 - i
 
--- src/lib.rt:60:5
 loop-holds : tie.Need-loop-holds Inv-loop μ-loop
 loop-holds c = (filled-none (search needs) refl, refl)
 
--- src/lib.rt:61:33
 array-read-mix-column : tie.Need-array-read-mix-column Inv-loop μ-loop
 array-read-mix-column c = search needs
 
--- src/lib.rt:61:41
 add-mix-column : tie.Need-add-mix-column Inv-loop μ-loop
 add-mix-column c = search needs
 
--- src/lib.rt:61:39
 array-read-mix-column-2 : tie.Need-array-read-mix-column-2 Inv-loop μ-loop
 array-read-mix-column-2 c = search needs
 
--- src/lib.rt:61:51
 add-mix-column-2 : tie.Need-add-mix-column-2 Inv-loop μ-loop
 add-mix-column-2 c = search needs
 
--- src/lib.rt:61:49
 array-read-mix-column-3 : tie.Need-array-read-mix-column-3 Inv-loop μ-loop
 array-read-mix-column-3 c = search needs
 
--- src/lib.rt:61:61
 add-mix-column-3 : tie.Need-add-mix-column-3 Inv-loop μ-loop
 add-mix-column-3 c = search needs
 
--- src/lib.rt:61:59
 array-read-mix-column-4 : tie.Need-array-read-mix-column-4 Inv-loop μ-loop
 array-read-mix-column-4 c = search needs
 
--- src/lib.rt:61:22
 mix-column-requires : tie.Need-mix-column-requires Inv-loop μ-loop
 mix-column-requires c κs = search needs
 
--- src/lib.rt:62:16
 array-read-r : tie.Need-array-read-r Inv-loop μ-loop
 array-read-r c = search needs
 
--- src/lib.rt:62:9
 array-write-r : tie.Need-array-write-r Inv-loop μ-loop
 array-write-r c = search needs
 
--- src/lib.rt:63:20
 array-read-r-2 : tie.Need-array-read-r-2 Inv-loop μ-loop
 array-read-r-2 c = search needs
 
--- src/lib.rt:63:11
 add-r : tie.Need-add-r Inv-loop μ-loop
 add-r c = search needs
 
--- src/lib.rt:63:9
 array-write-r-2 : tie.Need-array-write-r-2 Inv-loop μ-loop
 array-write-r-2 c = search needs
 
--- src/lib.rt:64:20
 array-read-r-3 : tie.Need-array-read-r-3 Inv-loop μ-loop
 array-read-r-3 c = search needs
 
--- src/lib.rt:64:11
 add-r-2 : tie.Need-add-r-2 Inv-loop μ-loop
 add-r-2 c = search needs
 
--- src/lib.rt:64:9
 array-write-r-3 : tie.Need-array-write-r-3 Inv-loop μ-loop
 array-write-r-3 c = search needs
 
--- src/lib.rt:65:20
 array-read-r-4 : tie.Need-array-read-r-4 Inv-loop μ-loop
 array-read-r-4 c = search needs
 
--- src/lib.rt:65:11
 add-r-3 : tie.Need-add-r-3 Inv-loop μ-loop
 add-r-3 c = search needs
 
--- src/lib.rt:65:9
 array-write-r-4 : tie.Need-array-write-r-4 Inv-loop μ-loop
 array-write-r-4 c = search needs
 
--- src/lib.rt:66:9
 add-i : tie.Need-add-i Inv-loop μ-loop
 add-i c = search needs
 
--- src/lib.rt:60:5
 loop-less : tie.Need-loop-less Inv-loop μ-loop
 loop-less c = search needs
 
--- src/lib.rt:60:5
 loop-again : tie.Need-loop-again Inv-loop μ-loop
 loop-again c = let l = c .before .before .loop in
     (column-filled mixRow (c .before .before .before .args .t1) (l .r) (c .mix-column .result) (l .i) (l .inv .0) (omega arith) (omega arith) (c .mix-column .ensures), omega arith)
 
--- src/lib.rt:55:1
 returns : tie.Need-returns Inv-loop μ-loop
 unfolding mixColumns
 returns c = filled-all (c .before .loop .inv .0) (omega arith)

@@ -1,3 +1,5 @@
+-- `sub_bytes` fills its result from the front with SubBytes' bytes.
+-- Assumes nothing.
 use mathlib.Core.Path.{_≡_, sym, _∙_}
 use mathlib.Core.List.{List, map}
 use Prim.Native.Nat.{ℕ, _-_}
@@ -10,9 +12,6 @@ use Rattle.field.specs.Field.{subByte}
 use Rattle.aes.specs.Cipher.{subBytes}
 use Rattle.aes_encrypt.proofs.sub_bytes.Statement.{statement}
 use Rattle.aes_encrypt.proofs.sub_bytes.Tie as tie
-use Rattle.aes_encrypt.proofs.sub_bytes.Reads as reads
-use Rattle.aes_encrypt.proofs.sub_bytes.Lts as lts
-use Rattle.byte_ops.proofs.sub_byte.Reads as sub-byte-reads
 
 abbrev Inv-loop : tie.InvT-loop
 Inv-loop table s r₀ i₀ r i = Filled 16 (map subByte s) r i
@@ -20,37 +19,29 @@ Inv-loop table s r₀ i₀ r i = Filled 16 (map subByte s) r i
 abbrev μ-loop : tie.MeasureT-loop
 μ-loop table s r₀ i₀ r i = 16 - i
 
--- src/lib.rt:22:5
 loop-holds : tie.Need-loop-holds Inv-loop μ-loop
 loop-holds c = filled-none (search needs) (length-map (c .args .t2) subByte ∙ search needs)
 
--- src/lib.rt:23:32
 array-read-sub-byte : tie.Need-array-read-sub-byte Inv-loop μ-loop
 array-read-sub-byte c = search needs
 
--- src/lib.rt:23:16
 sub-byte-requires : tie.Need-sub-byte-requires Inv-loop μ-loop
 sub-byte-requires c κs = search needs
 
--- src/lib.rt:23:9
 array-write-r : tie.Need-array-write-r Inv-loop μ-loop
 array-write-r c = search needs
 
--- src/lib.rt:24:9
 add-i : tie.Need-add-i Inv-loop μ-loop
 add-i c = search needs
 
--- src/lib.rt:22:5
 loop-less : tie.Need-loop-less Inv-loop μ-loop
 loop-less c = search needs
 
--- src/lib.rt:22:5
 loop-again : tie.Need-loop-again Inv-loop μ-loop
 loop-again c = let s : List ℕ = c .before .before .before .args .t2 in
     let l : length s ≡ 16 = search needs in
     filled-one _ (c .before .before .loop .inv) (omega arith) (c .sub-byte .ensures ∙ sym (getD-map subByte s (c .before .before .loop .i) (omega arith)))
 
--- src/lib.rt:16:1
 returns : tie.Need-returns Inv-loop μ-loop
 unfolding subBytes
 returns c = filled-all (c .before .loop .inv) (omega arith)

@@ -1,77 +1,57 @@
+-- The three cases of the next word, by the word's number.
+-- Assumes nothing.
 use mathlib.Core.List.{List}
 use Prim.Native.Nat.{ℕ}
 use Rattle.aes_keys.proofs.Words.{next-eighth, next-fourth, next-other}
 use borrow.Author.Needs.{needs}
 use Rattle.aes_keys.proofs.next_word.Statement.{statement}
 use Rattle.aes_keys.proofs.next_word.Tie as tie
-use Rattle.aes_keys.proofs.next_word.Reads as reads
-use Rattle.aes_keys.proofs.next_word.Lts as lts
-use Rattle.aes_keys.proofs.rot_word.Reads as rot-word-reads
-use Rattle.aes_keys.proofs.round_constant.Reads as round-constant-reads
-use Rattle.aes_keys.proofs.sub_word.Reads as sub-word-reads
-use Rattle.aes_keys.proofs.word_at.Reads as word-at-reads
-use Rattle.aes_keys.proofs.xor_words.Reads as xor-words-reads
 
--- src/lib.rt:65:26
 sub-word-at : tie.Need-sub-word-at
 sub-word-at c = search needs
 
--- src/lib.rt:65:9
 word-at-requires : tie.Need-word-at-requires
 word-at-requires c κs = search needs
 
--- src/lib.rt:66:27
 sub-word-at-2 : tie.Need-sub-word-at-2
 sub-word-at-2 c = search needs
 
--- src/lib.rt:66:9
 word-at-requires-2 : tie.Need-word-at-requires-2
 word-at-requires-2 c κs = search needs
 
--- src/lib.rt:71:39
 rot-word-requires : tie.Need-rot-word-requires
 rot-word-requires c κs = search needs
 
--- src/lib.rt:71:23
 sub-word-requires : tie.Need-sub-word-requires
 sub-word-requires c κs = search needs
 
--- src/lib.rt:71:56
 round-constant-requires : tie.Need-round-constant-requires
 round-constant-requires c κs = search needs
 
--- src/lib.rt:71:13
 xor-words-requires : tie.Need-xor-words-requires
 xor-words-requires c κs = search needs
 
--- src/lib.rt:69:9
 xor-words-requires-2 : tie.Need-xor-words-requires-2
 xor-words-requires-2 c κs = search needs
 
--- src/lib.rt:69:9
 returns : tie.Need-returns
 returns c = next-eighth (c .before .before .before .before .before .before .before .before .before .args .w .now) (c .before .before .before .before .before .before .before .word-at .result) (c .before .before .before .before .before .before .word-at2 .result) (c .before .before .before .before .before .before .before .word-at .ensures) (c .before .before .before .before .before .before .word-at2 .ensures)
     (c .before .before .before .before .rot-word .result) (c .before .before .before .sub-word .result) (c .before .before .round-constant .result) (c .before .xor-words .result) (c .xor-words2 .result)
     (c .before .before .before .before .before .if1 .taken) (c .before .before .before .before .rot-word .ensures) (c .before .before .before .sub-word .ensures) (c .before .before .round-constant .ensures) (c .before .xor-words .ensures) (c .xor-words2 .ensures)
 
--- src/lib.rt:75:31
 sub-word-requires-2 : tie.Need-sub-word-requires-2
 sub-word-requires-2 c κs = search needs
 
--- src/lib.rt:75:9
 xor-words-requires-3 : tie.Need-xor-words-requires-3
 xor-words-requires-3 c κs = search needs
 
--- src/lib.rt:75:9
 returns-2 : tie.Need-returns-2
 returns-2 c = next-fourth (c .before .before .before .before .before .before .before .args .w .now) (c .before .before .before .before .before .word-at .result) (c .before .before .before .before .word-at2 .result) (c .before .before .before .before .before .word-at .ensures) (c .before .before .before .before .word-at2 .ensures)
     (c .before .sub-word2 .result) (c .xor-words3 .result) (c .before .before .before .if1 .left) (c .before .before .if2 .taken) (c .before .sub-word2 .ensures) (c .xor-words3 .ensures)
 
--- src/lib.rt:77:5
 xor-words-requires-4 : tie.Need-xor-words-requires-4
 xor-words-requires-4 c κs = search needs
 
--- src/lib.rt:58:1
 returns-3 : tie.Need-returns-3
 returns-3 c = next-other (c .before .before .before .before .before .before .args .w .now) (c .before .before .before .before .word-at .result) (c .before .before .before .word-at2 .result) (c .before .before .before .before .word-at .ensures) (c .before .before .before .word-at2 .ensures)
     (c .xor-words4 .result) (c .before .before .if1 .left) (c .before .if2 .left) (c .xor-words4 .ensures)

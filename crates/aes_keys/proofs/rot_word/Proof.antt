@@ -1,3 +1,5 @@
+-- The word turned by a byte, written out.
+-- Assumes nothing.
 use mathlib.Core.Path.{sym, ap}
 use mathlib.Core.List.{List, _++_}
 use Prim.Native.Nat.{ℕ}
@@ -7,26 +9,19 @@ use Rattle.aes.specs.Schedule.{rotWord}
 use borrow.Author.Needs.{needs}
 use Rattle.aes_keys.proofs.rot_word.Statement.{statement}
 use Rattle.aes_keys.proofs.rot_word.Tie as tie
-use Rattle.aes_keys.proofs.rot_word.Reads as reads
-use Rattle.aes_keys.proofs.rot_word.Lts as lts
 
--- src/lib.rt:34:6
 array-read-t5 : tie.Need-array-read-t5
 array-read-t5 c = search needs
 
--- src/lib.rt:34:12
 array-read-t8 : tie.Need-array-read-t8
 array-read-t8 c = search needs
 
--- src/lib.rt:34:18
 array-read-t11 : tie.Need-array-read-t11
 array-read-t11 c = search needs
 
--- src/lib.rt:34:24
 array-read-t14 : tie.Need-array-read-t14
 array-read-t14 c = search needs
 
--- src/lib.rt:31:1
 returns : tie.Need-returns
 unfolding rotWord
 returns c = sym (ap (λ (t : List ℕ). drop 1 t ++ take 1 t) (written 4 (c .args .t1) (search needs)))

@@ -1,3 +1,5 @@
+-- A shifted 1 is the power of x that Rcon holds, computed for each round constant that AES-256 uses.
+-- Assumes nothing.
 use mathlib.Core.Path.{refl}
 use Prim.Native.Nat.{ℕ, _-_, _^_, _%_, _*_}
 use Rattle.field.specs.Field.{xTimes}
@@ -7,22 +9,16 @@ use Rattle.aes.specs.Schedule.{xPower, rcon}
 use borrow.Author.Needs.{needs}
 use Rattle.aes_keys.proofs.round_constant.Statement.{statement}
 use Rattle.aes_keys.proofs.round_constant.Tie as tie
-use Rattle.aes_keys.proofs.round_constant.Reads as reads
-use Rattle.aes_keys.proofs.round_constant.Lts as lts
 
--- src/lib.rt:54:14
 sub-t2 : tie.Need-sub-t2
 sub-t2 c = search needs
 
--- src/lib.rt:54:14
 cast-t3 : tie.Need-cast-t3
 cast-t3 c = search needs
 
--- src/lib.rt:54:6
 shl-t4 : tie.Need-shl-t4
 shl-t4 c = search needs
 
--- src/lib.rt:50:1
 returns : tie.Need-returns
 unfolding rcon xTimes
 returns c = agree-below (λ j. 1 * 2 ^ (j - 1) % 256) (λ j. xPower (j - 1)) 8 tt (c .args .j) (search needs) & refl

@@ -1,3 +1,5 @@
+-- The part of the schedule that a round uses.
+-- Assumes nothing.
 use mathlib.Core.List.{List}
 use Prim.Native.Nat.{_+_, _-_, _*_}
 use native.Mathlib.Omega.{arith}
@@ -8,35 +10,25 @@ use Rattle.aes.specs.Cipher.{roundKey}
 use borrow.Author.Needs.{needs}
 use Rattle.aes_keys.proofs.round_key.Statement.{statement}
 use Rattle.aes_keys.proofs.round_key.Tie as tie
-use Rattle.aes_keys.proofs.round_key.Reads as reads
-use Rattle.aes_keys.proofs.round_key.Lts as lts
-use Rattle.octets.proofs.block.Reads as block-reads
 
--- src/lib.rt:90:14
 mul-at : tie.Need-mul-at
 mul-at c = search needs
 
--- src/lib.rt:91:15
 add-end : tie.Need-add-end
 add-end c = search needs
 
--- src/lib.rt:92:19
 sub-block : tie.Need-sub-block
 sub-block c = search needs
 
--- src/lib.rt:92:19
 part-block-start : tie.Need-part-block-start
 part-block-start c = search needs
 
--- src/lib.rt:92:19
 part-block-end : tie.Need-part-block-end
 part-block-end c = search needs
 
--- src/lib.rt:92:5
 block-requires : tie.Need-block-requires
 block-requires c κs = search needs
 
--- src/lib.rt:86:1
 returns : tie.Need-returns
 returns c = let w : List ℕ = c .before .before .before .args .w .now in
     let r : ℕ = c .before .before .before .args .r in

@@ -1,25 +1,20 @@
+-- Three doublings give the product by 11.
+-- Assumes nothing.
 use mathlib.Core.Path.{_≡_, sym}
 use Rattle.field.proofs.Products.{eleven}
 use borrow.Author.Needs.{needs}
 use Rattle.byte_ops.proofs.times_11.Statement.{statement}
 use Rattle.byte_ops.proofs.times_11.Tie as tie
-use Rattle.byte_ops.proofs.times_11.Reads as reads
-use Rattle.byte_ops.proofs.times_11.Lts as lts
-use Rattle.byte_ops.proofs.x_times.Reads as x-times-reads
 
--- src/lib.rt:575:9
 x-times-requires : tie.Need-x-times-requires
 x-times-requires c κs = search needs
 
--- src/lib.rt:576:23
 x-times-requires-2 : tie.Need-x-times-requires-2
 x-times-requires-2 c κs = search needs
 
--- src/lib.rt:576:15
 x-times-requires-3 : tie.Need-x-times-requires-3
 x-times-requires-3 c κs = search needs
 
--- src/lib.rt:572:1
 returns : tie.Need-returns
 returns c = cc (eleven (c .before .before .before .args .b))
 

@@ -1,25 +1,20 @@
+-- Three doublings give the product by 9.
+-- Assumes nothing.
 use mathlib.Core.Path.{_≡_, sym}
 use Rattle.field.proofs.Products.{nine}
 use borrow.Author.Needs.{needs}
 use Rattle.byte_ops.proofs.times_9.Statement.{statement}
 use Rattle.byte_ops.proofs.times_9.Tie as tie
-use Rattle.byte_ops.proofs.times_9.Reads as reads
-use Rattle.byte_ops.proofs.times_9.Lts as lts
-use Rattle.byte_ops.proofs.x_times.Reads as x-times-reads
 
--- src/lib.rt:569:25
 x-times-requires : tie.Need-x-times-requires
 x-times-requires c κs = search needs
 
--- src/lib.rt:569:17
 x-times-requires-2 : tie.Need-x-times-requires-2
 x-times-requires-2 c κs = search needs
 
--- src/lib.rt:569:9
 x-times-requires-3 : tie.Need-x-times-requires-3
 x-times-requires-3 c κs = search needs
 
--- src/lib.rt:566:1
 returns : tie.Need-returns
 returns c = cc (nine (c .before .before .before .args .b))
 

@@ -1,3 +1,5 @@
+-- A shift and a product by the bit that falls out are XTIMES, by its definition.
+-- Assumes nothing.
 use mathlib.Core.Path.{_≡_, ap}
 use Prim.Native.Nat.{ℕ, _*_, _%_}
 use lib.Bits.{bitXor}
@@ -6,14 +8,10 @@ use Rattle.field.specs.Field.{xTimes}
 use borrow.Author.Needs.{needs}
 use Rattle.byte_ops.proofs.x_times.Statement.{statement}
 use Rattle.byte_ops.proofs.x_times.Tie as tie
-use Rattle.byte_ops.proofs.x_times.Reads as reads
-use Rattle.byte_ops.proofs.x_times.Lts as lts
 
--- src/lib.rt:562:17
 mul-result : tie.Need-mul-result
 mul-result c = search needs
 
--- src/lib.rt:559:1
 returns : tie.Need-returns
 unfolding xTimes
 returns c = ap (λ (y : ℕ). bitXor (c .args .b * 2 % 256) (y * 27)) (omega arith)

@@ -1,3 +1,5 @@
+-- The chain under the schedule of the key is CBC decryption with AES-256 under the key.
+-- Assumes nothing.
 use mathlib.Core.Path.{_≡_, ap, _∙_}
 use mathlib.Core.List.{List}
 use Prim.Native.Nat.{ℕ}
@@ -7,38 +9,25 @@ use Rattle.cbc.specs.Mode.{cbcDecrypt}
 use borrow.Author.Needs.{needs}
 use Rattle.cbc.proofs.cbc_decrypt.Statement.{statement}
 use Rattle.cbc.proofs.cbc_decrypt.Tie as tie
-use Rattle.cbc.proofs.cbc_decrypt.Reads as reads
-use Rattle.cbc.proofs.cbc_decrypt.Lts as lts
-use Rattle.aes_keys.proofs.key_expansion.Reads as key-expansion-reads
-use Rattle.byte_ops.proofs.inv_sbox_table.Reads as inv-sbox-table-reads
-use Rattle.byte_ops.proofs.sbox_table.Reads as sbox-table-reads
-use Rattle.cbc.proofs.decrypt_blocks.Reads as decrypt-blocks-reads
 
--- src/lib.rt:90:17
 sbox-table-requires : tie.Need-sbox-table-requires
 sbox-table-requires c κs = search needs
 
--- src/lib.rt:91:13
 key-expansion-requires : tie.Need-key-expansion-requires
 key-expansion-requires c κs = search needs
 
--- src/lib.rt:92:19
 inv-sbox-table-requires : tie.Need-inv-sbox-table-requires
 inv-sbox-table-requires c κs = search needs
 
--- src/lib.rt:93:30
 slice-aggregate-decrypt-blocks : tie.Need-slice-aggregate-decrypt-blocks
 slice-aggregate-decrypt-blocks c = search needs
 
--- src/lib.rt:93:5
 decrypt-blocks-requires : tie.Need-decrypt-blocks-requires
 decrypt-blocks-requires c κs = search needs
 
--- src/lib.rt:86:1
 same-length : tie.Need-same-length
 same-length c = search needs
 
--- src/lib.rt:86:1
 returns : tie.Need-returns
 unfolding invAes256
 returns c = let g = c .before .before .before .before .before .before .before .before .before .before .before .args in

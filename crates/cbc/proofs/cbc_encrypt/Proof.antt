@@ -1,3 +1,5 @@
+-- The chain under the schedule of the key is CBC encryption with AES-256 under the key.
+-- Assumes nothing.
 use mathlib.Core.Path.{_≡_, ap, _∙_}
 use mathlib.Core.List.{List}
 use Prim.Native.Nat.{ℕ}
@@ -7,33 +9,22 @@ use Rattle.cbc.specs.Mode.{cbcEncrypt}
 use borrow.Author.Needs.{needs}
 use Rattle.cbc.proofs.cbc_encrypt.Statement.{statement}
 use Rattle.cbc.proofs.cbc_encrypt.Tie as tie
-use Rattle.cbc.proofs.cbc_encrypt.Reads as reads
-use Rattle.cbc.proofs.cbc_encrypt.Lts as lts
-use Rattle.aes_keys.proofs.key_expansion.Reads as key-expansion-reads
-use Rattle.byte_ops.proofs.sbox_table.Reads as sbox-table-reads
-use Rattle.cbc.proofs.encrypt_blocks.Reads as encrypt-blocks-reads
 
--- src/lib.rt:50:17
 sbox-table-requires : tie.Need-sbox-table-requires
 sbox-table-requires c κs = search needs
 
--- src/lib.rt:51:13
 key-expansion-requires : tie.Need-key-expansion-requires
 key-expansion-requires c κs = search needs
 
--- src/lib.rt:52:28
 slice-aggregate-encrypt-blocks : tie.Need-slice-aggregate-encrypt-blocks
 slice-aggregate-encrypt-blocks c = search needs
 
--- src/lib.rt:52:5
 encrypt-blocks-requires : tie.Need-encrypt-blocks-requires
 encrypt-blocks-requires c κs = search needs
 
--- src/lib.rt:46:1
 same-length : tie.Need-same-length
 same-length c = search needs
 
--- src/lib.rt:46:1
 returns : tie.Need-returns
 unfolding aes256
 returns c = let g = c .before .before .before .before .before .before .before .before .before .before .args in

@@ -1,3 +1,5 @@
+-- The head's block, and the last block of the chain that starts from it, are the MAC of both joined.
+-- Assumes nothing.
 use mathlib.Core.Path.{_≡_, ap, _∙_}
 use mathlib.Core.List.{List}
 use Prim.Native.Nat.{ℕ}
@@ -8,38 +10,25 @@ use Rattle.cbc.proofs.Mac.{mac-headed}
 use borrow.Author.Needs.{needs}
 use Rattle.cbc.proofs.cbc_mac.Statement.{statement}
 use Rattle.cbc.proofs.cbc_mac.Tie as tie
-use Rattle.cbc.proofs.cbc_mac.Reads as reads
-use Rattle.cbc.proofs.cbc_mac.Lts as lts
-use Rattle.aes_encrypt.proofs.encrypt_block.Reads as encrypt-block-reads
-use Rattle.aes_keys.proofs.key_expansion.Reads as key-expansion-reads
-use Rattle.byte_ops.proofs.sbox_table.Reads as sbox-table-reads
-use Rattle.cbc.proofs.last_block.Reads as last-block-reads
 
--- src/lib.rt:120:17
 sbox-table-requires : tie.Need-sbox-table-requires
 sbox-table-requires c κs = search needs
 
--- src/lib.rt:121:13
 key-expansion-requires : tie.Need-key-expansion-requires
 key-expansion-requires c κs = search needs
 
--- src/lib.rt:122:52
 slice-aggregate-encrypt-block : tie.Need-slice-aggregate-encrypt-block
 slice-aggregate-encrypt-block c = search needs
 
--- src/lib.rt:122:9
 encrypt-block-requires : tie.Need-encrypt-block-requires
 encrypt-block-requires c κs = search needs
 
--- src/lib.rt:123:24
 slice-aggregate-last-block : tie.Need-slice-aggregate-last-block
 slice-aggregate-last-block c = search needs
 
--- src/lib.rt:123:5
 last-block-requires : tie.Need-last-block-requires
 last-block-requires c κs = search needs
 
--- src/lib.rt:116:1
 returns : tie.Need-returns
 unfolding aes256
 returns c = let g = c .before .before .before .before .before .before .before .before .before .before .args in

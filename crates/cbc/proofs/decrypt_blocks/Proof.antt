@@ -1,3 +1,5 @@
+-- After each turn the bytes done, and the chain over the rest, are the chain over the whole.
+-- Assumes nothing.
 use mathlib.Core.Path.{_≡_, refl, sym, ap, _∙_}
 use mathlib.Core.List.{List, _++_}
 use Prim.Native.Nat.{ℕ, _-_, _+_, _≤_, _<_, _%_, _/_}
@@ -11,9 +13,6 @@ use Rattle.cbc.specs.Mode.{chain, decryptBlock, itself, cbcDecrypt}
 use Rattle.cbc.proofs.Chains.{turn, turned}
 use Rattle.cbc.proofs.decrypt_blocks.Statement.{statement}
 use Rattle.cbc.proofs.decrypt_blocks.Tie as tie
-use Rattle.cbc.proofs.decrypt_blocks.Reads as reads
-use Rattle.cbc.proofs.decrypt_blocks.Lts as lts
-use Rattle.cbc.proofs.decrypt_part.Reads as decrypt-part-reads
 
 abbrev Inv-loop : tie.InvT-loop
 Inv-loop table w buf₀ prev₀ i₀ buf prev i = (take i buf ++ chain (decryptBlock (invCipher w)) itself ((length buf₀ - i) / 16) prev (drop i buf) ≡ chain (decryptBlock (invCipher w)) itself (length buf₀ / 16) prev₀ buf₀)
@@ -22,35 +21,27 @@ Inv-loop table w buf₀ prev₀ i₀ buf prev i = (take i buf ++ chain (decryptB
 abbrev μ-loop : tie.MeasureT-loop
 μ-loop table w buf₀ prev₀ i₀ buf prev i = length buf₀ - i
 
--- src/lib.rt:77:5
 loop-holds : tie.Need-loop-holds Inv-loop μ-loop
 loop-holds c = (rw sub-zero, omega arith, omega arith, refl)
 
--- src/lib.rt:78:19
 add-end : tie.Need-add-end Inv-loop μ-loop
 add-end c = search needs
 
--- src/lib.rt:79:46
 sub-decrypt-part : tie.Need-sub-decrypt-part Inv-loop μ-loop
 sub-decrypt-part c = search needs
 
--- src/lib.rt:79:46
 part-decrypt-part-start : tie.Need-part-decrypt-part-start Inv-loop μ-loop
 part-decrypt-part-start c = search needs
 
--- src/lib.rt:79:46
 part-decrypt-part-end : tie.Need-part-decrypt-part-end Inv-loop μ-loop
 part-decrypt-part-end c = search needs
 
--- src/lib.rt:79:13
 decrypt-part-requires : tie.Need-decrypt-part-requires Inv-loop μ-loop
 decrypt-part-requires c κs = (search needs, (search needs, simp (length-take, length-drop) (omega arith)))
 
--- src/lib.rt:77:5
 loop-less : tie.Need-loop-less Inv-loop μ-loop
 loop-less c = search needs
 
--- src/lib.rt:77:5
 loop-again : tie.Need-loop-again Inv-loop μ-loop
 loop-again c = let st = c .before .before .before .before .before .before .before .before in
     let l = c .before .before .before .before .before .loop in
@@ -63,11 +54,9 @@ loop-again c = let st = c .before .before .before .before .before .before .befor
       same-len-mid (l .i) (l .i + 16 - l .i) (l .buf) (p .last .1 .1 .1 .0) (p .kept .1 .1 .1 .0) ∙ l .inv .3,
     )
 
--- src/lib.rt:69:1
 same-length : tie.Need-same-length Inv-loop μ-loop
 same-length c = search needs
 
--- src/lib.rt:69:1
 returns : tie.Need-returns Inv-loop μ-loop
 unfolding cbcDecrypt
 returns c = let st = c .before .before .before .before in

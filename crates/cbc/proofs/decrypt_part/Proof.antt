@@ -1,3 +1,5 @@
+-- The block deciphered in its place is the chain's next block, and the answer is the ciphertext that stood there.
+-- Assumes nothing.
 use mathlib.Core.Path.{_≡_, sym, ap, _∙_}
 use mathlib.Core.List.{List}
 use Prim.Native.Nat.{ℕ}
@@ -7,38 +9,25 @@ use Rattle.aes.specs.InvCipher.{invCipher}
 use borrow.Author.Needs.{needs}
 use Rattle.cbc.proofs.decrypt_part.Statement.{statement}
 use Rattle.cbc.proofs.decrypt_part.Tie as tie
-use Rattle.cbc.proofs.decrypt_part.Reads as reads
-use Rattle.cbc.proofs.decrypt_part.Lts as lts
-use Rattle.aes_decrypt.proofs.decrypt_block.Reads as decrypt-block-reads
-use Rattle.octets.proofs.block.Reads as block-reads
-use Rattle.octets.proofs.put.Reads as put-reads
-use Rattle.octets.proofs.xor_blocks.Reads as xor-blocks-reads
 
--- src/lib.rt:63:9
 block-requires : tie.Need-block-requires
 block-requires c κs = search needs
 
--- src/lib.rt:64:36
 decrypt-block-requires : tie.Need-decrypt-block-requires
 decrypt-block-requires c κs = search needs
 
--- src/lib.rt:64:17
 xor-blocks-requires : tie.Need-xor-blocks-requires
 xor-blocks-requires c κs = search needs
 
--- src/lib.rt:65:26
 slice-aggregate-put : tie.Need-slice-aggregate-put
 slice-aggregate-put c = search needs
 
--- src/lib.rt:65:5
 put-requires : tie.Need-put-requires
 put-requires c κs = search needs
 
--- src/lib.rt:56:1
 same-length : tie.Need-same-length
 same-length c = search needs
 
--- src/lib.rt:56:1
 returns : tie.Need-returns
 returns c = let st = c .before .before .before .before .before .before .before .before .before .before .before in
     let part : List ℕ = st .args .part .now in

@@ -1,3 +1,5 @@
+-- The block enciphered in its place is the chain's next block.
+-- Assumes nothing.
 use mathlib.Core.Path.{_≡_, sym, ap, _∙_}
 use mathlib.Core.List.{List}
 use Prim.Native.Nat.{ℕ}
@@ -7,38 +9,25 @@ use Rattle.aes.specs.Cipher.{cipher}
 use borrow.Author.Needs.{needs}
 use Rattle.cbc.proofs.encrypt_part.Statement.{statement}
 use Rattle.cbc.proofs.encrypt_part.Tie as tie
-use Rattle.cbc.proofs.encrypt_part.Reads as reads
-use Rattle.cbc.proofs.encrypt_part.Lts as lts
-use Rattle.aes_encrypt.proofs.encrypt_block.Reads as encrypt-block-reads
-use Rattle.octets.proofs.block.Reads as block-reads
-use Rattle.octets.proofs.put.Reads as put-reads
-use Rattle.octets.proofs.xor_blocks.Reads as xor-blocks-reads
 
--- src/lib.rt:23:9
 block-requires : tie.Need-block-requires
 block-requires c κs = search needs
 
--- src/lib.rt:24:50
 xor-blocks-requires : tie.Need-xor-blocks-requires
 xor-blocks-requires c κs = search needs
 
--- src/lib.rt:24:13
 encrypt-block-requires : tie.Need-encrypt-block-requires
 encrypt-block-requires c κs = search needs
 
--- src/lib.rt:25:26
 slice-aggregate-put : tie.Need-slice-aggregate-put
 slice-aggregate-put c = search needs
 
--- src/lib.rt:25:5
 put-requires : tie.Need-put-requires
 put-requires c κs = search needs
 
--- src/lib.rt:16:1
 same-length : tie.Need-same-length
 same-length c = search needs
 
--- src/lib.rt:16:1
 returns : tie.Need-returns
 returns c = let st = c .before .before .before .before .before .before .before .before .before .before .before in
     let part : List ℕ = st .args .part .now in

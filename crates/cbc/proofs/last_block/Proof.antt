@@ -1,3 +1,5 @@
+-- After each turn the last block of the chain over the rest is that of the chain over the whole.
+-- Assumes nothing.
 use mathlib.Core.Path.{_≡_, refl, sym, ap, _∙_}
 use mathlib.Core.List.{List}
 use Prim.Native.Nat.{ℕ, _-_, _+_, _≤_, _<_, _%_, _/_}
@@ -11,11 +13,6 @@ use Rattle.cbc.specs.Mode.{chain, encryptBlock, cbcEncrypt, lastBlock}
 use Rattle.cbc.proofs.Mac.{mac-turn, mac-turned}
 use Rattle.cbc.proofs.last_block.Statement.{statement}
 use Rattle.cbc.proofs.last_block.Tie as tie
-use Rattle.cbc.proofs.last_block.Reads as reads
-use Rattle.cbc.proofs.last_block.Lts as lts
-use Rattle.aes_encrypt.proofs.encrypt_block.Reads as encrypt-block-reads
-use Rattle.octets.proofs.block.Reads as block-reads
-use Rattle.octets.proofs.xor_blocks.Reads as xor-blocks-reads
 
 abbrev Inv-loop : tie.InvT-loop
 Inv-loop table w xs end prev₀ i₀ prev i = (lastBlock prev (chain (encryptBlock (cipher w)) (encryptBlock (cipher w)) ((length xs - i) / 16) prev (drop i xs))
@@ -25,43 +22,33 @@ Inv-loop table w xs end prev₀ i₀ prev i = (lastBlock prev (chain (encryptBlo
 abbrev μ-loop : tie.MeasureT-loop
 μ-loop table w xs end prev₀ i₀ prev i = length xs - i
 
--- src/lib.rt:105:5
 loop-holds : tie.Need-loop-holds Inv-loop μ-loop
 loop-holds c = (rw sub-zero, omega arith, omega arith, search needs)
 
--- src/lib.rt:106:19
 add-next : tie.Need-add-next Inv-loop μ-loop
 add-next c = search needs
 
--- src/lib.rt:107:35
 sub-block : tie.Need-sub-block Inv-loop μ-loop
 sub-block c = search needs
 
--- src/lib.rt:107:35
 part-block-start : tie.Need-part-block-start Inv-loop μ-loop
 part-block-start c = search needs
 
--- src/lib.rt:107:35
 part-block-end : tie.Need-part-block-end Inv-loop μ-loop
 part-block-end c = search needs
 
--- src/lib.rt:107:13
 block-requires : tie.Need-block-requires Inv-loop μ-loop
 block-requires c κs = simp (length-take, length-drop) (omega arith)
 
--- src/lib.rt:108:54
 xor-blocks-requires : tie.Need-xor-blocks-requires Inv-loop μ-loop
 xor-blocks-requires c κs = search needs
 
--- src/lib.rt:108:13
 encrypt-block-requires : tie.Need-encrypt-block-requires Inv-loop μ-loop
 encrypt-block-requires c κs = search needs
 
--- src/lib.rt:105:5
 loop-less : tie.Need-loop-less Inv-loop μ-loop
 loop-less c = search needs
 
--- src/lib.rt:105:5
 loop-again : tie.Need-loop-again Inv-loop μ-loop
 loop-again c = let st = c .before .before .before .before .before .before .before .before in
     let l = c .before .before .before .before .before .loop in
@@ -75,7 +62,6 @@ loop-again c = let st = c .before .before .before .before .before .before .befor
       search needs,
     )
 
--- src/lib.rt:97:1
 returns : tie.Need-returns Inv-loop μ-loop
 unfolding cbcEncrypt
 returns c = let st = c .before .before .before .before in

@@ -1,3 +1,5 @@
+-- `put` overwrites: after turn i the first i bytes of src stand in their place and nothing else has changed.
+-- Assumes nothing.
 use mathlib.Core.Path.{_≡_, refl, sym, ap, _∙_}
 use mathlib.Core.List.{List}
 use Prim.Native.Nat.{ℕ, _+_, _-_, _≤_, _<_}
@@ -8,8 +10,6 @@ use lib.ListN.{length}
 use lib.Seq.{paste, paste-zero, paste-suc, length-paste, take-length}
 use Rattle.octets.proofs.put.Statement.{statement}
 use Rattle.octets.proofs.put.Tie as tie
-use Rattle.octets.proofs.put.Reads as reads
-use Rattle.octets.proofs.put.Lts as lts
 
 abbrev Inv-loop : tie.InvT-loop
 Inv-loop buf₀ at src i₀ buf i = (i ≤ length src) × (buf ≡ paste buf₀ at src i)
@@ -17,42 +17,33 @@ Inv-loop buf₀ at src i₀ buf i = (i ≤ length src) × (buf ≡ paste buf₀ 
 abbrev μ-loop : tie.MeasureT-loop
 μ-loop buf₀ at src i₀ buf i = length src - i
 
--- src/lib.rt:29:5
 loop-holds : tie.Need-loop-holds Inv-loop μ-loop
 loop-holds c = (omega arith, paste-zero (c .args .buf .now) (c .args .at) (c .args .src .now))
 
--- src/lib.rt:30:23
 shared-slice-read-buf : tie.Need-shared-slice-read-buf Inv-loop μ-loop
 shared-slice-read-buf c = search needs
 
--- src/lib.rt:30:13
 add-buf : tie.Need-add-buf Inv-loop μ-loop
 add-buf c = search needs
 
--- src/lib.rt:30:9
 slice-write-buf : tie.Need-slice-write-buf Inv-loop μ-loop
 slice-write-buf c = let l = c .before .before .loop in let g = c .before .before .before .args in
     rw (l .inv .1, length-paste (g .buf .now) (g .at) (g .src .now) (l .i) (omega arith) (omega arith)) (omega arith)
 
--- src/lib.rt:31:9
 add-i : tie.Need-add-i Inv-loop μ-loop
 add-i c = search needs
 
--- src/lib.rt:29:5
 loop-less : tie.Need-loop-less Inv-loop μ-loop
 loop-less c = search needs
 
--- src/lib.rt:29:5
 loop-again : tie.Need-loop-again Inv-loop μ-loop
 loop-again c = let l = c .before .before .loop in let g = c .before .before .before .args in
     (search needs, rw (l .inv .1, add-one) (paste-suc (g .buf .now) (g .at) (g .src .now) (l .i) 0 (omega arith) (omega arith)))
 
--- src/lib.rt:24:1
 same-length : tie.Need-same-length Inv-loop μ-loop
 same-length c = let l = c .before .loop in let g = c .before .before .args in
     rw (l .inv .1) (length-paste (g .buf .now) (g .at) (g .src .now) (l .i) (omega arith) (omega arith))
 
--- src/lib.rt:24:1
 returns : tie.Need-returns Inv-loop μ-loop
 returns c = let e : c .before .loop .i ≡ length (c .before .before .args .src .now) = omega arith in
     c .before .loop .inv .1 ∙ rw (e, take-length)

@@ -1,3 +1,5 @@
+-- `same` compares: after turn i the first i bytes agree, so that the rest decides.
+-- Assumes nothing.
 use mathlib.Core.Path.{_≡_, sym, ap₂, _∙_}
 use mathlib.Core.List.{List}
 use Prim.Native.Nat.{ℕ, _+_, _-_, _≤_, _<_}
@@ -10,8 +12,6 @@ use Rattle.octets.specs.Bytes.{sameBytes}
 use Rattle.octets.proofs.Lists.{same-lengths, same-step}
 use Rattle.octets.proofs.same.Statement.{statement}
 use Rattle.octets.proofs.same.Tie as tie
-use Rattle.octets.proofs.same.Reads as reads
-use Rattle.octets.proofs.same.Lts as lts
 
 abbrev Inv-loop : tie.InvT-loop
 Inv-loop a b i₀ i = (sameBytes a b ≡ sameBytes (drop i a) (drop i b)) × (i ≤ length a) × (length a ≡ length b)
@@ -19,45 +19,36 @@ Inv-loop a b i₀ i = (sameBytes a b ≡ sameBytes (drop i a) (drop i b)) × (i 
 abbrev μ-loop : tie.MeasureT-loop
 μ-loop a b i₀ i = length a - i
 
--- src/lib.rt:40:9
 returns : tie.Need-returns Inv-loop μ-loop
 returns c = sym (same-lengths (c .before .args .a .now) (c .before .args .b .now) (c .if1 .taken))
 
--- src/lib.rt:43:5
 loop-holds : tie.Need-loop-holds Inv-loop μ-loop
 loop-holds c = search needs
 
--- src/lib.rt:44:12
 shared-slice-read-if2 : tie.Need-shared-slice-read-if2 Inv-loop μ-loop
 shared-slice-read-if2 c = search needs
 
--- src/lib.rt:44:20
 shared-slice-read-if2-2 : tie.Need-shared-slice-read-if2-2 Inv-loop μ-loop
 shared-slice-read-if2-2 c = search needs
 
--- src/lib.rt:45:13
 returns-2 : tie.Need-returns-2 Inv-loop μ-loop
 returns-2 c = let a : List ℕ = c .before .before .before .before .before .before .args .a .now in
     let b : List ℕ = c .before .before .before .before .before .before .args .b .now in
     let i : ℕ = c .before .before .before .before .loop .i in
     sym (c .before .before .before .before .loop .inv .0 ∙ same-step a b i (omega arith) (omega arith) ∙ rw (ne-eqb (getD a i 0) (getD b i 0) (c .if2 .taken)))
 
--- src/lib.rt:47:9
 add-i : tie.Need-add-i Inv-loop μ-loop
 add-i c = search needs
 
--- src/lib.rt:43:5
 loop-less : tie.Need-loop-less Inv-loop μ-loop
 loop-less c = search needs
 
--- src/lib.rt:43:5
 loop-again : tie.Need-loop-again Inv-loop μ-loop
 loop-again c = let a : List ℕ = c .before .before .before .before .before .before .args .a .now in
     let b : List ℕ = c .before .before .before .before .before .before .args .b .now in
     let i : ℕ = c .before .before .before .before .loop .i in
     (c .before .before .before .before .loop .inv .0 ∙ same-step a b i (omega arith) (omega arith) ∙ rw (eq-eqb (getD a i 0) (getD b i 0) (c .if2 .left), add-one), omega arith, omega arith)
 
--- src/lib.rt:36:1
 returns-3 : tie.Need-returns-3 Inv-loop μ-loop
 returns-3 c = let a : List ℕ = c .before .before .before .args .a .now in
     let b : List ℕ = c .before .before .before .args .b .now in

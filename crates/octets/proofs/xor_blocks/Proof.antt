@@ -1,3 +1,5 @@
+-- `xor_blocks` fills its result from the front with the bytes of the exclusive-or.
+-- Assumes nothing.
 use mathlib.Core.Path.{_≡_, sym, _∙_}
 use mathlib.Core.List.{List}
 use Prim.Native.Nat.{ℕ, _-_}
@@ -9,8 +11,6 @@ use Rattle.octets.proofs.Lists.{getD-xor-bytes, length-xor-bytes}
 use Rattle.octets.proofs.Filling.{Filled, filled-none, filled-one, filled-all}
 use Rattle.octets.proofs.xor_blocks.Statement.{statement}
 use Rattle.octets.proofs.xor_blocks.Tie as tie
-use Rattle.octets.proofs.xor_blocks.Reads as reads
-use Rattle.octets.proofs.xor_blocks.Lts as lts
 
 abbrev Inv-loop : tie.InvT-loop
 Inv-loop s k r₀ i₀ r i = Filled 16 (xorBytes s k) r i
@@ -18,31 +18,24 @@ Inv-loop s k r₀ i₀ r i = Filled 16 (xorBytes s k) r i
 abbrev μ-loop : tie.MeasureT-loop
 μ-loop s k r₀ i₀ r i = 16 - i
 
--- src/lib.rt:77:5
 loop-holds : tie.Need-loop-holds Inv-loop μ-loop
 loop-holds c = filled-none (search needs) (length-xor-bytes (c .args .t1) (c .args .t2) ∙ search needs)
 
--- src/lib.rt:78:16
 array-read-r : tie.Need-array-read-r Inv-loop μ-loop
 array-read-r c = search needs
 
--- src/lib.rt:78:23
 array-read-r-2 : tie.Need-array-read-r-2 Inv-loop μ-loop
 array-read-r-2 c = search needs
 
--- src/lib.rt:78:9
 array-write-r : tie.Need-array-write-r Inv-loop μ-loop
 array-write-r c = search needs
 
--- src/lib.rt:79:9
 add-i : tie.Need-add-i Inv-loop μ-loop
 add-i c = search needs
 
--- src/lib.rt:77:5
 loop-less : tie.Need-loop-less Inv-loop μ-loop
 loop-less c = search needs
 
--- src/lib.rt:77:5
 loop-again : tie.Need-loop-again Inv-loop μ-loop
 loop-again c = let s : List ℕ = c .before .before .args .t1 in
     let k : List ℕ = c .before .before .args .t2 in
@@ -50,7 +43,6 @@ loop-again c = let s : List ℕ = c .before .before .args .t1 in
     let lk : length k ≡ 16 = search needs in
     filled-one _ (c .before .loop .inv) (omega arith) (sym (getD-xor-bytes s k (c .before .loop .i) (omega arith) (omega arith)))
 
--- src/lib.rt:72:1
 returns : tie.Need-returns Inv-loop μ-loop
 returns c = filled-all (c .before .loop .inv) (omega arith)
 

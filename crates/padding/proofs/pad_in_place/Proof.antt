@@ -1,3 +1,5 @@
+-- The mark, and after each turn one zero more, stand where padding puts them; what is behind is kept.
+-- Assumes nothing.
 use Rattle.padding.proofs.Laws.{padded-larger}
 use Rattle.padding.proofs.Writing.{Written, written-mark, written-zero, written-all, written-from, written-to}
 use mathlib.Core.Path.{_≡_, refl, _∙_, subst}
@@ -9,8 +11,6 @@ use lib.ListN.{length, set, length-set}
 use Rattle.padding.specs.Padding.{paddedBytes}
 use Rattle.padding.proofs.pad_in_place.Statement.{statement}
 use Rattle.padding.proofs.pad_in_place.Tie as tie
-use Rattle.padding.proofs.pad_in_place.Reads as reads
-use Rattle.padding.proofs.pad_in_place.Lts as lts
 
 abbrev Inv-loop : tie.InvT-loop
 Inv-loop buf₀ data-bytes end i₀ buf i = Written buf₀ data-bytes buf i × (data-bytes < i) × (i ≤ end) × (end ≡ paddedBytes data-bytes) × (end ≤ length buf₀)
@@ -18,56 +18,45 @@ Inv-loop buf₀ data-bytes end i₀ buf i = Written buf₀ data-bytes buf i × (
 abbrev μ-loop : tie.MeasureT-loop
 μ-loop buf₀ data-bytes end i₀ buf i = end - i
 
--- src/lib.rt:26:29
 sub-end : tie.Need-sub-end Inv-loop μ-loop
 sub-end c = search needs
 
--- src/lib.rt:26:15
 add-end : tie.Need-add-end Inv-loop μ-loop
 unfolding paddedBytes
 add-end c = search needs
 
--- src/lib.rt:27:5
 slice-write-buf : tie.Need-slice-write-buf Inv-loop μ-loop
 unfolding paddedBytes
 slice-write-buf c = omega arith
 
--- src/lib.rt:28:17
 add-i : tie.Need-add-i Inv-loop μ-loop
 unfolding paddedBytes
 add-i c = search needs
 
--- src/lib.rt:29:5
 loop-holds : tie.Need-loop-holds Inv-loop μ-loop
 unfolding paddedBytes
 loop-holds c = let s : List ℕ = c .args .buf .now in
     let n : ℕ = c .args .data-bytes in
     (written-from s n (c .pre) 128 (set s n 128) (n + 1) (written-mark s n (c .pre)), omega arith, omega arith, refl, omega (arith, length-set s n 128))
 
--- src/lib.rt:30:9
 slice-write-buf-2 : tie.Need-slice-write-buf-2 Inv-loop μ-loop
 slice-write-buf-2 c = omega (arith, c .before .loop .inv .0 .long)
 
--- src/lib.rt:31:9
 add-i-2 : tie.Need-add-i-2 Inv-loop μ-loop
 add-i-2 c = omega (arith, c .before .loop .inv .0 .long)
 
--- src/lib.rt:29:5
 loop-less : tie.Need-loop-less Inv-loop μ-loop
 loop-less c = search needs
 
--- src/lib.rt:29:5
 loop-again : tie.Need-loop-again Inv-loop μ-loop
 loop-again c = let l = c .before .loop in
     let s : List ℕ = c .before .before .args .buf .now in
     let n : ℕ = c .before .before .args .data-bytes in
     (written-zero (set s n 128) n (omega arith) (l .buf) (l .i) (l .inv .0) (omega arith) (omega arith), omega arith, omega arith, l .inv .3, l .inv .4)
 
--- src/lib.rt:21:1
 same-length : tie.Need-same-length Inv-loop μ-loop
 same-length c = c .before .loop .inv .0 .long ∙ length-set (c .before .before .args .buf .now) (c .before .before .args .data-bytes) 128
 
--- src/lib.rt:21:1
 returns : tie.Need-returns Inv-loop μ-loop
 returns c = let l = c .before .loop in
     let s : List ℕ = c .before .before .args .buf .now in

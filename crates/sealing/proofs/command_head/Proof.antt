@@ -1,3 +1,5 @@
+-- The head block of a command, written out.
+-- Assumes nothing.
 use mathlib.Core.Path.{refl, sym, ap}
 use mathlib.Core.List.{List, _∷_, _++_}
 use Prim.Native.Nat.{ℕ, _+_}
@@ -6,34 +8,25 @@ use Rattle.octets.proofs.Lists.{written}
 use borrow.Author.Needs.{needs}
 use Rattle.sealing.proofs.command_head.Statement.{statement}
 use Rattle.sealing.proofs.command_head.Tie as tie
-use Rattle.sealing.proofs.command_head.Reads as reads
-use Rattle.sealing.proofs.command_head.Lts as lts
 
--- src/lib.rt:26:15
 add-lc : tie.Need-add-lc
 add-lc c = search needs
 
--- src/lib.rt:26:14
 cast-lc : tie.Need-cast-lc
 cast-lc c = search needs
 
--- src/lib.rt:28:9
 array-read-t8 : tie.Need-array-read-t8
 array-read-t8 c = search needs
 
--- src/lib.rt:29:9
 array-read-t11 : tie.Need-array-read-t11
 array-read-t11 c = search needs
 
--- src/lib.rt:30:9
 array-read-t14 : tie.Need-array-read-t14
 array-read-t14 c = search needs
 
--- src/lib.rt:31:9
 array-read-t17 : tie.Need-array-read-t17
 array-read-t17 c = search needs
 
--- src/lib.rt:22:1
 returns : tie.Need-returns
 returns c = sym (ap (λ (h : List ℕ). h ++ ((16 + c .args .ciphertext-bytes) ∷ replicate 11 0)) (written 4 (c .args .t1) (search needs)))
 

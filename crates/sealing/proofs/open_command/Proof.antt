@@ -1,3 +1,5 @@
+-- A field of a right length is opened under the command's head block; any other is refused.
+-- Assumes nothing.
 use mathlib.Core.Path.{_≡_, sym, _∙_}
 use Prim.Native.Nat.{ℕ}
 use Rattle.message.specs.Message.{commandHead, fieldForm}
@@ -9,40 +11,28 @@ use lib.ListN.{length}
 use borrow.Author.Needs.{needs}
 use Rattle.sealing.proofs.open_command.Statement.{statement}
 use Rattle.sealing.proofs.open_command.Tie as tie
-use Rattle.sealing.proofs.open_command.Reads as reads
-use Rattle.sealing.proofs.open_command.Lts as lts
-use Rattle.sealing.proofs.command_head.Reads as command-head-reads
-use Rattle.sealing.proofs.open_formed.Reads as open-formed-reads
-use Rattle.sealing.proofs.well_formed.Reads as well-formed-reads
 
--- src/lib.rt:111:8
 well-formed-requires : tie.Need-well-formed-requires
 well-formed-requires c κs = search needs
 
--- src/lib.rt:112:45
 sub-command-head : tie.Need-sub-command-head
 sub-command-head c = let form = form-is (length (c .before .before .before .before .args .field .now)) (sym (c .before .well-formed .ensures) ∙ c .if1 .taken) in omega (arith, form .low)
 
--- src/lib.rt:112:24
 command-head-requires : tie.Need-command-head-requires
 command-head-requires c κs = let form = form-is (length (c .before .before .before .before .args .field .now)) (sym (c .before .well-formed .ensures) ∙ c .if1 .taken) in omega (arith, form .high)
 
--- src/lib.rt:112:9
 open-formed-requires : tie.Need-open-formed-requires
 open-formed-requires c κs = let form = form-is (length (c .before .before .before .before .before .before .args .field .now)) (sym (c .before .before .before .well-formed .ensures) ∙ c .before .before .if1 .taken) in
     ((form .low, form .high, form .whole), c .before .before .before .before .before .before .pre)
 
--- src/lib.rt:106:1
 same-length : tie.Need-same-length
 same-length c = search needs
 
--- src/lib.rt:106:1
 returns : tie.Need-returns
 returns c = let g = c .before .before .before .before .before .before .before .before .before .args in
     opens-formed (g .s) (commandHead (g .header)) (g .field .now) (c .before .before .before .before .command-head .result) (c .before .before .open-formed .result) _
     (sym (c .before .before .before .before .before .before .well-formed .ensures) ∙ c .before .before .before .before .before .if1 .taken) (c .before .before .before .before .command-head .ensures) (c .before .before .open-formed .ensures)
 
--- src/lib.rt:106:1
 returns-2 : tie.Need-returns-2
 returns-2 c = let g = c .before .before .before .before .args in
     opens-unformed (g .s) (commandHead (g .header)) (g .field .now) _ (sym (c .before .well-formed .ensures) ∙ c .if1 .left)

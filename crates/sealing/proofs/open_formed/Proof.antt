@@ -1,3 +1,5 @@
+-- The MAC that was compared, and the padding that was found, decide as the definition does.
+-- Assumes nothing.
 use Rattle.padding.specs.Padding.{unpad, answer}
 use mathlib.Core.Path.{_≡_, refl, sym, ap, _∙_}
 use mathlib.Core.List.{List, _++_}
@@ -10,121 +12,87 @@ use Rattle.sealing.proofs.Unsealed.{mac-differs, padding-wrong, padding
 use borrow.Author.Needs.{needs}
 use Rattle.sealing.proofs.open_formed.Statement.{statement}
 use Rattle.sealing.proofs.open_formed.Tie as tie
-use Rattle.sealing.proofs.open_formed.Reads as reads
-use Rattle.sealing.proofs.open_formed.Lts as lts
-use Rattle.cbc.proofs.cbc_decrypt.Reads as cbc-decrypt-reads
-use Rattle.cbc.proofs.cbc_mac.Reads as cbc-mac-reads
-use Rattle.octets.proofs.put.Reads as put-reads
-use Rattle.octets.proofs.same.Reads as same-reads
-use Rattle.padding.proofs.find_data.Reads as find-data-reads
 
--- src/lib.rt:90:44
 sub-cbc-mac : tie.Need-sub-cbc-mac
 sub-cbc-mac c = search needs
 
--- src/lib.rt:90:44
 part-cbc-mac-start : tie.Need-part-cbc-mac-start
 part-cbc-mac-start c = search needs
 
--- src/lib.rt:90:44
 part-cbc-mac-end : tie.Need-part-cbc-mac-end
 part-cbc-mac-end c = search needs
 
--- src/lib.rt:90:15
 cbc-mac-requires : tie.Need-cbc-mac-requires
 cbc-mac-requires c κs = search needs
 
--- src/lib.rt:91:22
 slice-aggregate-same : tie.Need-slice-aggregate-same
 slice-aggregate-same c = search needs
 
--- src/lib.rt:91:28
 sub-same : tie.Need-sub-same
 sub-same c = search needs
 
--- src/lib.rt:91:28
 part-same-start : tie.Need-part-same-start
 part-same-start c = search needs
 
--- src/lib.rt:91:28
 part-same-end : tie.Need-part-same-end
 part-same-end c = search needs
 
--- src/lib.rt:91:9
 same-requires : tie.Need-same-requires
 same-requires c κs = search needs
 
--- src/lib.rt:92:9
 returns : tie.Need-returns
 returns c = let g = c .before .before .before .before .before .before .before .before .before .before .args in
     mac-differs (g .s) (g .head) (g .field .now) (g .plain .now)
     (compared (g .s) (g .head) (g .field .now) (c .before .before .before .before .cbc-mac .result) (c .before .same .result) (c .before .before .before .before .cbc-mac .ensures) (c .before .same .ensures) ∙ not-true _ (c .if1 .taken))
 
--- src/lib.rt:94:13
 sub-n : tie.Need-sub-n
 sub-n c = search needs
 
--- src/lib.rt:95:27
 sub-put : tie.Need-sub-put
 sub-put c = search needs
 
--- src/lib.rt:95:27
 part-put-start : tie.Need-part-put-start
 part-put-start c = search needs
 
--- src/lib.rt:95:27
 part-put-end : tie.Need-part-put-end
 part-put-end c = search needs
 
--- src/lib.rt:95:5
 put-requires : tie.Need-put-requires
 put-requires c κs = search needs
 
--- src/lib.rt:98:36
 sub-cbc-decrypt : tie.Need-sub-cbc-decrypt
 sub-cbc-decrypt c = search needs
 
--- src/lib.rt:98:36
 part-cbc-decrypt-start : tie.Need-part-cbc-decrypt-start
 part-cbc-decrypt-start c = search needs
 
--- src/lib.rt:98:36
 part-cbc-decrypt-end : tie.Need-part-cbc-decrypt-end
 part-cbc-decrypt-end c = search needs
 
--- src/lib.rt:98:5
 cbc-decrypt-requires : tie.Need-cbc-decrypt-requires
 cbc-decrypt-requires c κs = search needs
 
--- src/lib.rt:99:30
 sub-find-data : tie.Need-sub-find-data
 sub-find-data c = search needs
 
--- src/lib.rt:99:30
 part-find-data-start : tie.Need-part-find-data-start
 part-find-data-start c = search needs
 
--- src/lib.rt:99:30
 part-find-data-end : tie.Need-part-find-data-end
 part-find-data-end c = search needs
 
--- src/lib.rt:99:11
 find-data-requires : tie.Need-find-data-requires
 find-data-requires c κs = search needs
 
--- src/lib.rt:100:25
 enum-known-data-bytes : tie.Need-enum-known-data-bytes
 enum-known-data-bytes c = search needs
 
--- src/lib.rt:101:28
 enum-told : tie.Need-enum-told
 enum-told c = search needs
 
--- src/lib.rt:84:1
 same-length : tie.Need-same-length
 same-length c = search needs
 
--- src/lib.rt:84:1
 returns-2 : tie.Need-returns-2
 returns-2 c = let g = c .before .before .before .before .before .before .before .before .before .before .before .before .before .before .before .before .before .before .before .before .before .before .before .before .before .before .before .before .args in
     let field : List ℕ = g .field .now in
@@ -140,11 +108,9 @@ returns-2 c = let g = c .before .before .before .before .before .before .before 
     (sym (c .before .data-bytes .given .1) ∙ c .before .before .before .find-data .ensures
     ∙ ap (λ (l : List ℕ). answer (unpad l)) (searched (g .s) (g .head) field (g .plain .now) y₁ y₂ (length field - 16 - 0) (omega arith) room (c .before .before .before .before .before .before .before .before .before .before .before .before .before .before .before .put .ensures) (d .ensures) _ (d .kept .1 .1 .0)))
 
--- src/lib.rt:84:1
 same-length-2 : tie.Need-same-length-2
 same-length-2 c = search needs
 
--- src/lib.rt:84:1
 returns-3 : tie.Need-returns-3
 returns-3 c = let g = c .before .before .before .before .before .before .before .before .before .before .before .before .before .before .before .before .before .before .before .before .before .before .before .before .before .before .before .args in
     let field : List ℕ = g .field .now in

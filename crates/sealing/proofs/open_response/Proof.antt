@@ -1,3 +1,5 @@
+-- A field of a right length is opened under the response's head block; any other is refused.
+-- Assumes nothing.
 use mathlib.Core.Path.{_≡_, sym, _∙_}
 use mathlib.Core.List.{List}
 use Prim.Native.Nat.{ℕ}
@@ -9,40 +11,28 @@ use Rattle.sealing.proofs.Unsealed.{opens-formed, opens-unformed}
 use borrow.Author.Needs.{needs}
 use Rattle.sealing.proofs.open_response.Statement.{statement}
 use Rattle.sealing.proofs.open_response.Tie as tie
-use Rattle.sealing.proofs.open_response.Reads as reads
-use Rattle.sealing.proofs.open_response.Lts as lts
-use Rattle.sealing.proofs.open_formed.Reads as open-formed-reads
-use Rattle.sealing.proofs.response_head.Reads as response-head-reads
-use Rattle.sealing.proofs.well_formed.Reads as well-formed-reads
 
--- src/lib.rt:124:8
 well-formed-requires : tie.Need-well-formed-requires
 well-formed-requires c κs = search needs
 
--- src/lib.rt:125:38
 sub-response-head : tie.Need-sub-response-head
 sub-response-head c = let form = form-is (length (c .before .before .before .before .args .field .now)) (sym (c .before .well-formed .ensures) ∙ c .if1 .taken) in omega (arith, form .low)
 
--- src/lib.rt:125:24
 response-head-requires : tie.Need-response-head-requires
 response-head-requires c κs = let form = form-is (length (c .before .before .before .before .args .field .now)) (sym (c .before .well-formed .ensures) ∙ c .if1 .taken) in omega (arith, form .high)
 
--- src/lib.rt:125:9
 open-formed-requires : tie.Need-open-formed-requires
 open-formed-requires c κs = let form = form-is (length (c .before .before .before .before .before .before .args .field .now)) (sym (c .before .before .before .well-formed .ensures) ∙ c .before .before .if1 .taken) in
     ((form .low, form .high, form .whole), c .before .before .before .before .before .before .pre)
 
--- src/lib.rt:119:1
 same-length : tie.Need-same-length
 same-length c = search needs
 
--- src/lib.rt:119:1
 returns : tie.Need-returns
 returns c = let g = c .before .before .before .before .before .before .before .before .before .args in
     opens-formed (g .s) responseHead (g .field .now) (c .before .before .before .before .response-head .result) (c .before .before .open-formed .result) _
     (sym (c .before .before .before .before .before .before .well-formed .ensures) ∙ c .before .before .before .before .before .if1 .taken) (c .before .before .before .before .response-head .ensures) (c .before .before .open-formed .ensures)
 
--- src/lib.rt:119:1
 returns-2 : tie.Need-returns-2
 returns-2 c = let g = c .before .before .before .before .args in
     opens-unformed (g .s) responseHead (g .field .now) _ (sym (c .before .well-formed .ensures) ∙ c .if1 .left)

@@ -1,3 +1,5 @@
+-- The part that is lent is the padded data, then the ciphertext; with the MAC in front it is the field.
+-- Assumes nothing.
 use mathlib.Core.Path.{_≡_, sym, ap, _∙_}
 use mathlib.Core.List.{List, _++_}
 use Prim.Native.Nat.{ℕ, _+_, _%_}
@@ -11,64 +13,45 @@ use Rattle.sealing.proofs.Sealed.{lent, lent-whole, enciphered, sealed}
 use borrow.Author.Needs.{needs}
 use Rattle.sealing.proofs.seal_field.Statement.{statement}
 use Rattle.sealing.proofs.seal_field.Tie as tie
-use Rattle.sealing.proofs.seal_field.Reads as reads
-use Rattle.sealing.proofs.seal_field.Lts as lts
-use Rattle.cbc.proofs.cbc_encrypt.Reads as cbc-encrypt-reads
-use Rattle.cbc.proofs.cbc_mac.Reads as cbc-mac-reads
-use Rattle.octets.proofs.put.Reads as put-reads
-use Rattle.padding.proofs.pad_in_place.Reads as pad-in-place-reads
 
--- src/lib.rt:62:40
 sub-pad-in-place : tie.Need-sub-pad-in-place
 sub-pad-in-place c = search needs
 
--- src/lib.rt:62:40
 part-pad-in-place-start : tie.Need-part-pad-in-place-start
 part-pad-in-place-start c = search needs
 
--- src/lib.rt:62:40
 part-pad-in-place-end : tie.Need-part-pad-in-place-end
 part-pad-in-place-end c = search needs
 
--- src/lib.rt:62:9
 pad-in-place-requires : tie.Need-pad-in-place-requires
 pad-in-place-requires c κs = search needs
 
--- src/lib.rt:63:15
 add-end : tie.Need-add-end
 add-end c = search needs
 
--- src/lib.rt:66:36
 sub-cbc-encrypt : tie.Need-sub-cbc-encrypt
 sub-cbc-encrypt c = search needs
 
--- src/lib.rt:66:36
 part-cbc-encrypt-start : tie.Need-part-cbc-encrypt-start
 part-cbc-encrypt-start c = search needs
 
--- src/lib.rt:66:36
 part-cbc-encrypt-end : tie.Need-part-cbc-encrypt-end
 part-cbc-encrypt-end c = search needs
 
--- src/lib.rt:66:5
 cbc-encrypt-requires : tie.Need-cbc-encrypt-requires
 cbc-encrypt-requires c κs = let g = c .before .before .before .before .before .before .before .before .before .args in
     let p = c .before .before .before .before .before .before .pad-in-place in
     ap (λ (m : ℕ). m % 16) (lent-whole (g .buf .now) (g .data-bytes) (p .result) (p .ensures .0) (c .before .before .before .before .before .before .before .before .before .pre) (p .last .0) (p .ensures .1)) ∙ padded-whole (g .data-bytes)
 
--- src/lib.rt:68:44
 sub-cbc-mac : tie.Need-sub-cbc-mac
 sub-cbc-mac c = search needs
 
--- src/lib.rt:68:44
 part-cbc-mac-start : tie.Need-part-cbc-mac-start
 part-cbc-mac-start c = search needs
 
--- src/lib.rt:68:44
 part-cbc-mac-end : tie.Need-part-cbc-mac-end
 part-cbc-mac-end c = search needs
 
--- src/lib.rt:68:15
 cbc-mac-requires : tie.Need-cbc-mac-requires
 cbc-mac-requires c κs = let g = c .before .before .before .before .before .before .before .before .before .before .before .before .before .before .before .before .args in
     let p = c .before .before .before .before .before .before .before .before .before .before .before .before .before .pad-in-place in
@@ -77,19 +60,15 @@ cbc-mac-requires c κs = let g = c .before .before .before .before .before .befo
     ∙ ap (λ (m : ℕ). m % 16) (e .kept .1 .1 .0 ∙ lent-whole (g .buf .now) (g .data-bytes) (p .result) (p .ensures .0) (c .before .before .before .before .before .before .before .before .before .before .before .before .before .before .before .before .pre) (p .last .0) (p .ensures .1))
     ∙ padded-whole (g .data-bytes)
 
--- src/lib.rt:69:25
 slice-aggregate-put : tie.Need-slice-aggregate-put
 slice-aggregate-put c = search needs
 
--- src/lib.rt:69:5
 put-requires : tie.Need-put-requires
 put-requires c κs = search needs
 
--- src/lib.rt:58:1
 same-length : tie.Need-same-length
 same-length c = search needs
 
--- src/lib.rt:58:1
 returns : tie.Need-returns
 unfolding ciphertext macOf
 returns c = let g = c .before .before .before .before .before .before .before .before .before .before .before .before .before .before .before .before .before .before .before .before .before .before .args in

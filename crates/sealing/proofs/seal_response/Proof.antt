@@ -1,3 +1,5 @@
+-- Data and status word are put behind the MAC's place, sealed there, and 9000 follows.
+-- Assumes nothing.
 use mathlib.Core.Path.{_≡_, refl, sym, ap, _∙_}
 use mathlib.Core.List.{List, [], _∷_}
 use Prim.Native.Nat.{ℕ, _+_, _≤_}
@@ -8,71 +10,49 @@ use Rattle.sealing.proofs.Responses.{response-fits, response-sealed}
 use borrow.Author.Needs.{needs}
 use Rattle.sealing.proofs.seal_response.Statement.{statement}
 use Rattle.sealing.proofs.seal_response.Tie as tie
-use Rattle.sealing.proofs.seal_response.Reads as reads
-use Rattle.sealing.proofs.seal_response.Lts as lts
-use Rattle.message.proofs.Session.after.Reads as after-reads
-use Rattle.octets.proofs.put.Reads as put-reads
-use Rattle.padding.proofs.padded_bytes.Reads as padded-bytes-reads
-use Rattle.sealing.proofs.response_head.Reads as response-head-reads
-use Rattle.sealing.proofs.seal_field.Reads as seal-field-reads
 
--- src/lib.rt:145:23
 add-plain-bytes : tie.Need-add-plain-bytes
 add-plain-bytes c = search needs
 
--- src/lib.rt:146:5
 put-requires : tie.Need-put-requires
 put-requires c κs = search needs
 
--- src/lib.rt:147:22
 add-put : tie.Need-add-put
 add-put c = search needs
 
--- src/lib.rt:147:50
 slice-aggregate-put : tie.Need-slice-aggregate-put
 slice-aggregate-put c = search needs
 
--- src/lib.rt:147:5
 put-requires-2 : tie.Need-put-requires-2
 put-requires-2 c κs = search needs
 
--- src/lib.rt:148:9
 padded-bytes-requires : tie.Need-padded-bytes-requires
 padded-bytes-requires c κs = search needs
 
--- src/lib.rt:149:29
 response-head-requires : tie.Need-response-head-requires
 response-head-requires c κs = omega (arith, c .padded-bytes .ensures, response-fits (length (c .before .before .before .before .before .before .before .before .before .before .before .before .args .response .now) + 2) (omega (arith, c .before .before .before .before .before .before .before .before .before .before .before .before .pre)))
 
--- src/lib.rt:149:9
 seal-field-requires : tie.Need-seal-field-requires
 seal-field-requires c κs = omega (arith, c .before .before .before .before .before .put2 .kept .0, c .before .before .before .before .before .before .before .before .before .before .put .kept .0, c .before .before .before .before .before .before .before .before .before .before .before .before .before .before .pre, response-fits (length (c .before .before .before .before .before .before .before .before .before .before .before .before .before .before .args .response .now) + 2) (omega (arith, c .before .before .before .before .before .before .before .before .before .before .before .before .before .before .pre)))
 
--- src/lib.rt:150:15
 add-end : tie.Need-add-end
 add-end c = omega (arith, c .before .before .before .before .before .padded-bytes .ensures, response-fits (length (c .before .before .before .before .before .before .before .before .before .before .before .before .before .before .before .before .before .args .response .now) + 2) (omega (arith, c .before .before .before .before .before .before .before .before .before .before .before .before .before .before .before .before .before .pre)))
 
--- src/lib.rt:151:27
 slice-aggregate-put-2 : tie.Need-slice-aggregate-put-2
 slice-aggregate-put-2 c = search needs
 
--- src/lib.rt:151:5
 put-requires-3 : tie.Need-put-requires-3
 put-requires-3 c κs = omega (arith, c .before .before .before .before .seal-field .kept .1 .1 .0, c .before .before .before .before .before .before .before .before .before .before .put2 .kept .0, c .before .before .before .before .before .before .before .before .before .before .before .before .before .before .before .put .kept .0, c .before .before .before .before .before .before .before .padded-bytes .ensures, c .before .before .before .before .before .before .before .before .before .before .before .before .before .before .before .before .before .before .before .pre, response-fits (length (c .before .before .before .before .before .before .before .before .before .before .before .before .before .before .before .before .before .before .before .args .response .now) + 2) (omega (arith, c .before .before .before .before .before .before .before .before .before .before .before .before .before .before .before .before .before .before .before .pre)))
 
--- src/lib.rt:153:16
 add-t12 : tie.Need-add-t12
 add-t12 c = omega (arith, c .before .before .before .before .before .before .before .before .before .before .padded-bytes .ensures, response-fits (length (c .before .before .before .before .before .before .before .before .before .before .before .before .before .before .before .before .before .before .before .before .before .before .args .response .now) + 2) (omega (arith, c .before .before .before .before .before .before .before .before .before .before .before .before .before .before .before .before .before .before .before .before .before .before .pre)))
 
--- src/lib.rt:154:18
 after-requires : tie.Need-after-requires
 after-requires c κs = search needs
 
--- src/lib.rt:141:1
 same-length : tie.Need-same-length
 same-length c = search needs
 
--- src/lib.rt:141:1
 returns : tie.Need-returns
 returns c = let g = c .before .before .before .before .before .before .before .before .before .before .before .before .before .before .before .before .before .before .before .before .before .before .before .args in
     let f = c .before .before .before .before .before .before .before .before .seal-field in

@@ -1,3 +1,5 @@
+-- Each refusal is the definition's; else the front, and the field sealed in the part behind it, are the command.
+-- Assumes nothing.
 use mathlib.Core.Path.{_≡_, refl, sym, ap, _∙_}
 use mathlib.Core.List.{List, [], _∷_}
 use Prim.Native.Nat.{ℕ, _+_, _≤_}
@@ -12,92 +14,66 @@ use Rattle.terminal.proofs.Commands.{did-seal}
 use borrow.Author.Needs.{needs}
 use Rattle.terminal.proofs.seal.Statement.{statement}
 use Rattle.terminal.proofs.seal.Tie as tie
-use Rattle.terminal.proofs.seal.Reads as reads
-use Rattle.terminal.proofs.seal.Lts as lts
-use Rattle.message.proofs.Session.after.Reads as after-reads
-use Rattle.octets.proofs.put.Reads as put-reads
-use Rattle.padding.proofs.padded_bytes.Reads as padded-bytes-reads
-use Rattle.sealing.proofs.command_head.Reads as command-head-reads
-use Rattle.sealing.proofs.seal_field.Reads as seal-field-reads
 
--- src/lib.rt:48:9
 returns : tie.Need-returns
 returns c = let g = c .before .before .before .args in
     did-refuse (sealOut (g .s) (g .cla ∷ g .ins ∷ g .p1 ∷ g .p2 ∷ []) (g .plain .now) (length (g .buf .now))) (g .s) 2 _ (g .buf .now) (seal-no-room (g .s) (g .cla ∷ g .ins ∷ g .p1 ∷ g .p2 ∷ []) (g .plain .now) (length (g .buf .now)) (c .if1 .taken)) refl refl refl
 
--- src/lib.rt:55:9
 returns-2 : tie.Need-returns-2
 returns-2 c = let g = c .before .before .before .before .args in
     did-refuse (sealOut (g .s) (g .cla ∷ g .ins ∷ g .p1 ∷ g .p2 ∷ []) (g .plain .now) (length (g .buf .now))) (g .s) 6 _ (g .buf .now) (seal-too-long (g .s) (g .cla ∷ g .ins ∷ g .p1 ∷ g .p2 ∷ []) (g .plain .now) (length (g .buf .now)) (c .before .if1 .left) (c .if2 .taken)) refl refl refl
 
--- src/lib.rt:61:22
 add-put : tie.Need-add-put
 add-put c = search needs
 
--- src/lib.rt:61:5
 put-requires : tie.Need-put-requires
 put-requires c κs = search needs
 
--- src/lib.rt:62:9
 padded-bytes-requires : tie.Need-padded-bytes-requires
 padded-bytes-requires c κs = search needs
 
--- src/lib.rt:63:9
 command-head-requires : tie.Need-command-head-requires
 command-head-requires c κs = omega (arith, c .padded-bytes .ensures, response-fits (length (c .before .before .before .before .before .before .before .before .before .args .plain .now)) (c .before .before .before .before .before .if2 .left))
 
--- src/lib.rt:64:44
 sub-seal-field : tie.Need-sub-seal-field
 sub-seal-field c = search needs
 
--- src/lib.rt:64:44
 part-seal-field-start : tie.Need-part-seal-field-start
 part-seal-field-start c = search needs
 
--- src/lib.rt:64:44
 part-seal-field-end : tie.Need-part-seal-field-end
 part-seal-field-end c = search needs
 
--- src/lib.rt:64:9
 seal-field-requires : tie.Need-seal-field-requires
 seal-field-requires c κs =
     let B : List ℕ = c .before .before .before .before .before .put .last .0 in
     omega
     (arith, ap length (tail-is 5 B) ∙ length-drop 5 B, c .before .before .before .before .before .put .kept .0, c .before .before .before .before .before .before .before .before .if1 .left, response-fits (length (c .before .before .before .before .before .before .before .before .before .before .before .args .plain .now)) (c .before .before .before .before .before .before .before .if2 .left))
 
--- src/lib.rt:65:15
 add-lc : tie.Need-add-lc
 add-lc c = omega (arith, c .before .before .before .before .before .padded-bytes .ensures, response-fits (length (c .before .before .before .before .before .before .before .before .before .before .before .before .before .before .args .plain .now)) (c .before .before .before .before .before .before .before .before .before .before .if2 .left))
 
--- src/lib.rt:65:14
 cast-lc : tie.Need-cast-lc
 cast-lc c = omega (arith, c .before .before .before .before .before .padded-bytes .ensures, response-fits (length (c .before .before .before .before .before .before .before .before .before .before .before .before .before .before .args .plain .now)) (c .before .before .before .before .before .before .before .before .before .before .if2 .left))
 
--- src/lib.rt:67:25
 slice-aggregate-put : tie.Need-slice-aggregate-put
 slice-aggregate-put c = search needs
 
--- src/lib.rt:67:5
 put-requires-2 : tie.Need-put-requires-2
 put-requires-2 c κs = search needs
 
--- src/lib.rt:70:16
 add-t13 : tie.Need-add-t13
 add-t13 c = search needs
 
--- src/lib.rt:70:16
 add-t22 : tie.Need-add-t22
 add-t22 c = omega (arith, c .before .before .before .before .before .before .before .before .before .before .padded-bytes .ensures, response-fits (length (c .before .before .before .before .before .before .before .before .before .before .before .before .before .before .before .before .before .before .before .args .plain .now)) (c .before .before .before .before .before .before .before .before .before .before .before .before .before .before .before .if2 .left))
 
--- src/lib.rt:71:18
 after-requires : tie.Need-after-requires
 after-requires c κs = search needs
 
--- src/lib.rt:44:1
 same-length : tie.Need-same-length
 same-length c = search needs
 
--- src/lib.rt:44:1
 returns-3 : tie.Need-returns-3
 returns-3 c = let g = c .before .before .before .before .before .before .before .before .before .before .before .before .before .before .before .before .before .before .before .before .args in
     let f = c .before .before .before .before .before .before .before .before .seal-field in

@@ -1,3 +1,5 @@
+-- Each refusal is the definition's; else the response's field is opened.
+-- Assumes nothing.
 use native.Mathlib.Nat.{sub-zero}
 use lib.ListN.{take}
 use Rattle.message.specs.Message.{responseHead, openField}
@@ -19,43 +21,31 @@ use Rattle.terminal.proofs.Outcomes.{did-refuse, unseal-no-room, unseal
 use borrow.Author.Needs.{needs}
 use Rattle.terminal.proofs.unseal.Statement.{statement}
 use Rattle.terminal.proofs.unseal.Tie as tie
-use Rattle.terminal.proofs.unseal.Reads as reads
-use Rattle.terminal.proofs.unseal.Lts as lts
-use Rattle.octets.proofs.same.Reads as same-reads
-use Rattle.terminal.proofs.unseal_field.Reads as unseal-field-reads
 
--- src/lib.rt:109:9
 returns : tie.Need-returns
 returns c = let g = c .before .before .before .args in
     did-refuse (unsealOut (g .s) (g .response .now) (length (g .buf .now))) (g .s) 2 _ (g .buf .now) (unseal-no-room (g .s) (g .response .now) (length (g .buf .now)) (c .if1 .taken)) refl refl refl
 
--- src/lib.rt:117:9
 returns-2 : tie.Need-returns-2
 returns-2 c = let g = c .before .before .before .before .args in
     did-refuse (unsealOut (g .s) (g .response .now) (length (g .buf .now))) (g .s) 7 _ (g .buf .now)
     (unseal-other-end (g .s) (g .response .now) (length (g .buf .now)) (c .before .if1 .left) (too-short (g .response .now) (c .if2 .taken))) refl refl refl
 
--- src/lib.rt:124:22
 sub-same : tie.Need-sub-same
 sub-same c = search needs
 
--- src/lib.rt:124:22
 part-same-start : tie.Need-part-same-start
 part-same-start c = search needs
 
--- src/lib.rt:124:22
 part-same-end : tie.Need-part-same-end
 part-same-end c = search needs
 
--- src/lib.rt:124:40
 slice-aggregate-same : tie.Need-slice-aggregate-same
 slice-aggregate-same c = search needs
 
--- src/lib.rt:124:9
 same-requires : tie.Need-same-requires
 same-requires c κs = search needs
 
--- src/lib.rt:125:9
 returns-3 : tie.Need-returns-3
 returns-3 c = let g = c .before .before .before .before .before .before .before .before .args in
     let response : List ℕ = g .response .now in
@@ -63,27 +53,21 @@ returns-3 c = let g = c .before .before .before .before .before .before .before 
     did-refuse (unsealOut (g .s) response (length (g .buf .now))) (g .s) 7 _ (g .buf .now)
     (unseal-other-end (g .s) response (length (g .buf .now)) (c .before .before .before .before .before .if1 .left) ends) refl refl refl
 
--- src/lib.rt:131:21
 sub-unseal-field : tie.Need-sub-unseal-field
 sub-unseal-field c = search needs
 
--- src/lib.rt:131:21
 part-unseal-field-start : tie.Need-part-unseal-field-start
 part-unseal-field-start c = search needs
 
--- src/lib.rt:131:21
 part-unseal-field-end : tie.Need-part-unseal-field-end
 part-unseal-field-end c = search needs
 
--- src/lib.rt:131:5
 unseal-field-requires : tie.Need-unseal-field-requires
 unseal-field-requires c κs = search needs
 
--- src/lib.rt:105:1
 same-length : tie.Need-same-length
 same-length c = search needs
 
--- src/lib.rt:105:1
 returns-4 : tie.Need-returns-4
 returns-4 c = let g = c .before .before .before .before .before .before .before .before .before .before .before .before .before .args in
     let response : List ℕ = g .response .now in

@@ -1,3 +1,5 @@
+-- Nothing opened or too little is refused; else the plaintext is written and nothing behind it.
+-- Assumes nothing.
 use mathlib.Core.Path.{_≡_, refl, sym, ap, _∙_}
 use mathlib.Core.List.{List}
 use Prim.Native.Nat.{ℕ, _+_, _-_, _≤_}
@@ -10,37 +12,25 @@ use Rattle.terminal.proofs.Openings.{closed, Holds, holds, unseal-close
 use borrow.Author.Needs.{needs}
 use Rattle.terminal.proofs.unseal_field.Statement.{statement}
 use Rattle.terminal.proofs.unseal_field.Tie as tie
-use Rattle.terminal.proofs.unseal_field.Reads as reads
-use Rattle.terminal.proofs.unseal_field.Lts as lts
-use Rattle.message.proofs.Session.after.Reads as after-reads
-use Rattle.octets.proofs.block.Reads as block-reads
-use Rattle.octets.proofs.put.Reads as put-reads
-use Rattle.sealing.proofs.open_response.Reads as open-response-reads
 
--- src/lib.rt:81:66
 slice-aggregate-open-response : tie.Need-slice-aggregate-open-response
 slice-aggregate-open-response c = search needs
 
--- src/lib.rt:81:33
 open-response-requires : tie.Need-open-response-requires
 open-response-requires c κs = search needs
 
--- src/lib.rt:81:24
 enum-known-count : tie.Need-enum-known-count
 enum-known-count c = search needs
 
--- src/lib.rt:82:9
 enum-told : tie.Need-enum-told
 enum-told c = search needs
 
--- src/lib.rt:82:9
 returns : tie.Need-returns
 returns c = let g = c .before .before .before .before .before .before .before .args in
     let o = openField (g .s) responseHead (g .field .now) in
     did-refuse (unsealed (g .s) (g .field .now) o) (g .s) 7 _ (g .buf .now)
     (unseal-closed (g .s) (g .field .now) o (closed o (sym (c .enum-told .given .1) ∙ c .before .before .before .open-response .ensures .told))) refl refl refl
 
--- src/lib.rt:89:9
 returns-2 : tie.Need-returns-2
 returns-2 c = let g = c .before .before .before .before .before .before .before .before .before .args in
     let o = openField (g .s) responseHead (g .field .now) in
@@ -48,54 +38,43 @@ returns-2 c = let g = c .before .before .before .before .before .before .before 
     did-refuse (unsealed (g .s) (g .field .now) o) (g .s) 7 _ (g .buf .now)
     (unseal-short (g .s) (g .field .now) o n (holds o n (sym (c .before .before .count .given .1) ∙ c .before .before .before .before .before .open-response .ensures .told)) (c .if1 .taken)) refl refl refl
 
--- src/lib.rt:95:25
 sub-put : tie.Need-sub-put
 sub-put c = search needs
 
--- src/lib.rt:95:25
 part-put-start : tie.Need-part-put-start
 part-put-start c = search needs
 
--- src/lib.rt:95:25
 part-put-end : tie.Need-part-put-end
 part-put-end c = let g = c .before .before .before .before .before .before .before .before .before .before .before .args in
     let p = c .before .before .before .before .before .before .before .open-response in
     omega (arith, held-short (openField (g .s) responseHead (g .field .now)) (c .before .before .before .before .count .given .0 .0) (p .result) (p .last .1 .1 .0) (p .ensures) (c .before .before .before .before .count .given .1), p .kept .1 .1 .0)
 
--- src/lib.rt:95:5
 put-requires : tie.Need-put-requires
 put-requires c κs = let g = c .before .before .before .before .before .before .before .before .before .before .before .before .args in
     let p = c .before .before .before .before .before .before .before .before .open-response in
     let n : ℕ = c .before .before .before .before .before .count .given .0 .0 in
     omega (arith, held-short (openField (g .s) responseHead (g .field .now)) n (p .result) (p .last .1 .1 .0) (p .ensures) (c .before .before .before .before .before .count .given .1), length-take (n - 0) (p .last .1 .1 .0), c .before .before .before .before .before .before .before .before .before .before .before .before .pre)
 
--- src/lib.rt:96:29
 sub-block : tie.Need-sub-block
 sub-block c = search needs
 
--- src/lib.rt:96:29
 part-block-start : tie.Need-part-block-start
 part-block-start c = search needs
 
--- src/lib.rt:96:29
 part-block-end : tie.Need-part-block-end
 part-block-end c = let g = c .before .before .before .before .before .before .before .before .before .before .before .before .before .before .before .args in
     let p = c .before .before .before .before .before .before .before .before .before .before .before .open-response in
     omega (arith, field-long (g .s) (g .field .now) (c .before .before .before .before .before .before .before .before .count .given .0 .0) (p .result) (p .last .1 .1 .0) (p .ensures) (c .before .before .before .before .before .before .before .before .count .given .1))
 
--- src/lib.rt:96:9
 block-requires : tie.Need-block-requires
 block-requires c κs = search needs
 
--- src/lib.rt:100:18
 after-requires : tie.Need-after-requires
 after-requires c κs = search needs
 
--- src/lib.rt:76:1
 same-length : tie.Need-same-length
 same-length c = search needs
 
--- src/lib.rt:76:1
 returns-3 : tie.Need-returns-3
 returns-3 c = let g = c .before .before .before .before .before .before .before .before .before .before .before .before .before .before .before .before .before .before .args in
     let o = openField (g .s) responseHead (g .field .now) in
