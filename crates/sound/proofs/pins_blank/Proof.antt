@@ -1,0 +1,36 @@
+use borrow.Author.Needs.{needs}
+use Rattle.sound.proofs.pins_blank.Statement.{statement}
+use Rattle.sound.proofs.pins_blank.Tie as tie
+use Rattle.sound.proofs.pins_blank.Reads as reads
+use Rattle.sound.proofs.pins_blank.Lts as lts
+use Rattle.sound.proofs.zero_from.Reads as zero-from-reads
+
+-- src/lib.rt:186:23
+slice-aggregate-zero-from : tie.Need-slice-aggregate-zero-from
+slice-aggregate-zero-from c = search needs
+
+-- src/lib.rt:186:9
+zero-from-requires : tie.Need-zero-from-requires
+zero-from-requires c κs = search needs
+
+-- src/lib.rt:187:23
+slice-aggregate-zero-from-2 : tie.Need-slice-aggregate-zero-from-2
+slice-aggregate-zero-from-2 c = search needs
+
+-- src/lib.rt:187:9
+zero-from-requires-2 : tie.Need-zero-from-requires-2
+zero-from-requires-2 c κs = search needs
+
+-- src/lib.rt:181:1
+returns : tie.Need-returns
+returns c = cc
+
+pub pins-blank-spec : {M : Type 1} → statement M
+pins-blank-spec =
+    tie.close
+    (tie.spec
+    slice-aggregate-zero-from
+    zero-from-requires
+    slice-aggregate-zero-from-2
+    zero-from-requires-2
+    returns)
