@@ -86,6 +86,31 @@ keys-rules k e =
       unused = l .1;
     }
 
+-- ---- keysBlank
+pub record KeysBlank (k : Keys) : Type 0 where
+  pub kind : k .kind ≡ 0
+  pub uid : allZero (k .uid) ≡ true
+  pub current : k .current .len ≡ 0
+  pub currentbytes : allZero (k .current .bytes) ≡ true
+  pub pinless : k .pinless .len ≡ 0
+  pub pinlessbytes : allZero (k .pinless .bytes) ≡ true
+
+pub keys-blank : (k : Keys) → keysBlank k ≡ true → KeysBlank k
+keys-blank k e =
+    let l = both _ _ e in
+    let t = both _ _ (l .0) in
+    let d = both _ _ (t .0) in
+    let c = both _ _ (t .1) in
+    let p = both _ _ (l .1) in
+    record {
+      kind = eqb-true (k .kind) 0 (d .0);
+      uid = d .1;
+      current = eqb-true (k .current .len) 0 (c .0);
+      currentbytes = c .1;
+      pinless = eqb-true (k .pinless .len) 0 (p .0);
+      pinlessbytes = p .1;
+    }
+
 -- ---- partsSound
 pub record PartsRules (c : Card) : Type 0 where
   pub pins : pinsSound (c .pins) ≡ true

@@ -4,7 +4,8 @@ use mathlib.Core.Path.{_≡_, refl}
 use mathlib.Core.Bool.{Bool, true, false, _&&_, _||_}
 use mathlib.Core.Logic.{⊎-elim}
 use mathlib.Core.List.{List, [], _∷_}
-use Prim.Native.Nat.{ℕ}
+use Prim.Native.Nat.{ℕ, _≤_}
+use borrow.Author.Tests.{leb-true}
 use native.Mathlib.Omega.{arith}
 use Rattle.card.specs.declared.Card.{Card}
 use Rattle.card.specs.declared.Pins.{Pins}
@@ -13,7 +14,7 @@ use Rattle.card.specs.State.{freshOf, resetOf, unverified, notPending, w
 use Rattle.card.specs.Slots.{allOf, someOf, isZero, allZero, slotWithin}
 use Rattle.card.specs.Sound.{isSound, isDigit, partsBlank, partsSound, pinsSound, pairingSound, pinsBlank, pairingBlank}
 use Rattle.card.proofs.Tests.{both}
-use Rattle.card.proofs.Rules.{PinsRules, PairingRules, PartsRules, BlankRules, Before, After, pins-rules, pairing-rules, parts-rules, blank-rules, pins-sound, parts-sound, parts-blank, sound-cases, sound-before, sound-after}
+use Rattle.card.proofs.Rules.{PinsRules, PairingRules, PartsRules, BlankRules, Before, After, pins-rules, pairing-rules, parts-rules, blank-rules, keys-rules, keys-blank, pins-sound, parts-sound, parts-blank, sound-cases, sound-before, sound-after}
 
 -- ---- freshOf
 pub fresh-sound : (uid key : List ℕ) → isSound (freshOf uid key) ≡ true
@@ -104,3 +105,14 @@ secrets-sound c pin puk d g e i = ⊎-elim
   where
     one-not-zero : {n : ℕ} → n ≡ 1 → n ≡ 0 → ⊥
     one-not-zero p q = omega arith
+
+-- ---- paths: at most 40 bytes each
+pub path-lengths : (c : Card) → isSound c ≡ true → (c .keys .current .len ≤ 40) × (c .keys .pinless .len ≤ 40)
+path-lengths c e = ⊎-elim
+    (λ b.
+    let k = keys-blank (c .keys) (blank-rules c (b .blank) .keys) in
+    (omega (arith, k .current), omega (arith, k .pinless)))
+    (λ a.
+    let k = keys-rules (c .keys) (parts-rules c (a .parts) .keys) in
+    (leb-true _ _ (k .current .most), leb-true _ _ (k .pinless .most)))
+    (sound-cases c e)

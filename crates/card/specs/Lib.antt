@@ -1,3 +1,4 @@
 pub mod State
 pub mod Slots
 pub mod Sound
+pub mod Shape
