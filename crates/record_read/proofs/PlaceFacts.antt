@@ -53,8 +53,9 @@ module _ (s : List ℕ) (at : ℕ) where
   rest-at n e = ap₂ (λ (k : ℕ) (l : List ℕ). drop k l) (sym e) (drop-drop 3 at s)
 
   -- no whole head is left
-  pub spans-none : length s < at + 3 → Spans s at (record { start = length s; «end» = length s })
-  spans-none h = record {
+  pub spans-none : at ≤ length s → length s < at + 3 → Spans s at (record { start = length s; «end» = length s })
+  spans-none fits h = record {
+    follows = fits;
     ordered = omega arith;
     within = omega arith;
     inside =
@@ -73,6 +74,7 @@ module _ (s : List ℕ) (at : ℕ) where
   pub spans-cut : (n : ℕ) → n ≡ headLength (drop at s) → at + 3 ≤ length s → length s - (at + 3) < n
       → Spans s at (record { start = at + 3; «end» = length s })
   spans-cut n e h short = record {
+    follows = omega arith;
     ordered = h;
     within = omega arith;
     inside =
@@ -88,6 +90,7 @@ module _ (s : List ℕ) (at : ℕ) where
   pub spans-whole : (n : ℕ) → n ≡ headLength (drop at s) → at + 3 + n ≤ length s
       → Spans s at (record { start = at + 3; «end» = at + 3 + n })
   spans-whole n e h = record {
+    follows = omega arith;
     ordered = omega arith;
     within = h;
     inside = ap (λ (k : ℕ). take k (drop (at + 3) s)) long ∙ sym (body-at n e);

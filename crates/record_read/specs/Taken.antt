@@ -10,6 +10,7 @@ use Rattle.record_read.specs.declared.SecretsRead.{SecretsRead}
 
 -- the span is the content of the field at the place `at`
 pub record Spans (s : List ℕ) (at : ℕ) (r : Span) : Type 0 where
+  pub follows : at ≤ r .start
   pub ordered : r .start ≤ r .«end»
   pub within : r .«end» ≤ length s
   pub inside : take (r .«end» - r .start) (drop (r .start) s) ≡ body (drop at s)

@@ -51,7 +51,7 @@ pub struct SecretsRead {
 }
 
 // The content of the field at a place, as far as the slice goes.
-fn content_span(s: &[u8], at: usize) -> Span
+pub fn content_span(s: &[u8], at: usize) -> Span
     requires { ⌜ at ≤ length (now s) ⌝ }
     ensures { λ r. ⌜ Spans (now (s .entry)) at r ⌝ }
 {

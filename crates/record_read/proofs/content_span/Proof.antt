@@ -16,7 +16,7 @@ sub-if1 c = search needs
 
 -- src/lib.rt:59:9
 returns : tie.Need-returns
-returns c = spans-none (c .before .before .args .s .now) (c .before .before .args .at) (omega arith)
+returns c = spans-none (c .before .before .args .s .now) (c .before .before .args .at) (omega arith) (omega arith)
 
 -- src/lib.rt:64:17
 add-start : tie.Need-add-start
