@@ -1,9 +1,9 @@
 -- Facts about sound cards: FRESH is sound, RESET keeps soundness and does no more the second time, and PIN and PUK may be
 -- any digits. Assumes nothing.
 use mathlib.Core.Path.{_≡_, refl}
-use mathlib.Core.Bool.{Bool, true, false, _&&_, _||_}
+use mathlib.Core.Bool.{true, _&&_}
 use mathlib.Core.Logic.{⊎-elim}
-use mathlib.Core.List.{List, [], _∷_}
+use mathlib.Core.List.{List}
 use Prim.Native.Nat.{ℕ, _≤_}
 use borrow.Author.Tests.{leb-true}
 use native.Mathlib.Omega.{arith}
@@ -11,10 +11,10 @@ use Rattle.card.specs.declared.Card.{Card}
 use Rattle.card.specs.declared.Pins.{Pins}
 use Rattle.card.specs.declared.Pairing.{Pairing}
 use Rattle.card.specs.State.{freshOf, resetOf, unverified, notPending, withSecrets}
-use Rattle.card.specs.Slots.{allOf, someOf, isZero, allZero, slotWithin}
+use Rattle.card.specs.Slots.{allOf, isZero, allZero, slotWithin}
 use Rattle.card.specs.Sound.{isSound, isDigit, partsBlank, partsSound, pinsSound, pairingSound, pinsBlank, pairingBlank}
 use Rattle.card.proofs.Tests.{both}
-use Rattle.card.proofs.Rules.{PinsRules, PairingRules, PartsRules, BlankRules, Before, After, pins-rules, pairing-rules, parts-rules, blank-rules, keys-rules, keys-blank, pins-sound, parts-sound, parts-blank, sound-cases, sound-before, sound-after}
+use Rattle.card.proofs.Rules.{pins-rules, pairing-rules, parts-rules, blank-rules, keys-rules, keys-blank, pins-sound, parts-sound, parts-blank, sound-cases, sound-before, sound-after}
 
 -- ---- freshOf
 pub fresh-sound : (uid key : List ℕ) → isSound (freshOf uid key) ≡ true

@@ -1,6 +1,5 @@
 -- What the types say of a card: the number of slots, and the length of each array in bytes. Every card that code holds has
 -- this shape; a theorem about all cards takes it as a hypothesis.
-use Prim.Native.Nat.{ℕ}
 use mathlib.Core.Path.{_≡_}
 use mathlib.Core.List.{List, [], _∷_}
 use lib.ListN.{length}

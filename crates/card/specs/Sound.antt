@@ -1,8 +1,7 @@
 -- Which cards are sound: 01, Operations, the paragraph "Sound". Each line of a definition below is one rule of that
 -- paragraph, read off one part of the card; `isSound` at the end puts the parts together.
 use Prim.Native.Nat.{ℕ, _%_}
-use mathlib.Core.List.{List}
-use mathlib.Core.Bool.{Bool, true, false, _&&_, _||_, not, cond}
+use mathlib.Core.Bool.{Bool, _&&_, _||_, not, cond}
 use lib.ListN.{drop}
 use lib.Dec.{leb, eqb}
 use Rattle.card.specs.declared.Pins.{Pins}

@@ -28,6 +28,13 @@ pub const REFUSAL_ROOM: u8 = 2;
 
 pub const REFUSAL_NOT_RECORD: u8 = 8;
 
+// A byte as a number of the machine's width.
+pub fn wide(b: u8) -> usize
+    ensures { λ r. ⌜ r ≡ b ⌝ }
+{
+    b as usize
+}
+
 // Which card it is: the UID and the card's public key.
 #[repr(C)]
 pub struct Identity {

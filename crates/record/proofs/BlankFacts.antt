@@ -1,8 +1,8 @@
 -- A card of the types' shape whose parts are blank is the fresh card, part by part. Assumes nothing.
-use mathlib.Core.Path.{_≡_, refl, sym, ap, ap₂, _∙_}
-use mathlib.Core.Bool.{Bool, true, false, _&&_, not, _||_}
+use mathlib.Core.Path.{_≡_, refl, ap, ap₂, _∙_}
+use mathlib.Core.Bool.{true, not, _||_}
 use mathlib.Core.List.{List, [], _∷_}
-use Prim.Native.Nat.{ℕ, _≤_}
+use Prim.Native.Nat.{ℕ}
 use native.Mathlib.Omega.{arith}
 use lib.Dec.{leb}
 use lib.ListN.{length, replicate}
@@ -14,10 +14,10 @@ use Rattle.card.specs.declared.Pins.{Pins}
 use Rattle.card.specs.declared.Pairing.{Pairing}
 use Rattle.card.specs.State.{zeros, freeSlot, slotCount, unverified, notPending, noPins, noPairing, noKeys, emptyPath}
 use Rattle.card.specs.Shape.{KeysLong}
-use Rattle.card.specs.Slots.{allOf, isZero, allZero, isFree, slotWithin}
+use Rattle.card.specs.Slots.{allOf, allZero, isFree, slotWithin}
 use Rattle.card.specs.Sound.{pinsBlank, pairingBlank, keysBlank}
 use Rattle.card.proofs.Tests.{both, implied, zero-list}
-use Rattle.card.proofs.Rules.{KeysBlank, keys-blank}
+use Rattle.card.proofs.Rules.{keys-blank}
 
 zero-bytes : (s : List ℕ) (n : ℕ) → length s ≡ n → allZero s ≡ true → s ≡ zeros n
 zero-bytes s n l e = zero-list s e ∙ ap zeros l

@@ -3,14 +3,13 @@
 use mathlib.Core.Path.{_≡_, refl, sym, ap, ap₂, _∙_}
 use mathlib.Core.Bool.{Bool, true, false, cond, not, _||_}
 use mathlib.Core.List.{List, [], _∷_, _++_}
-use Prim.Native.Nat.{ℕ, zero, suc, _+_, _*_, _-_, _/_, _%_, _≤_, _<_, min}
+use Prim.Native.Nat.{ℕ, zero, suc, _+_, _*_, _-_, _≤_, min}
 use native.Mathlib.Nat.{min-eq-left}
 use native.Mathlib.Numerals.{add-one}
 use native.Mathlib.Omega.{arith}
-use lib.ListN.{length, take, drop, getD, replicate, length-append, length-drop, take-append-drop}
-use lib.Seq.{take-at, drop-at, take-nil, drop-nil, drop-drop, length-take-le, take-append-seam}
-use borrow.Author.Tests.{leb-true, eq-eqb, ne-eqb}
-use Rattle.octets.specs.Bytes.{tabulate}
+use lib.ListN.{length, take, drop, length-append, length-drop, take-append-drop}
+use lib.Seq.{drop-at, drop-drop, length-take-le, take-append-seam}
+use borrow.Author.Tests.{leb-true}
 use Rattle.octets.proofs.Lists.{written, _&_}
 use Rattle.card.specs.declared.Slot.{Slot}
 use Rattle.card.specs.declared.Path.{Path}
@@ -18,10 +17,10 @@ use Rattle.card.specs.declared.Keys.{Keys}
 use Rattle.card.specs.State.{zeros}
 use Rattle.card.specs.Shape.{KeysLong}
 use Rattle.card.specs.Slots.{isZero, allZero}
-use Rattle.card.proofs.Tests.{zero-list, implied}
+use Rattle.card.proofs.Tests.{zero-list}
 use Rattle.card.proofs.Rules.{PathRules}
-use Rattle.record.specs.Fields.{Field, field, encode, encodeAll, slotsBytes, keyUid, pathBytes}
-use Rattle.record.specs.Parse.{headLength, body, rest, behind, content, fit, pathFrom, slotFrom, slotsFrom}
+use Rattle.record.specs.Fields.{Field, encode, encodeAll, slotsBytes, keyUid, pathBytes}
+use Rattle.record.specs.Parse.{headLength, body, rest, behind, content, fit, pathFrom, slotsFrom}
 
 -- ---- body and rest of encoded fields
 head-encode : (t : ℕ) (x r : List ℕ) → headLength (encode t x ++ r) ≡ length x

@@ -1,30 +1,29 @@
 -- The laws of WRITE and READ: both round trips, which bytes READ takes, what it gives, and how long a record is, in bytes.
 -- Assumes nothing.
-use mathlib.Core.Path.{_≡_, refl, sym, ap, ap₂, _∙_, subst}
-use mathlib.Core.Bool.{Bool, true, false, cond, _&&_}
+use mathlib.Core.Path.{_≡_, refl, sym, ap, _∙_}
+use mathlib.Core.Bool.{Bool, true, false, cond}
 use mathlib.Core.Logic.{_⊎_, inl, inr, ⊎-elim}
 use mathlib.Core.List.{List, [], _∷_, _++_}
-use Prim.Native.Nat.{ℕ, zero, suc, _+_, _*_, _≤_, _<_}
+use Prim.Native.Nat.{ℕ, _+_, _≤_}
 use native.Mathlib.Omega.{arith}
 use lib.Dec.{ltb}
-use lib.ListN.{length, take, length-append}
+use lib.ListN.{length, length-append}
 use lib.Seq.{length-take-le}
-use borrow.Author.Tests.{le-ltb, leb-true}
+use borrow.Author.Tests.{le-ltb}
 use Rattle.octets.specs.Bytes.{sameBytes}
 use Rattle.octets.proofs.Lists.{same-refl, same-eq}
 use Rattle.card.specs.declared.Card.{Card}
 use Rattle.card.specs.declared.Path.{Path}
-use Rattle.card.specs.declared.Keys.{Keys}
 use Rattle.card.specs.State.{zeros, freshOf, resetOf}
 use Rattle.card.specs.Shape.{Shaped}
 use Rattle.card.specs.Slots.{isZero}
 use Rattle.card.specs.Sound.{isSound}
 use Rattle.card.proofs.Tests.{both}
-use Rattle.card.proofs.Rules.{Before, After, sound-cases}
+use Rattle.card.proofs.Rules.{sound-cases}
 use Rattle.card.proofs.SoundFacts.{fresh-sound, reset-sound, path-lengths}
 use Rattle.sound.specs.declared.Answer.{Answer}
 use Rattle.sound.specs.Reset.{noRefusal, unsound, done, refused}
-use Rattle.record.specs.Fields.{Field, encode, encodeAll, keyUid, pathBytes, slotsBytes, identityFields, ownerFields, fields, recordOf}
+use Rattle.record.specs.Fields.{Field, encode, encodeAll, keyUid, pathBytes, identityFields, ownerFields, fields, recordOf}
 use Rattle.record.specs.Parse.{cardOf}
 use Rattle.record.specs.Answers.{writeRoom, tooSmall, notRecord, writeRefusal, writeBytes, isRecordOf, readAnswer}
 use Rattle.record.proofs.ParseFacts.{slots-long}

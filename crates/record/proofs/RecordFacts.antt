@@ -1,14 +1,11 @@
 -- Both round trips of the stored record, and what READ gives. Assumes nothing.
-use mathlib.Core.Path.{_≡_, refl, sym, ap, ap₂, _∙_, fun-ext}
-use mathlib.Core.Bool.{Bool, true, false, cond, _&&_}
+use mathlib.Core.Path.{_≡_, sym, ap, ap₂, _∙_, fun-ext}
+use mathlib.Core.Bool.{true, cond}
 use mathlib.Core.Logic.{⊎-elim}
-use mathlib.Core.List.{List, [], _∷_, _++_}
-use Prim.Native.Nat.{ℕ, zero, suc, _+_, _*_, _≤_}
+use mathlib.Core.List.{List, [], _++_}
+use Prim.Native.Nat.{ℕ, _+_, _*_}
 use native.Mathlib.Omega.{arith}
-use lib.ListN.{length, drop, replicate}
-use borrow.Author.Tests.{eqb-true}
-use Rattle.octets.specs.Bytes.{sameBytes}
-use Rattle.octets.proofs.Lists.{same-refl, same-eq}
+use lib.ListN.{drop}
 use Rattle.card.specs.declared.Identity.{Identity}
 use Rattle.card.specs.declared.Slot.{Slot}
 use Rattle.card.specs.declared.Path.{Path}
@@ -16,17 +13,13 @@ use Rattle.card.specs.declared.Keys.{Keys}
 use Rattle.card.specs.declared.Pins.{Pins}
 use Rattle.card.specs.declared.Pairing.{Pairing}
 use Rattle.card.specs.declared.Card.{Card}
-use Rattle.card.specs.State.{zeros, slotCount, freeSlot, freshOf, resetOf, closedOf, unverified, notPending, noPins, noPairing, noKeys, emptyPath}
-use Rattle.card.specs.Shape.{Shaped, KeysLong}
-use Rattle.card.specs.Slots.{allOf, isZero, allZero, isFree, slotWithin}
-use Rattle.card.specs.Sound.{isSound, partsSound, partsBlank, pinsBlank, pairingBlank, keysBlank}
-use Rattle.card.proofs.Tests.{both, zero-list}
-use Rattle.card.proofs.Rules.{Before, After, PartsRules, KeysRules, BlankRules, KeysBlank, parts-rules, keys-rules, blank-rules, keys-blank, sound-cases}
-use Rattle.card.proofs.SoundFacts.{fresh-sound, reset-sound}
-use Rattle.sound.specs.Reset.{done, refused}
-use Rattle.record.specs.Fields.{Field, encodeAll, slotsBytes, keyUid, pathBytes, identityFields, ownerFields, fields, recordOf}
-use Rattle.record.specs.Parse.{content, fit, pathFrom, slotsFrom, pinsFrom, pairingFrom, keysFrom, cardFrom, cardOf}
-use Rattle.record.specs.Answers.{isRecordOf, readAnswer, notRecord}
+use Rattle.card.specs.State.{zeros, slotCount, resetOf, closedOf, unverified, notPending}
+use Rattle.card.specs.Shape.{Shaped}
+use Rattle.card.specs.Slots.{isZero}
+use Rattle.card.specs.Sound.{isSound}
+use Rattle.card.proofs.Rules.{Before, After, KeysRules, parts-rules, keys-rules, blank-rules, sound-cases}
+use Rattle.record.specs.Fields.{Field, encodeAll, slotsBytes, pathBytes, identityFields, ownerFields, fields, recordOf}
+use Rattle.record.specs.Parse.{fit, pathFrom, slotsFrom, pinsFrom, pairingFrom, keysFrom, cardFrom, cardOf}
 use Rattle.record.proofs.BlankFacts.{pins-none, pairing-none, keys-none}
 use Rattle.record.proofs.ParseFacts.{firstContent, content-all, fit-exact, path-back, key-back, slots-long, slots-back}
 

@@ -17,12 +17,12 @@ use card::Pairing;
 use card::Path;
 use card::Pins;
 use card::Slot;
+use card::wide;
 use record::HEAD_BYTES;
 use record::ROOM_BYTES;
 use record::SLOT_BYTES;
 use record::SLOTS_BYTES;
 use sound::Answer;
-use sound::wide;
 
 // Where a field's content starts and ends.
 pub struct Span {
@@ -259,7 +259,8 @@ fn is_record_of(s: &[u8], card: Card) -> bool
     }
     let mut again = [0u8; ROOM_BYTES];
     let count = record_write::put_record(&mut again, card);
-    octets::same(&again[..count], s)
+    let back = &again[..count];
+    octets::same(back, s)
 }
 
 // READ (01, Stored record).

@@ -9,9 +9,9 @@ use card::Pairing;
 use card::Path;
 use card::Pins;
 use card::Slot;
+use card::wide;
 use libc::STDOUT_FILENO;
 use record::ROOM_BYTES;
-use sound::wide;
 
 // Room for a record and a few bytes behind it.
 const LONGER_BYTES: usize = 512;

@@ -1,14 +1,14 @@
 -- Fields written one behind the other are written as one list of fields.
 -- Assumes nothing.
 use mathlib.Core.Path.{_≡_, refl, sym, ap, ap₂, _∙_}
-use mathlib.Core.List.{List, [], _∷_, _++_, append-nil}
+use mathlib.Core.List.{List, [], _∷_, _++_}
 use Prim.Native.Nat.{ℕ, _+_, _*_, _/_, _%_, _≤_, _<_}
 use native.Mathlib.Omega.{arith}
 use lib.ListN.{length, take, getD, length-append}
 use Rattle.octets.specs.Bytes.{overwrite}
 use Rattle.octets.proofs.Lists.{overwrite-next, length-overwrite, take-overwrite}
 use Rattle.card.specs.declared.Slot.{Slot}
-use Rattle.record.specs.Fields.{Field, field, encode, encodeAll, slotsBytes}
+use Rattle.record.specs.Fields.{Field, field, encodeAll, slotsBytes}
 use Rattle.record.proofs.FieldFacts.{encode-append, encode-one, length-encode-one, slots-suc}
 use Rattle.record_write.specs.Wrote.{Put}
 

@@ -1,17 +1,15 @@
 -- What WRITE did in each of its three answers. Assumes nothing.
-use mathlib.Core.Path.{_≡_, refl, sym, ap, _∙_}
+use mathlib.Core.Path.{_≡_, ap, _∙_}
 use mathlib.Core.Bool.{true, false}
 use mathlib.Core.List.{List}
 use Prim.Native.Nat.{ℕ, _≤_, _<_}
 use native.Mathlib.Omega.{arith}
 use lib.ListN.{length}
 use borrow.Author.Tests.{lt-ltb, le-ltb}
-use Rattle.octets.specs.Bytes.{overwrite}
 use Rattle.card.specs.declared.Card.{Card}
 use Rattle.card.specs.Sound.{isSound}
 use Rattle.record.specs.Fields.{fields, recordOf}
 use Rattle.record.specs.Answers.{writeRoom, writeRefusal, writeBytes}
-use Rattle.record_write.specs.declared.Written.{Written}
 use Rattle.record_write.specs.Wrote.{Put, Wrote}
 
 pub wrote-unsound : (c : Card) (b : List ℕ) → isSound c ≡ false → Wrote c (record { refusal = 1; count = 0 }) b b

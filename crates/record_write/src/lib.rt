@@ -96,7 +96,7 @@ fn put_path(buf: &mut [u8], at: usize, tag: u8, p: Path) -> usize
     ensures { λ r. ⌜ (Put (field tag (pathBytes p) ∷ []) at (now (buf .entry)) r (now (buf .exit))) × (r ≤ at + 43) ⌝ }
 {
     let bytes = p.bytes;
-    let len = sound::wide(p.len);
+    let len = card::wide(p.len);
     put_field(buf, at, tag, &bytes[..len])
 }
 

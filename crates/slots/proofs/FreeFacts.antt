@@ -1,6 +1,6 @@
 -- Facts about the first free slot, for any number of slots: it is the least free index, or there is none; and how a search
 -- that goes from slot to slot finds it. Assumes nothing.
-use mathlib.Core.Path.{_≡_, refl, sym, ap, _∙_, subst}
+use mathlib.Core.Path.{_≡_, refl, sym, ap, _∙_}
 use mathlib.Core.Bool.{Bool, true, false, _||_, cond}
 use mathlib.Core.List.{List, [], _∷_}
 use Prim.Native.Nat.{ℕ, zero, suc, _+_, _≤_, _<_}
@@ -12,10 +12,10 @@ use lib.Seq.{drop-cons}
 use borrow.Author.Tests.{eq-eqb, ne-eqb, eqb-true, eqb-false}
 use Rattle.card.specs.declared.Slot.{Slot}
 use Rattle.card.specs.State.{freeSlot}
-use Rattle.card.specs.Slots.{someOf, isFree, isZero}
+use Rattle.card.specs.Slots.{someOf, isFree}
 use Rattle.slots.specs.declared.Free.{Free}
 use Rattle.slots.specs.declared.Free.the-variants.{At, Full}
-use Rattle.slots.specs.Free.{after, firstFree, LeastFree, Says}
+use Rattle.slots.specs.Free.{after, firstFree, Says}
 
 -- ---- after
 pub after-zero : (f : Free) → f ≡ after 0 f

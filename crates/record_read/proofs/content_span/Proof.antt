@@ -1,72 +1,55 @@
-use mathlib.Core.Path.{_≡_, refl, sym, ap, ap₂, _∙_}
+-- A field's content: the three cases of `Spans`, by how much of the slice is left.
+-- Assumes nothing.
+use mathlib.Core.Path.{sym, ap₂, _∙_}
 use Prim.Native.Nat.{ℕ, _+_, _*_}
 use native.Mathlib.Omega.{arith}
-use lib.ListN.{getD}
 use Rattle.record_read.proofs.PlaceFacts.{head-at, spans-none, spans-cut, spans-whole}
 use borrow.Author.Needs.{needs}
 use Rattle.record_read.proofs.content_span.Statement.{statement}
 use Rattle.record_read.proofs.content_span.Tie as tie
-use Rattle.record_read.proofs.content_span.Reads as reads
-use Rattle.record_read.proofs.content_span.Lts as lts
-use Rattle.sound.proofs.wide.Reads as wide-reads
 
--- src/lib.rt:58:8
 sub-if1 : tie.Need-sub-if1
 sub-if1 c = search needs
 
--- src/lib.rt:59:9
 returns : tie.Need-returns
 returns c = spans-none (c .before .before .args .s .now) (c .before .before .args .at) (omega arith) (omega arith)
 
--- src/lib.rt:64:17
 add-start : tie.Need-add-start
 add-start c = search needs
 
--- src/lib.rt:65:22
 add-wide : tie.Need-add-wide
 add-wide c = search needs
 
--- src/lib.rt:65:20
 shared-slice-read-wide : tie.Need-shared-slice-read-wide
 shared-slice-read-wide c = search needs
 
--- src/lib.rt:65:15
 wide-requires : tie.Need-wide-requires
 wide-requires c κs = search needs
 
--- src/lib.rt:65:15
 mul-len : tie.Need-mul-len
 mul-len c = omega (arith, c .before .shared-slice-known2 .given (c .before .before .before .before .args .at + 1))
 
--- src/lib.rt:65:46
 add-wide-2 : tie.Need-add-wide-2
 add-wide-2 c = search needs
 
--- src/lib.rt:65:44
 shared-slice-read-wide-2 : tie.Need-shared-slice-read-wide-2
 shared-slice-read-wide-2 c = search needs
 
--- src/lib.rt:65:39
 wide-requires-2 : tie.Need-wide-requires-2
 wide-requires-2 c κs = search needs
 
--- src/lib.rt:65:15
 add-len : tie.Need-add-len
 add-len c = omega (arith, c .before .before .before .shared-slice-known2 .given (c .before .before .before .before .before .before .args .at + 1), c .before .shared-slice-known3 .given (c .before .before .before .before .before .before .args .at + 2))
 
--- src/lib.rt:66:8
 sub-if2 : tie.Need-sub-if2
 sub-if2 c = search needs
 
--- src/lib.rt:67:9
 returns-2 : tie.Need-returns-2
 returns-2 c = spans-cut (c .before .before .before .before .before .before .before .args .s .now) (c .before .before .before .before .before .before .before .args .at) (c .before .before .before .wide .result * 256 + c .before .wide2 .result) (ap₂ (λ (h l : ℕ). h * 256 + l) (c .before .before .before .wide .ensures) (c .before .wide2 .ensures) ∙ sym (head-at (c .before .before .before .before .before .before .before .args .s .now) (c .before .before .before .before .before .before .before .args .at))) (omega arith) (c .if2 .taken)
 
--- src/lib.rt:74:14
 add-t13 : tie.Need-add-t13
 add-t13 c = search needs
 
--- src/lib.rt:54:1
 returns-3 : tie.Need-returns-3
 returns-3 c = spans-whole (c .before .before .before .before .before .before .before .args .s .now) (c .before .before .before .before .before .before .before .args .at) (c .before .before .before .wide .result * 256 + c .before .wide2 .result) (ap₂ (λ (h l : ℕ). h * 256 + l) (c .before .before .before .wide .ensures) (c .before .wide2 .ensures) ∙ sym (head-at (c .before .before .before .before .before .before .before .args .s .now) (c .before .before .before .before .before .before .before .args .at))) (omega arith)
 

@@ -1,4 +1,6 @@
-use mathlib.Core.Path.{_≡_, refl, sym, ap, ap₂, _∙_}
+-- The card's record is written again, and compared with the bytes.
+-- Assumes nothing.
+use mathlib.Core.Path.{sym, ap, _∙_}
 use mathlib.Core.List.{List}
 use Prim.Native.Nat.{ℕ}
 use native.Mathlib.Omega.{arith}
@@ -12,42 +14,29 @@ use Rattle.record_read.proofs.PlaceFacts.{put-taken}
 use borrow.Author.Needs.{needs}
 use Rattle.record_read.proofs.is_record_of.Statement.{statement}
 use Rattle.record_read.proofs.is_record_of.Tie as tie
-use Rattle.record_read.proofs.is_record_of.Reads as reads
-use Rattle.record_read.proofs.is_record_of.Lts as lts
-use Rattle.octets.proofs.same.Reads as same-reads
-use Rattle.record_write.proofs.put_record.Reads as put-record-reads
-use Rattle.sound.proofs.sound.Reads as sound-reads
 
--- src/lib.rt:250:9
 sound-requires : tie.Need-sound-requires
 sound-requires c κs = search needs
 
--- src/lib.rt:251:9
 returns : tie.Need-returns
 unfolding isRecordOf
 returns c = sym (rw (sym (c .before .sound .ensures) ∙ not-true _ (c .if1 .taken)))
 
--- src/lib.rt:254:42
 slice-aggregate-put-record : tie.Need-slice-aggregate-put-record
 slice-aggregate-put-record c = search needs
 
--- src/lib.rt:254:9
 put-record-requires : tie.Need-put-record-requires
 put-record-requires c κs = let l = path-lengths (c .before .before .before .before .args .card) (sym (c .before .before .sound .ensures) ∙ not-false _ (c .before .if1 .left)) in (l .0, (l .1, omega arith))
 
--- src/lib.rt:255:18
 array-share-prefix-again : tie.Need-array-share-prefix-again
 array-share-prefix-again c = search needs
 
--- src/lib.rt:255:18
-slice-aggregate-same : tie.Need-slice-aggregate-same
-slice-aggregate-same c = sym (length-take-le (c .before .before .put-record .result) (c .before .before .put-record .last .0) (omega (arith, c .before .before .put-record .kept .0, c .before .before .put-record .ensures .1)))
+slice-aggregate-back : tie.Need-slice-aggregate-back
+slice-aggregate-back c = sym (length-take-le (c .before .before .put-record .result) (c .before .before .put-record .last .0) (omega (arith, c .before .before .put-record .kept .0, c .before .before .put-record .ensures .1)))
 
--- src/lib.rt:255:5
 same-requires : tie.Need-same-requires
 same-requires c κs = search needs
 
--- src/lib.rt:247:1
 returns-2 : tie.Need-returns-2
 unfolding isRecordOf recordOf
 returns-2 c = rw (sym (c .before .before .before .before .before .before .sound .ensures) ∙ not-false _ (c .before .before .before .before .before .if1 .left)) (c .same .ensures ∙ ap (λ (l : List ℕ). sameBytes l (c .before .before .before .before .before .before .before .before .args .s .now)) (put-taken (c .before .before .before .put-record .ensures .0) (c .before .before .before .put-record .ensures .1)))
@@ -61,6 +50,6 @@ is-record-of-spec =
     slice-aggregate-put-record
     put-record-requires
     array-share-prefix-again
-    slice-aggregate-same
+    slice-aggregate-back
     same-requires
     returns-2)

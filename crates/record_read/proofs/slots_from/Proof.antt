@@ -1,17 +1,16 @@
+-- The slots are read one by one. Invariant: those passed are the first of `slotsFrom`.
+-- Assumes nothing.
 use Rattle.record_read.proofs.PlaceFacts.{slots-from-next, slot-at}
-use mathlib.Core.Path.{_≡_, refl, sym, ap, ap₂, _∙_}
-use Prim.Native.Nat.{ℕ, _+_, _-_, _*_, _≤_}
+use mathlib.Core.Path.{_≡_, refl, sym, ap, _∙_}
+use Prim.Native.Nat.{ℕ, _-_, _*_, _≤_}
 use native.Mathlib.Omega.{arith}
 use borrow.Author.Needs.{needs}
-use lib.ListN.{length, take, drop, length-set}
+use lib.ListN.{length, take, length-set}
 use lib.Seq.{take-all}
 use Rattle.card.specs.State.{slotCount}
-use Rattle.record.specs.Parse.{fit, slotsFrom}
+use Rattle.record.specs.Parse.{slotsFrom}
 use Rattle.record_read.proofs.slots_from.Statement.{statement}
 use Rattle.record_read.proofs.slots_from.Tie as tie
-use Rattle.record_read.proofs.slots_from.Reads as reads
-use Rattle.record_read.proofs.slots_from.Lts as lts
-use Rattle.record_read.proofs.fill.Reads as fill-reads
 
 abbrev Inv-loop : tie.InvT-loop
 Inv-loop x slots₀ i₀ slots i = (i ≤ slotCount) × ((length x ≡ 33 * slotCount) × ((length slots ≡ slotCount) × (take i slots ≡ slotsFrom i x)))
@@ -19,64 +18,49 @@ Inv-loop x slots₀ i₀ slots i = (i ≤ slotCount) × ((length x ≡ 33 * slot
 abbrev μ-loop : tie.MeasureT-loop
 μ-loop x slots₀ i₀ slots i = slotCount - i
 
--- src/lib.rt:145:5
 loop-holds : tie.Need-loop-holds Inv-loop μ-loop
 unfolding slotsFrom
 loop-holds c = (omega arith, (c .good .0 .1 .0 .1, (refl, refl)))
 
--- src/lib.rt:146:18
 mul-at : tie.Need-mul-at Inv-loop μ-loop
 mul-at c = search needs
 
--- src/lib.rt:148:14
 slice-aggregate-fill : tie.Need-slice-aggregate-fill Inv-loop μ-loop
 slice-aggregate-fill c = search needs
 
--- src/lib.rt:148:27
 add-fill : tie.Need-add-fill Inv-loop μ-loop
 add-fill c = search needs
 
--- src/lib.rt:148:24
 sub-fill : tie.Need-sub-fill Inv-loop μ-loop
 sub-fill c = search needs
 
--- src/lib.rt:148:24
 part-fill-start : tie.Need-part-fill-start Inv-loop μ-loop
 part-fill-start c = search needs
 
--- src/lib.rt:148:24
 part-fill-end : tie.Need-part-fill-end Inv-loop μ-loop
 part-fill-end c = search needs
 
--- src/lib.rt:148:9
 fill-requires : tie.Need-fill-requires Inv-loop μ-loop
 fill-requires c κs = search needs
 
--- src/lib.rt:149:22
 array-read-filled : tie.Need-array-read-filled Inv-loop μ-loop
 array-read-filled c = search needs
 
--- src/lib.rt:151:9
 mul-slots : tie.Need-mul-slots Inv-loop μ-loop
 mul-slots c = search needs
 
--- src/lib.rt:151:9
 array-set-from-slots : tie.Need-array-set-from-slots Inv-loop μ-loop
 array-set-from-slots c = search needs
 
--- src/lib.rt:152:9
 add-i : tie.Need-add-i Inv-loop μ-loop
 add-i c = search needs
 
--- src/lib.rt:145:5
 loop-less : tie.Need-loop-less Inv-loop μ-loop
 loop-less c = search needs
 
--- src/lib.rt:145:5
 loop-again : tie.Need-loop-again Inv-loop μ-loop
 loop-again c = (omega arith, (c .before .before .before .before .before .before .loop .inv .1 .0, (simp length-set (c .before .before .before .before .before .before .loop .inv .1 .1 .0), slots-from-next (c .before .before .before .before .before .before .before .args .t1) (c .before .before .before .before .before .before .loop .slots) (c .before .before .before .before .before .before .loop .i) _ (omega arith) (c .before .before .before .before .before .before .loop .inv .1 .1 .1) (slot-at (c .before .before .before .before .before .before .before .args .t1) (c .before .fill .last .0) (33 * c .before .before .before .before .before .before .loop .i) 165 (c .before .before .before .before .before .before .loop .inv .1 .0) (c .before .fill .ensures)))))
 
--- src/lib.rt:136:1
 returns : tie.Need-returns Inv-loop μ-loop
 returns c = let e : c .before .loop .i ≡ slotCount = omega arith in sym (take-all (c .before .loop .i) (c .before .loop .slots) (omega arith)) ∙ c .before .loop .inv .1 .1 .1 ∙ ap (λ (n : ℕ). slotsFrom n (c .before .before .args .t1)) e
 

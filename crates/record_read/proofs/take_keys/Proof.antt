@@ -1,42 +1,32 @@
-use mathlib.Core.Path.{_≡_, refl, sym, ap, ap₂, _∙_}
+-- Four fields, each at the place behind the one before it, by `at-next`.
+-- Assumes nothing.
+use mathlib.Core.Path.{_∙_}
 use Rattle.record_read.proofs.PlaceFacts.{at-next, fit-at, path-at}
 use borrow.Author.Needs.{needs}
 use Rattle.record_read.proofs.take_keys.Statement.{statement}
 use Rattle.record_read.proofs.take_keys.Tie as tie
-use Rattle.record_read.proofs.take_keys.Reads as reads
-use Rattle.record_read.proofs.take_keys.Lts as lts
-use Rattle.record_read.proofs.take_field.Reads as take-field-reads
-use Rattle.record_read.proofs.take_path.Reads as take-path-reads
 
--- src/lib.rt:215:31
 slice-aggregate-take-field : tie.Need-slice-aggregate-take-field
 slice-aggregate-take-field c = search needs
 
--- src/lib.rt:215:9
 take-field-requires : tie.Need-take-field-requires
 take-field-requires c κs = search needs
 
--- src/lib.rt:216:30
 slice-aggregate-take-field-2 : tie.Need-slice-aggregate-take-field-2
 slice-aggregate-take-field-2 c = search needs
 
--- src/lib.rt:216:9
 take-field-requires-2 : tie.Need-take-field-requires-2
 take-field-requires-2 c κs = search needs
 
--- src/lib.rt:217:9
 take-path-requires : tie.Need-take-path-requires
 take-path-requires c κs = search needs
 
--- src/lib.rt:219:9
 take-path-requires-2 : tie.Need-take-path-requires-2
 take-path-requires-2 c κs = search needs
 
--- src/lib.rt:223:15
 array-read-t18 : tie.Need-array-read-t18
 array-read-t18 c = search needs
 
--- src/lib.rt:209:1
 returns : tie.Need-returns
 returns c = let z = c .before .before .before .before .before .before .before .before .before .before .before .pre in let a = at-next z (c .before .before .before .before .before .before .before .before .take-field .ensures .1) in let b = at-next a (c .before .before .before .before .before .take-field2 .ensures .1) in let d = at-next b (c .before .before .before .take-path .ensures .1) in rw (c .before .before .before .before .before .before .before .before .take-field .ensures .0 ∙ fit-at 1 z, c .before .before .before .before .before .take-field2 .ensures .0 ∙ fit-at 32 a, c .before .before .before .take-path .ensures .0 ∙ path-at b, c .before .before .take-path2 .ensures .0 ∙ path-at d)
 

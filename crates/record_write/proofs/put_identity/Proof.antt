@@ -1,42 +1,32 @@
+-- Three fields in a row, by `put-then`; the lengths are those of the arrays.
+-- Assumes nothing.
 use native.Mathlib.Omega.{arith}
-use lib.ListN.{length}
 use Rattle.record_write.proofs.Chain.{put-then}
 use borrow.Author.Needs.{needs}
 use Rattle.record_write.proofs.put_identity.Statement.{statement}
 use Rattle.record_write.proofs.put_identity.Tie as tie
-use Rattle.record_write.proofs.put_identity.Reads as reads
-use Rattle.record_write.proofs.put_identity.Lts as lts
-use Rattle.record_write.proofs.put_field.Reads as put-field-reads
 
--- src/lib.rt:112:48
 slice-aggregate-put-field : tie.Need-slice-aggregate-put-field
 slice-aggregate-put-field c = search needs
 
--- src/lib.rt:112:9
 put-field-requires : tie.Need-put-field-requires
 put-field-requires c κs = search needs
 
--- src/lib.rt:113:40
 slice-aggregate-put-field-2 : tie.Need-slice-aggregate-put-field-2
 slice-aggregate-put-field-2 c = search needs
 
--- src/lib.rt:113:9
 put-field-requires-2 : tie.Need-put-field-requires-2
 put-field-requires-2 c κs = omega (arith, slice-aggregate-put-field-2 c)
 
--- src/lib.rt:114:39
 slice-aggregate-put-field-3 : tie.Need-slice-aggregate-put-field-3
 slice-aggregate-put-field-3 c = search needs
 
--- src/lib.rt:114:5
 put-field-requires-3 : tie.Need-put-field-requires-3
 put-field-requires-3 c κs = omega (arith, slice-aggregate-put-field-3 c, slice-aggregate-put-field-2 (c .before .before .before .before .before))
 
--- src/lib.rt:105:1
 same-length : tie.Need-same-length
 same-length c = search needs
 
--- src/lib.rt:105:1
 returns : tie.Need-returns
 returns c = let u = slice-aggregate-put-field-2 (c .before .before .before .before .before .before .before .before) in let k = slice-aggregate-put-field-3 (c .before .before .before) in (put-then (put-then (c .before .before .before .before .before .before .before .before .before .before .before .before .put-field .ensures .0) (c .before .before .before .before .before .before .before .put-field2 .ensures .0) (omega arith)) (c .before .before .put-field3 .ensures .0) (omega arith), omega arith)
 

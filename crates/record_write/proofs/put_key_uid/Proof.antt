@@ -1,46 +1,35 @@
-use mathlib.Core.Path.{_≡_, refl, sym, ap, subst, _∙_}
+-- The key UID is one field, empty without a key.
+-- Assumes nothing.
 use borrow.Author.Tests.{eq-eqb, ne-eqb}
 use native.Mathlib.Omega.{arith}
 use borrow.Author.Needs.{needs}
 use Rattle.record_write.proofs.put_key_uid.Statement.{statement}
 use Rattle.record_write.proofs.put_key_uid.Tie as tie
-use Rattle.record_write.proofs.put_key_uid.Reads as reads
-use Rattle.record_write.proofs.put_key_uid.Lts as lts
-use Rattle.record_write.proofs.put_field.Reads as put-field-reads
 
--- src/lib.rt:100:48
 array-share-prefix-uid : tie.Need-array-share-prefix-uid
 array-share-prefix-uid c = search needs
 
--- src/lib.rt:100:48
 slice-aggregate-put-field : tie.Need-slice-aggregate-put-field
 slice-aggregate-put-field c = search needs
 
--- src/lib.rt:100:9
 put-field-requires : tie.Need-put-field-requires
 put-field-requires c κs = search needs
 
--- src/lib.rt:100:9
 same-length : tie.Need-same-length
 same-length c = search needs
 
--- src/lib.rt:100:9
 returns : tie.Need-returns
 returns c = (rw (eq-eqb _ _ (c .before .before .before .before .before .if1 .taken)) (c .before .before .put-field .ensures .0), omega arith)
 
--- src/lib.rt:102:37
 slice-aggregate-put-field-2 : tie.Need-slice-aggregate-put-field-2
 slice-aggregate-put-field-2 c = search needs
 
--- src/lib.rt:102:5
 put-field-requires-2 : tie.Need-put-field-requires-2
 put-field-requires-2 c κs = omega (arith, slice-aggregate-put-field-2 c)
 
--- src/lib.rt:94:1
 same-length-2 : tie.Need-same-length-2
 same-length-2 c = search needs
 
--- src/lib.rt:94:1
 returns-2 : tie.Need-returns-2
 returns-2 c = (rw (ne-eqb _ _ (c .before .before .before .before .before .if1 .left)) (c .before .before .put-field2 .ensures .0), omega (arith, slice-aggregate-put-field-2 (c .before .before .before)))
 

@@ -1,4 +1,5 @@
-use mathlib.Core.Path.{_≡_, refl, sym, ap, subst, _∙_}
+-- The record: the identity alone, or the three groups of fields in a row.
+-- Assumes nothing.
 use native.Mathlib.Omega.{arith}
 use borrow.Author.Tests.{eq-eqb, ne-eqb}
 use Rattle.record.specs.Fields.{fields}
@@ -6,38 +7,26 @@ use Rattle.record_write.proofs.Chain.{put-then}
 use borrow.Author.Needs.{needs}
 use Rattle.record_write.proofs.put_record.Statement.{statement}
 use Rattle.record_write.proofs.put_record.Tie as tie
-use Rattle.record_write.proofs.put_record.Reads as reads
-use Rattle.record_write.proofs.put_record.Lts as lts
-use Rattle.record_write.proofs.put_identity.Reads as put-identity-reads
-use Rattle.record_write.proofs.put_keys.Reads as put-keys-reads
-use Rattle.record_write.proofs.put_secrets.Reads as put-secrets-reads
 
--- src/lib.rt:165:9
 put-identity-requires : tie.Need-put-identity-requires
 put-identity-requires c κs = search needs
 
--- src/lib.rt:167:9
 same-length : tie.Need-same-length
 same-length c = search needs
 
--- src/lib.rt:167:9
 returns : tie.Need-returns
 unfolding fields
 returns c = (rw (eq-eqb _ _ (c .if1 .taken)) (c .before .before .before .before .put-identity .ensures .0), omega arith)
 
--- src/lib.rt:169:9
 put-secrets-requires : tie.Need-put-secrets-requires
 put-secrets-requires c κs = search needs
 
--- src/lib.rt:170:5
 put-keys-requires : tie.Need-put-keys-requires
 put-keys-requires c κs = search needs
 
--- src/lib.rt:157:1
 same-length-2 : tie.Need-same-length-2
 same-length-2 c = search needs
 
--- src/lib.rt:157:1
 returns-2 : tie.Need-returns-2
 unfolding fields
 returns-2 c = let h = c .before .before .before .before .before .before .before .before .before .before .before .before .before .before .before .before .before .before .before .pre in (rw (ne-eqb _ _ (c .before .before .before .before .before .before .before .before .if1 .left)) (put-then (c .before .before .before .before .before .before .before .before .before .before .before .before .put-identity .ensures .0) (put-then (c .before .before .before .before .before .before .put-secrets .ensures .0) (c .before .before .put-keys .ensures .0) (omega arith)) (omega arith)), omega arith)

@@ -1,5 +1,7 @@
-use mathlib.Core.Path.{_≡_, refl, sym, ap, subst, _∙_}
-use Prim.Native.Nat.{ℕ, _≤_, _-_, _*_, _+_}
+-- The slots' content. Invariant: what is written is the content of the slots passed.
+-- Assumes nothing.
+use mathlib.Core.Path.{_≡_, refl, sym, ap, _∙_}
+use Prim.Native.Nat.{_≤_, _-_, _*_}
 use native.Mathlib.Omega.{arith}
 use borrow.Author.Needs.{needs}
 use lib.ListN.{length, take}
@@ -9,9 +11,6 @@ use Rattle.record.specs.Fields.{slotsBytes}
 use Rattle.record_write.proofs.Chain.{slots-next}
 use Rattle.record_write.proofs.slots_bytes.Statement.{statement}
 use Rattle.record_write.proofs.slots_bytes.Tie as tie
-use Rattle.record_write.proofs.slots_bytes.Reads as reads
-use Rattle.record_write.proofs.slots_bytes.Lts as lts
-use Rattle.record_write.proofs.put_slot.Reads as put-slot-reads
 
 abbrev Inv-loop : tie.InvT-loop
 Inv-loop slots out₀ i₀ out i = (i ≤ slotCount) × ((length slots ≡ slotCount) × ((length out ≡ 33 * slotCount) × (take (33 * i) out ≡ slotsBytes (take i slots))))
@@ -19,44 +18,34 @@ Inv-loop slots out₀ i₀ out i = (i ≤ slotCount) × ((length slots ≡ slotC
 abbrev μ-loop : tie.MeasureT-loop
 μ-loop slots out₀ i₀ out i = slotCount - i
 
--- src/lib.rt:86:5
 loop-holds : tie.Need-loop-holds Inv-loop μ-loop
 unfolding slotsBytes
 loop-holds c = (omega arith, (c .good .0 .1 .0 .1, (refl, refl)))
 
--- src/lib.rt:87:20
 mul-slot : tie.Need-mul-slot Inv-loop μ-loop
 mul-slot c = search needs
 
--- src/lib.rt:87:20
 array-copy-out-slot : tie.Need-array-copy-out-slot Inv-loop μ-loop
 array-copy-out-slot c = search needs
 
--- src/lib.rt:88:18
 slice-aggregate-put-slot : tie.Need-slice-aggregate-put-slot Inv-loop μ-loop
 slice-aggregate-put-slot c = search needs
 
--- src/lib.rt:88:28
 mul-put-slot : tie.Need-mul-put-slot Inv-loop μ-loop
 mul-put-slot c = search needs
 
--- src/lib.rt:88:9
 put-slot-requires : tie.Need-put-slot-requires Inv-loop μ-loop
 put-slot-requires c κs = search needs
 
--- src/lib.rt:89:9
 add-i : tie.Need-add-i Inv-loop μ-loop
 add-i c = search needs
 
--- src/lib.rt:86:5
 loop-less : tie.Need-loop-less Inv-loop μ-loop
 loop-less c = search needs
 
--- src/lib.rt:86:5
 loop-again : tie.Need-loop-again Inv-loop μ-loop
 loop-again c = (omega arith, (c .before .before .before .before .before .loop .inv .1 .0, (omega arith, slots-next (c .before .before .before .before .before .before .args .t1) (c .before .before .before .before .before .loop .i) _ (c .before .before .before .before .before .loop .out) (c .before .put-slot .last .0) (omega arith) (c .before .put-slot .ensures .0) (omega arith) (c .before .before .before .before .before .loop .inv .1 .1 .1) (c .before .put-slot .ensures .1))))
 
--- src/lib.rt:81:1
 returns : tie.Need-returns Inv-loop μ-loop
 returns c = sym (take-all (33 * c .before .loop .i) (c .before .loop .out) (omega arith)) ∙ c .before .loop .inv .1 .1 .1 ∙ ap slotsBytes (take-all (c .before .loop .i) (c .before .before .args .t1) (omega arith))
 

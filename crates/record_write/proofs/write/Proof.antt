@@ -1,4 +1,6 @@
-use mathlib.Core.Path.{_≡_, refl, sym, ap, subst, _∙_}
+-- WRITE: by cases on soundness and room, each from `WroteFacts`.
+-- Assumes nothing.
+use mathlib.Core.Path.{sym, _∙_}
 use native.Mathlib.Omega.{arith}
 use borrow.Author.Tests.{not-true, not-false}
 use Rattle.card.proofs.SoundFacts.{path-lengths}
@@ -6,32 +8,22 @@ use Rattle.record_write.proofs.WroteFacts.{wrote-unsound, wrote-small, 
 use borrow.Author.Needs.{needs}
 use Rattle.record_write.proofs.write.Statement.{statement}
 use Rattle.record_write.proofs.write.Tie as tie
-use Rattle.record_write.proofs.write.Reads as reads
-use Rattle.record_write.proofs.write.Lts as lts
-use Rattle.record_write.proofs.put_record.Reads as put-record-reads
-use Rattle.sound.proofs.sound.Reads as sound-reads
 
--- src/lib.rt:177:9
 sound-requires : tie.Need-sound-requires
 sound-requires c κs = search needs
 
--- src/lib.rt:178:9
 returns : tie.Need-returns
 returns c = wrote-unsound (c .before .before .before .args .card) (c .before .before .before .args .buf .now) (sym (c .before .sound .ensures) ∙ not-true _ (c .if1 .taken))
 
--- src/lib.rt:184:9
 returns-2 : tie.Need-returns-2
 returns-2 c = wrote-small (c .before .before .before .before .args .card) (c .before .before .before .before .args .buf .now) (sym (c .before .before .sound .ensures) ∙ not-false _ (c .before .if1 .left)) (c .if2 .taken)
 
--- src/lib.rt:189:9
 put-record-requires : tie.Need-put-record-requires
 put-record-requires c κs = let l = path-lengths (c .before .before .before .before .before .args .card) (sym (c .before .before .before .sound .ensures) ∙ not-false _ (c .before .before .if1 .left)) in (l .0, (l .1, omega arith))
 
--- src/lib.rt:174:1
 same-length : tie.Need-same-length
 same-length c = search needs
 
--- src/lib.rt:174:1
 returns-3 : tie.Need-returns-3
 returns-3 c = wrote-record (c .before .before .before .before .before .before .before .before .args .card) (c .before .before .before .before .before .before .before .before .args .buf .now) (c .before .before .put-record .last .0) (c .before .before .put-record .result) (sym (c .before .before .before .before .before .before .sound .ensures) ∙ not-false _ (c .before .before .before .before .before .if1 .left)) (c .before .before .before .before .if2 .left) (c .before .before .put-record .ensures .0)
 

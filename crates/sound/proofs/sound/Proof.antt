@@ -1,28 +1,22 @@
-use mathlib.Core.Path.{_≡_, refl, sym, _∙_}
+-- Whether the card is sound: by cases on the flag, from what the tests of the parts ensure.
+-- Assumes nothing.
+use mathlib.Core.Path.{_∙_}
 use borrow.Author.Tests.{eq-eqb, ne-eqb}
 use Rattle.card.specs.Sound.{isSound}
 use borrow.Author.Needs.{needs}
 use Rattle.sound.proofs.sound.Statement.{statement}
 use Rattle.sound.proofs.sound.Tie as tie
-use Rattle.sound.proofs.sound.Reads as reads
-use Rattle.sound.proofs.sound.Lts as lts
-use Rattle.sound.proofs.parts_blank.Reads as parts-blank-reads
-use Rattle.sound.proofs.parts_sound.Reads as parts-sound-reads
 
--- src/lib.rt:250:9
 parts-blank-requires : tie.Need-parts-blank-requires
 parts-blank-requires c κs = search needs
 
--- src/lib.rt:250:9
 returns : tie.Need-returns
 unfolding isSound
 returns c = c .parts-blank .ensures ∙ rw (eq-eqb _ _ (c .before .if1 .taken))
 
--- src/lib.rt:253:12
 parts-sound-requires : tie.Need-parts-sound-requires
 parts-sound-requires c κs = search needs
 
--- src/lib.rt:246:1
 returns-2 : tie.Need-returns-2
 unfolding isSound
 returns-2 c = rw (ne-eqb _ _ (c .before .before .if1 .left), c .parts-sound .ensures)

@@ -1,16 +1,12 @@
-use mathlib.Core.Path.{_≡_, refl}
+-- A card at power-up is what its definition says: three parts are replaced, and the rest is the card as given.
+-- Assumes nothing.
 use borrow.Author.Needs.{needs}
 use Rattle.card.proofs.Card.powered_up.Statement.{statement}
 use Rattle.card.proofs.Card.powered_up.Tie as tie
-use Rattle.card.proofs.Card.powered_up.Reads as reads
-use Rattle.card.proofs.Card.powered_up.Lts as lts
-use Rattle.card.proofs.Channel.closed.Reads as closed-reads
 
--- src/lib.rt:145:13
 closed-requires : tie.Need-closed-requires
 closed-requires c κs = search needs
 
--- src/lib.rt:137:5
 returns : tie.Need-returns
 returns c = rw (c .closed .ensures)
 
