@@ -46,6 +46,9 @@ const TAG_CURRENT: u8 = 0x32;
 
 const TAG_PINLESS: u8 = 0x33;
 
+// How many values a byte has: a length in bytes is its high byte times this, and its low byte.
+const BYTE_VALUES: usize = 256;
+
 // What WRITE answers: the refusal's number, or 0 for none, and how many bytes it wrote.
 pub struct Written {
     pub refusal: u8,
@@ -57,8 +60,8 @@ pub fn put_field(buf: &mut [u8], at: usize, tag: u8, src: &[u8]) -> usize
     requires { ⌜ (length (now src) < 65536) × (at + 3 + length (now src) ≤ length (now buf)) ⌝ }
     ensures { λ r. ⌜ (Put (field tag (now (src .entry)) ∷ []) at (now (buf .entry)) r (now (buf .exit))) × (r ≡ at + 3 + length (now (src .entry))) ⌝ }
 {
-    let high = (src.len() / 256) as u8;
-    let low = (src.len() % 256) as u8;
+    let high = (src.len() / BYTE_VALUES) as u8;
+    let low = (src.len() % BYTE_VALUES) as u8;
     let head = [tag, high, low];
     octets::put(buf, at, &head);
     let content = at + HEAD_BYTES;
