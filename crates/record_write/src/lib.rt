@@ -4,9 +4,10 @@
 // not sound is refused with 1, a buffer under 448 with 2, and then nothing is written.
 ghost use mathlib.Core.Path.{_≡_};
 ghost use mathlib.Core.List.{[], _∷_};
-ghost use Prim.Native.Nat.{_+_, _≤_, _<_};
+ghost use Prim.Native.Nat.{_+_, _*_, _≤_, _<_};
 ghost use lib.ListN.{length};
 ghost use Rattle.octets.specs.Bytes.{overwrite};
+ghost use Rattle.card.specs.State.{slotCount};
 ghost use Rattle.record.specs.Fields.{field, slotsBytes, keyUid, pathBytes, identityFields, secretFields, keyFields, fields};
 ghost use Rattle.record_write.specs.Wrote.{Put, Wrote};
 use card::Card;
@@ -127,8 +128,8 @@ fn put_identity(buf: &mut [u8], initialised: u8, identity: Identity) -> usize
 }
 
 fn put_secrets(buf: &mut [u8], at: usize, pins: Pins, pairing: Pairing) -> usize
-    requires { ⌜ at + 232 ≤ length (now buf) ⌝ }
-    ensures { λ r. ⌜ (Put (secretFields pins pairing) at (now (buf .entry)) r (now (buf .exit))) × (r ≡ at + 232) ⌝ }
+    requires { ⌜ at + (67 + 33 * slotCount) ≤ length (now buf) ⌝ }
+    ensures { λ r. ⌜ (Put (secretFields pins pairing) at (now (buf .entry)) r (now (buf .exit))) × (r ≡ at + (67 + 33 * slotCount)) ⌝ }
 {
     let pin = pins.pin;
     let puk = pins.puk;
