@@ -1,6 +1,5 @@
 // Tries the stored record: cards of every kind are written, read and written again; then damaged records are read.
-// Every length and count of bytes is in bytes. Each line says what was tried and what came of it; the file stdout has the
-// lines that an independent model of the paper gives.
+// Every length and count of bytes is in bytes. Each line says what was tried and what came of it.
 // Proved: the program is safe and ends.
 ghost use Prim.Native.Nat.{_≤_};
 use card::Card;
