@@ -1,0 +1,4 @@
+pub mod State
+pub mod Slots
+pub mod Sound
+pub mod Shape

@@ -1,0 +1,128 @@
+-- The card's constants, the fresh card, and the card at power-up. Every length is in bytes.
+use Prim.Native.Nat.{ℕ}
+use mathlib.Core.List.{List, [], _∷_}
+use lib.ListN.{replicate}
+use Rattle.card.specs.declared.Pins.{Pins}
+use Rattle.card.specs.declared.Slot.{Slot}
+use Rattle.card.specs.declared.Pairing.{Pairing}
+use Rattle.card.specs.declared.Path.{Path}
+use Rattle.card.specs.declared.Keys.{Keys}
+use Rattle.card.specs.declared.Channel.{Channel}
+use Rattle.card.specs.declared.Card.{Card}
+
+-- the full tries of the PIN and of the PUK, and the number of pairing slots
+abbrev pub pinTries : ℕ
+pinTries = 3
+
+abbrev pub pukTries : ℕ
+pukTries = 5
+
+abbrev pub slotCount : ℕ
+slotCount = 5
+
+-- the application's version, as SELECT answers it
+abbrev pub version : List ℕ
+version = 2 ∷ 0 ∷ []
+
+abbrev pub zeros : ℕ → List ℕ
+zeros n = replicate n 0
+
+-- ---- the parts of a card that holds nothing but its identity
+abbrev pub noPins : Pins
+noPins = record { pin = zeros 6; puk = zeros 12; «pin_tries» = 0; «puk_tries» = 0; verified = 0 }
+
+abbrev pub freeSlot : Slot
+freeSlot = record { filled = 0; key = zeros 32 }
+
+abbrev pub noPairing : Pairing
+noPairing = record { secret = zeros 32; slots = replicate slotCount freeSlot; pending = 0; expected = zeros 32 }
+
+abbrev pub emptyPath : Path
+emptyPath = record { len = 0; bytes = zeros 40 }
+
+abbrev pub noKeys : Keys
+noKeys = record { kind = 0; uid = zeros 32; current = emptyPath; pinless = emptyPath }
+
+abbrev pub closedOf : Channel
+closedOf = record { stage = 0; «enc_key» = zeros 32; «mac_key» = zeros 32; iv = zeros 16 }
+
+-- FRESH (01, Operations): the card with this UID and public key, and all else zero
+abbrev pub freshOf : List ℕ → List ℕ → Card
+freshOf uid key = record {
+  initialised = 0;
+  identity = record { uid = uid; «public_key» = key };
+  pins = noPins;
+  pairing = noPairing;
+  keys = noKeys;
+  channel = closedOf;
+}
+
+-- ---- a card with one part in the place of its own
+abbrev pub withPins : Card → Pins → Card
+withPins c p = record {
+  initialised = c .initialised;
+  identity = c .identity;
+  pins = p;
+  pairing = c .pairing;
+  keys = c .keys;
+  channel = c .channel;
+}
+
+abbrev pub withPairing : Card → Pairing → Card
+withPairing c p = record {
+  initialised = c .initialised;
+  identity = c .identity;
+  pins = c .pins;
+  pairing = p;
+  keys = c .keys;
+  channel = c .channel;
+}
+
+abbrev pub withKeys : Card → Keys → Card
+withKeys c k = record {
+  initialised = c .initialised;
+  identity = c .identity;
+  pins = c .pins;
+  pairing = c .pairing;
+  keys = k;
+  channel = c .channel;
+}
+
+abbrev pub withChannel : Card → Channel → Card
+withChannel c k = record {
+  initialised = c .initialised;
+  identity = c .identity;
+  pins = c .pins;
+  pairing = c .pairing;
+  keys = c .keys;
+  channel = k;
+}
+
+-- ---- power-up (01, Operations, RESET)
+-- the PIN not verified
+abbrev pub unverified : Pins → Pins
+unverified p = record { pin = p .pin; puk = p .puk; «pin_tries» = p .«pin_tries»; «puk_tries» = p .«puk_tries»; verified = 0 }
+
+-- no pending pairing, and its bytes zero
+abbrev pub notPending : Pairing → Pairing
+notPending p = record { secret = p .secret; slots = p .slots; pending = 0; expected = zeros 32 }
+
+abbrev pub resetOf : Card → Card
+resetOf c = record {
+  initialised = c .initialised;
+  identity = c .identity;
+  pins = unverified (c .pins);
+  pairing = notPending (c .pairing);
+  keys = c .keys;
+  channel = closedOf;
+}
+
+-- PIN and PUK put in the place of the card's own
+abbrev pub withSecrets : List ℕ → List ℕ → Card → Card
+withSecrets pin puk c = withPins c (record {
+  pin = pin;
+  puk = puk;
+  «pin_tries» = c .pins .«pin_tries»;
+  «puk_tries» = c .pins .«puk_tries»;
+  verified = c .pins .verified;
+})

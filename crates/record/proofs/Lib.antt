@@ -1,0 +1,5 @@
+pub mod FieldFacts
+pub mod ParseFacts
+pub mod BlankFacts
+pub mod RecordFacts
+pub mod ReadFacts

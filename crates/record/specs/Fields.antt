@@ -1,0 +1,81 @@
+-- The stored record (01, Stored record): its fields, with tag, order and content, as one table, and the bytes that they make.
+-- Every length is in bytes.
+use Prim.Native.Nat.{ℕ, _/_, _%_}
+use mathlib.Core.Bool.{cond}
+use mathlib.Core.List.{List, [], _∷_, _++_}
+use lib.ListN.{length, take}
+use Rattle.card.specs.declared.Identity.{Identity}
+use Rattle.card.specs.declared.Pins.{Pins}
+use Rattle.card.specs.declared.Slot.{Slot}
+use Rattle.card.specs.declared.Pairing.{Pairing}
+use Rattle.card.specs.declared.Path.{Path}
+use Rattle.card.specs.declared.Keys.{Keys}
+use Rattle.card.specs.declared.Card.{Card}
+use Rattle.card.specs.Slots.{isZero}
+
+-- ---- a field: its tag and its content
+pub record Field : Type 0 where
+  pub tag : ℕ
+  pub content : List ℕ
+
+abbrev pub field : ℕ → List ℕ → Field
+field t x = record { tag = t; content = x }
+
+-- a field's bytes: the tag, the content's length in two bytes, the high byte first, and the content
+abbrev pub encode : ℕ → List ℕ → List ℕ
+encode t x = t ∷ length x / 256 ∷ length x % 256 ∷ x
+
+unfoldable pub encodeAll : List Field → List ℕ
+encodeAll [] = []
+encodeAll (f ∷ more) = encode (f .tag) (f .content) ++ encodeAll more
+
+-- ---- the contents that are not a field of the card as it stands
+-- the slots, each its flag and its key
+unfoldable pub slotsBytes : List Slot → List ℕ
+slotsBytes [] = []
+slotsBytes (s ∷ more) = (s .filled ∷ s .key) ++ slotsBytes more
+
+-- the key UID with a key, else nothing
+abbrev pub keyUid : Keys → List ℕ
+keyUid k = cond (isZero (k .kind)) [] (k .uid)
+
+-- a path as GET STATUS answers it
+abbrev pub pathBytes : Path → List ℕ
+pathBytes p = take (p .len) (p .bytes)
+
+-- ---- the table: 01's fields in 01's order
+abbrev pub identityFields : ℕ → Identity → List Field
+identityFields initialised i =
+    field 0x10 (initialised ∷ [])
+    ∷ field 0x11 (i .uid)
+    ∷ field 0x12 (i .«public_key»)
+    ∷ []
+
+abbrev pub secretFields : Pins → Pairing → List Field
+secretFields p q =
+    field 0x20 (p .pin)
+    ∷ field 0x21 (p .puk)
+    ∷ field 0x22 (q .secret)
+    ∷ field 0x23 (p .«pin_tries» ∷ p .«puk_tries» ∷ [])
+    ∷ field 0x24 (slotsBytes (q .slots))
+    ∷ []
+
+abbrev pub keyFields : Keys → List Field
+keyFields k =
+    field 0x30 (k .kind ∷ [])
+    ∷ field 0x31 (keyUid k)
+    ∷ field 0x32 (pathBytes (k .current))
+    ∷ field 0x33 (pathBytes (k .pinless))
+    ∷ []
+
+-- the fields past the identity stand in the record of an initialised card alone
+abbrev pub ownerFields : Card → List Field
+ownerFields c = secretFields (c .pins) (c .pairing) ++ keyFields (c .keys)
+
+unfoldable pub fields : Card → List Field
+fields c =
+    identityFields (c .initialised) (c .identity) ++ cond (isZero (c .initialised)) [] (ownerFields c)
+
+-- the record of a card
+unfoldable pub recordOf : Card → List ℕ
+recordOf c = encodeAll (fields c)

@@ -1,0 +1,84 @@
+// The shape of a card, which the theorems about all cards take as a hypothesis.
+// Every length is in bytes.
+// Proved: every card that code holds has it, by its type alone.
+ghost use mathlib.Core.Path.{_≡_};
+ghost use lib.ListN.{length};
+ghost use Rattle.card.specs.State.{slotCount};
+ghost use Rattle.card.specs.Shape.{KeysLong, Shaped};
+use card::Card;
+use card::Identity;
+use card::Keys;
+use card::Pairing;
+use card::Path;
+use card::Pins;
+use card::Slot;
+
+// Each part as it is, or for the slots how many there are: what counts is what the type says of it.
+fn slot_shaped(s: Slot) -> Slot
+    ensures { λ _. ⌜ length (s .key) ≡ 32 ⌝ }
+{
+    s
+}
+
+fn slots_shaped(slots: [Slot; Card::SLOTS]) -> usize
+    ensures { λ _. ⌜ (length slots ≡ slotCount) × KeysLong slots ⌝ }
+{
+    let mut i = 0;
+    while i < Card::SLOTS {
+        let slot = slots[i];
+        slot_shaped(slot);
+        i += 1;
+    }
+    i
+}
+
+fn path_shaped(p: Path) -> Path
+    ensures { λ _. ⌜ length (p .bytes) ≡ 40 ⌝ }
+{
+    p
+}
+
+fn identity_shaped(i: Identity) -> Identity
+    ensures { λ _. ⌜ (length (i .uid) ≡ 16) × (length (i .«public_key») ≡ 65) ⌝ }
+{
+    i
+}
+
+fn pins_shaped(p: Pins) -> Pins
+    ensures { λ _. ⌜ (length (p .pin) ≡ 6) × (length (p .puk) ≡ 12) ⌝ }
+{
+    p
+}
+
+fn pairing_shaped(p: Pairing) -> Pairing
+    ensures { λ _. ⌜ (length (p .secret) ≡ 32) × (length (p .expected) ≡ 32) ⌝ }
+{
+    p
+}
+
+fn keys_shaped(k: Keys) -> Keys
+    ensures { λ _. ⌜ length (k .uid) ≡ 32 ⌝ }
+{
+    k
+}
+
+// The card as it is.
+pub fn shaped(card: Card) -> Card
+    ensures { λ _. ⌜ Shaped card ⌝ }
+{
+    let identity = card.identity;
+    let pins = card.pins;
+    let pairing = card.pairing;
+    let slots = pairing.slots;
+    let keys = card.keys;
+    let current = keys.current;
+    let pinless = keys.pinless;
+    identity_shaped(identity);
+    pins_shaped(pins);
+    pairing_shaped(pairing);
+    keys_shaped(keys);
+    slots_shaped(slots);
+    path_shaped(current);
+    path_shaped(pinless);
+    card
+}

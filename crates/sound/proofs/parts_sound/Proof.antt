@@ -1,0 +1,30 @@
+-- The test is the definition, line by line: the answers of the tests of the parts are put in their places.
+-- Assumes nothing.
+use borrow.Author.Needs.{needs}
+use Rattle.sound.proofs.parts_sound.Statement.{statement}
+use Rattle.sound.proofs.parts_sound.Tie as tie
+
+pins-sound-requires : tie.Need-pins-sound-requires
+pins-sound-requires c κs = search needs
+
+pairing-sound-requires : tie.Need-pairing-sound-requires
+pairing-sound-requires c κs = search needs
+
+keys-sound-requires : tie.Need-keys-sound-requires
+keys-sound-requires c κs = search needs
+
+channel-sound-requires : tie.Need-channel-sound-requires
+channel-sound-requires c κs = search needs
+
+returns : tie.Need-returns
+returns c = cc
+
+pub parts-sound-spec : {M : Type 1} → statement M
+parts-sound-spec =
+    tie.close
+    (tie.spec
+    pins-sound-requires
+    pairing-sound-requires
+    keys-sound-requires
+    channel-sound-requires
+    returns)

@@ -1,0 +1,25 @@
+-- What RESET answers (01, Operations): the refusal's number or 0, and the next card.
+use Prim.Native.Nat.{ℕ}
+use mathlib.Core.Bool.{cond}
+use Rattle.card.specs.declared.Card.{Card}
+use Rattle.card.specs.State.{resetOf}
+use Rattle.card.specs.Sound.{isSound}
+use Rattle.sound.specs.declared.Answer.{Answer}
+
+-- the numbers of 01's table of refusals
+abbrev pub noRefusal : ℕ
+noRefusal = 0
+
+abbrev pub unsound : ℕ
+unsound = 1
+
+-- refused: the number and the card as given
+abbrev pub refused : ℕ → Card → Answer
+refused n c = record { refusal = n; card = c }
+
+-- not refused: the next card
+abbrev pub done : Card → Answer
+done c = record { refusal = noRefusal; card = c }
+
+unfoldable pub resetAnswer : Card → Answer
+resetAnswer c = cond (isSound c) (done (resetOf c)) (refused unsound c)

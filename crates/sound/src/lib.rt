@@ -1,0 +1,72 @@
+// Whether a card is sound, and RESET, which refuses a card that is not.
+// Proved: the answer is the definition of soundness for every card, whatever its bytes; RESET refuses with 1 or powers up.
+ghost use mathlib.Core.Path.{_≡_};
+ghost use Rattle.card.specs.Sound.{isSound, partsSound, partsBlank};
+ghost use Rattle.sound.specs.Reset.{resetAnswer};
+use card::Card;
+
+// What a call that gives a card answers: the refusal's number, or 0 for none, and the card.
+pub struct Answer {
+    pub refusal: u8,
+    pub card: Card,
+}
+
+// The parts of an initialised card.
+fn parts_sound(card: Card) -> bool
+    ensures { λ r. ⌜ r ≡ partsSound card ⌝ }
+{
+    let pins = card.pins;
+    let pairing = card.pairing;
+    let keys = card.keys;
+    let channel = card.channel;
+    let a = sound_parts::pins_sound(pins);
+    let b = sound_parts::pairing_sound(pairing);
+    let c = sound_parts::keys_sound(keys);
+    let d = sound_parts::channel_sound(channel);
+    let none = pairing.pending == 0;
+    let closed = channel.stage == 0;
+    a & b & c & d & (none | closed)
+}
+
+// The parts of a pre-initialised card.
+fn parts_blank(card: Card) -> bool
+    ensures { λ r. ⌜ r ≡ partsBlank card ⌝ }
+{
+    let pins = card.pins;
+    let pairing = card.pairing;
+    let keys = card.keys;
+    let channel = card.channel;
+    sound_parts::pins_blank(pins)
+        & sound_parts::pairing_blank(pairing)
+        & sound_parts::keys_blank(keys)
+        & sound_parts::channel_blank(channel)
+}
+
+// Whether the card is sound (01, Operations, Sound).
+pub fn sound(card: Card) -> bool
+    ensures { λ r. ⌜ r ≡ isSound card ⌝ }
+{
+    if card.initialised == 0 {
+        return parts_blank(card);
+    }
+    let flag = card.initialised == 1;
+    flag & parts_sound(card)
+}
+
+// RESET (01, Operations): power-up, or refusal 1 and the card as given.
+pub fn reset(card: Card) -> Answer
+    ensures { λ r. ⌜ r ≡ resetAnswer card ⌝ }
+{
+    if sound(card) {
+        let next = card.powered_up();
+        Answer {
+            refusal: card::REFUSAL_NONE,
+            card: next,
+        }
+    } else {
+        Answer {
+            refusal: card::REFUSAL_UNSOUND,
+            card,
+        }
+    }
+}
