@@ -5,15 +5,16 @@ use mathlib.Core.List.{List, [], _∷_, _++_}
 use Prim.Native.Nat.{ℕ, _+_}
 use Rattle.template.specs.Template.{field, fieldBytes}
 use Rattle.template.specs.Der.{derInteger}
+use Rattle.card.specs.State.{version}
 
 -- SELECT before INIT: 80 public key
 abbrev pub preInitialised : List ℕ → List ℕ
 preInitialised key = field 128 key
 
--- SELECT after INIT: A4 holding 8F UID, 80 public key, 02 version 2.0, 02 free slots, 8E key UID or empty
+-- SELECT after INIT: A4 holding 8F UID, 80 public key, 02 the card's version, 02 free slots, 8E key UID or empty
 abbrev pub applicationFields : List ℕ → List ℕ → ℕ → List ℕ → List ℕ
 applicationFields uid key free keyUid =
-    field 143 uid ++ field 128 key ++ field 2 (2 ∷ 0 ∷ []) ++ field 2 (free ∷ []) ++ field 142 keyUid
+    field 143 uid ++ field 128 key ++ field 2 version ++ field 2 (free ∷ []) ++ field 142 keyUid
 
 -- how many bytes those fields take, from the lengths of those that vary
 abbrev pub applicationBytes : ℕ → ℕ → ℕ → ℕ

@@ -9,6 +9,7 @@ ghost use Rattle.template.specs.Template.{field};
 ghost use Rattle.template.specs.Writing.{Wrote};
 ghost use Rattle.answer_templates.specs.Answers.{preInitialised, applicationBytes, applicationFields, applicationInfo};
 ghost use Rattle.answer_templates.specs.Answers.{keyByte, status, pair, signature};
+use card::Card;
 use octets::put;
 use template::TAG_INTEGER;
 use template::TAG_PUBLIC_KEY;
@@ -25,10 +26,6 @@ pub const TAG_INSTANCE_UID: u8 = 0x8F;
 pub const TAG_KEY_UID: u8 = 0x8E;
 
 pub const VERSION_BYTES: usize = 2;
-
-pub const VERSION_MAJOR: u8 = 2;
-
-pub const VERSION_MINOR: u8 = 0;
 
 pub const FREE_SLOTS_BYTES: usize = 1;
 
@@ -88,7 +85,7 @@ fn put_application_fields(
     ensures { λ n. ⌜ Wrote (applicationFields (now (uid .entry)) (now (key .entry)) «free_slots» (now («key_uid» .entry))) at n
         (now (buf .entry)) (now (buf .exit)) ⌝ }
 {
-    let version = [VERSION_MAJOR, VERSION_MINOR];
+    let version = Card::VERSION;
     let free = [free_slots];
     let after_uid = put_field(buf, at, TAG_INSTANCE_UID, uid);
     let after_key = put_field(buf, after_uid, TAG_PUBLIC_KEY, key);

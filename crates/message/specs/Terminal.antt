@@ -16,6 +16,16 @@ pub record Out : Type 0 where
   pub session : Session
   pub bytes : List ℕ
 
+-- the refusals' numbers: the buffer too small, the data too long, the response not genuine
+abbrev pub noRoom : ℕ
+noRoom = 2
+
+abbrev pub tooLong : ℕ
+tooLong = 6
+
+abbrev pub notGenuine : ℕ
+notGenuine = 7
+
 -- a refusal gives back the session and writes nothing
 abbrev pub refused : Session → ℕ → Out
 refused s number = record { refusal = number; session = s; bytes = [] }
@@ -26,8 +36,8 @@ sealedCommand s header data′ = header ++ (lc (length (ciphertext s data′)) �
 
 unfoldable pub sealOut : Session → List ℕ → List ℕ → ℕ → Out
 sealOut s header data′ room =
-    cond (ltb room 261) (refused s 2)
-    (cond (ltb 223 (length data′)) (refused s 6)
+    cond (ltb room 261) (refused s noRoom)
+    (cond (ltb 223 (length data′)) (refused s tooLong)
     (record { refusal = 0; session = withIv s (fieldMac s (commandHead header) data′); bytes = sealedCommand s header data′ }))
 
 -- a response in stage 2: the field of data and status word, then 9000 in the clear
@@ -42,12 +52,12 @@ abbrev pub fieldOf : List ℕ → List ℕ
 fieldOf response = take (length response - 2) response
 
 abbrev pub unsealed : Session → List ℕ → Option (List ℕ) → Out
-unsealed s field none = refused s 7
+unsealed s field none = refused s notGenuine
 unsealed s field (some plain) =
-    cond (ltb (length plain) 2) (refused s 7) (record { refusal = 0; session = withIv s (take 16 field); bytes = plain })
+    cond (ltb (length plain) 2) (refused s notGenuine) (record { refusal = 0; session = withIv s (take 16 field); bytes = plain })
 
 unfoldable pub unsealOut : Session → List ℕ → ℕ → Out
 unsealOut s response room =
-    cond (ltb room 223) (refused s 2)
+    cond (ltb room 223) (refused s noRoom)
     (cond (sameBytes (drop (length response - 2) response) plainSuccess) (unsealed s (fieldOf response) (openField s responseHead (fieldOf response)))
-    (refused s 7))
+    (refused s notGenuine))
