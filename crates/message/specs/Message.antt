@@ -14,7 +14,7 @@ use Rattle.message.specs.declared.Session.{Session}
 use Rattle.message.specs.declared.Opening.{Opening}
 use Rattle.message.specs.declared.Opening.the-variants as opening
 
--- a session as the code holds it: keys of 32 bytes and an IV of 16 bytes. Every value of the code's type is one
+-- a session as the code holds it: keys of 32 bytes and an IV of 16 bytes. Every value of the code's type is one (crate `keyed`)
 pub record Keyed (s : Session) : Type 0 where
   pub enc : Key (s .«enc_key»)
   pub mac : Key (s .«mac_key»)
