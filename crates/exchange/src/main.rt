@@ -4,8 +4,11 @@
 // is proved in the crates below.
 mod card;
 mod content;
+mod damage;
 mod messages;
+mod outcome;
 mod report;
+mod room;
 mod tally;
 
 use message::Session;
@@ -44,5 +47,6 @@ fn main() {
         card: s,
         tally: tally::no_checks(),
     });
-    say_total(e.tally);
+    let damaged = damage::run(e.tally, e.card);
+    say_total(room::run(damaged, e.card));
 }

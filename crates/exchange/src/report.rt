@@ -21,9 +21,13 @@ pub fn say_byte_number(b: u8) {
     say_number(wide(b));
 }
 
+pub fn say_size(n: usize) {
+    say_number(long(n));
+}
+
 // A length, with its unit.
 pub fn say_length(n_bytes: usize) {
-    say_number(long(n_bytes));
+    say_size(n_bytes);
     if n_bytes == 1 {
         say(b" byte");
     } else {

@@ -23,6 +23,13 @@ fn more(n: u64, yes: bool) -> u64 {
     }
 }
 
+fn with_check(t: Tally, holds: bool) -> Tally {
+    Tally {
+        checks: more(t.checks, true),
+        failures: more(t.failures, !holds),
+    }
+}
+
 // One check more; a failure is written.
 pub fn expect(t: Tally, holds: bool, wrong: &[u8]) -> Tally {
     if !holds {
@@ -30,10 +37,27 @@ pub fn expect(t: Tally, holds: bool, wrong: &[u8]) -> Tally {
         report::say(wrong);
         report::say(b"\n");
     }
-    Tally {
-        checks: more(t.checks, true),
-        failures: more(t.failures, !holds),
+    with_check(t, holds)
+}
+
+// The same for one of many numbered checks.
+pub fn expect_at(t: Tally, holds: bool, wrong: &[u8], number: usize) -> Tally {
+    if !holds {
+        report::say(b"\n  FAILED: ");
+        report::say(wrong);
+        report::say_size(number);
+        report::say(b"\n");
     }
+    with_check(t, holds)
+}
+
+// How many of the checks since `before` passed, out of how many.
+pub fn say_passed_since(before: Tally, now: Tally) {
+    let checks = std::num::wrapping_sub_u64(now.checks, before.checks);
+    let failures = std::num::wrapping_sub_u64(now.failures, before.failures);
+    report::say_number(std::num::wrapping_sub_u64(checks, failures));
+    report::say(b" of ");
+    report::say_number(checks);
 }
 
 // One check more, whose outcome ends a line.
