@@ -8,31 +8,14 @@ use crate::report;
 use crate::tally;
 use crate::tally::Tally;
 use message::Session;
-use terminal::REFUSAL_NOT_GENUINE;
 use terminal::SEAL_ROOM_BYTES;
-use terminal::UNSEAL_ROOM_BYTES;
 
-// Whether the card refuses a command, and keeps its session.
-fn card_refuses(s: Session, command: &[u8]) -> bool {
-    let mut plain = [0u8; card::PLAIN_BYTES];
-    let o = card::open_command(s, command, &mut plain);
-    !o.is_open & tally::is_same_session(o.session, s)
-}
-
-// Whether UNSEAL gives refusal 7, and leaves session and buffer as they were.
-fn terminal_refuses(s: Session, response: &[u8]) -> bool {
-    let mut buf = [0u8; UNSEAL_ROOM_BYTES];
-    content::fill_pattern(&mut buf);
-    let o = terminal::unseal(s, response, &mut buf);
-    outcome::is_refusal(o, REFUSAL_NOT_GENUINE, s, &buf)
-}
-
-fn is_refused(s: Session, message: &[u8], is_command: bool) -> bool {
+fn verdict(s: Session, message: &[u8], is_command: bool) -> u8 {
     if is_command {
-        card_refuses(s, message)
-    } else {
-        terminal_refuses(s, message)
+        let mut plain = [0u8; card::PLAIN_BYTES];
+        return outcome::command_verdict(s, card::open_command(s, message, &mut plain));
     }
+    outcome::response_verdict(s, message)
 }
 
 // Changes byte i by the bits of `mask`, tries the message, and changes it back.
@@ -47,7 +30,7 @@ fn try_damaged(
     requires { ⌜ i < length (now message) ⌝ }
 {
     message[i] = message[i] ^ mask;
-    let refused = is_refused(s, message, is_command);
+    let refused = verdict(s, message, is_command) == outcome::REFUSED;
     message[i] = message[i] ^ mask;
     tally::expect_at(
         t,
@@ -78,7 +61,7 @@ fn damage(t: Tally, s: Session, message: &mut [u8], is_command: bool) -> Tally {
     let high = damage_each(low, s, message, is_command, 0x80);
     report::say(b" refused; highest bit: ");
     tally::say_passed_since(low, high);
-    let whole = !is_refused(s, message, is_command);
+    let whole = verdict(s, message, is_command) == outcome::TAKEN;
     tally::judge(
         high,
         whole,

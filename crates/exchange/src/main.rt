@@ -5,6 +5,7 @@
 mod card;
 mod content;
 mod damage;
+mod form;
 mod messages;
 mod outcome;
 mod report;
@@ -48,5 +49,6 @@ fn main() {
         tally: tally::no_checks(),
     });
     let damaged = damage::run(e.tally, e.card);
-    say_total(room::run(damaged, e.card));
+    let formed = form::run(damaged, e.card);
+    say_total(room::run(formed, e.card));
 }

@@ -116,8 +116,15 @@ fn unseal_at_terminal(e: Ends, answer: &[u8], status: [u8; 2], response: &[u8]) 
 
 // The card seals data and a status word, and the terminal unseals the response.
 fn send_response(e: Ends, answer: &[u8], status: [u8; 2]) -> Ends {
+    let terminal = e.terminal;
     if RESPONSE_DATA_MAX_BYTES < answer.len() {
-        return e;
+        let t = tally::expect(e.tally, false, b"the answer is too long");
+        let card = e.card;
+        return Ends {
+            terminal: terminal,
+            card: card,
+            tally: t,
+        };
     }
     report::say_bytes(b"  answer", answer);
     report::say(b"  status word ");
@@ -127,7 +134,6 @@ fn send_response(e: Ends, answer: &[u8], status: [u8; 2]) -> Ends {
     let r = sealing::seal_response(e.card, answer, status[0], status[1], &mut buf);
     let n = content::bounded(r.count, &buf);
     report::say_bytes(b"  response", &buf[..n]);
-    let terminal = e.terminal;
     let card = r.session;
     let t = e.tally;
     unseal_at_terminal(
