@@ -1,4 +1,5 @@
-// One command and one response with one bit changed, in each of their bytes in turn: none is taken. Every length is in bytes.
+// One command and one response with one bit changed, in each of their bytes in turn: none is taken. The header and the field of a
+// command fail by the MAC, its Lc by the command's length, and a response fails by the MAC or by its plain 9000. Every length is in bytes.
 ghost use Prim.Native.Nat.{_<_};
 ghost use lib.ListN.{length};
 use crate::card;
@@ -10,6 +11,7 @@ use crate::tally::Tally;
 use message::Session;
 use terminal::SEAL_ROOM_BYTES;
 
+// What became of a message at the end that got it.
 fn verdict(s: Session, message: &[u8], is_command: bool) -> u8 {
     if is_command {
         let mut plain = [0u8; card::PLAIN_BYTES];
