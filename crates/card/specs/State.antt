@@ -1,7 +1,9 @@
 -- The card's constants, the fresh card, and the card at power-up. Every length is in bytes.
-use Prim.Native.Nat.{ℕ}
-use mathlib.Core.List.{List, [], _∷_}
-use lib.ListN.{replicate}
+use Prim.Native.Nat.{ℕ, _-_}
+use mathlib.Core.Bool.{cond}
+use mathlib.Core.List.{List, [], _∷_, _++_}
+use lib.Dec.{eqb}
+use lib.ListN.{length, take, replicate}
 use Rattle.card.specs.declared.Pins.{Pins}
 use Rattle.card.specs.declared.Slot.{Slot}
 use Rattle.card.specs.declared.Pairing.{Pairing}
@@ -45,6 +47,16 @@ noKeys = record { kind = 0; uid = zeros 32; current = emptyPath; pinless = empty
 
 abbrev pub closedOf : Channel
 closedOf = record { stage = 0; «enc_key» = zeros 32; «mac_key» = zeros 32; iv = zeros 16 }
+
+-- ---- a path as GET STATUS answers it and the record holds it; the path of these bytes, 40 at most; and the key UID with a key, else nothing
+abbrev pub pathBytes : Path → List ℕ
+pathBytes p = take (p .len) (p .bytes)
+
+abbrev pub pathOf : List ℕ → Path
+pathOf s = record { len = length s; bytes = s ++ zeros (40 - length s) }
+
+abbrev pub keyUid : Keys → List ℕ
+keyUid k = cond (eqb (k .kind) 0) [] (k .uid)
 
 -- FRESH (01, Operations): the card with this UID and public key, and all else zero
 abbrev pub freshOf : List ℕ → List ℕ → Card

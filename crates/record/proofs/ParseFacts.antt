@@ -14,12 +14,12 @@ use Rattle.octets.proofs.Lists.{written, _&_}
 use Rattle.card.specs.declared.Slot.{Slot}
 use Rattle.card.specs.declared.Path.{Path}
 use Rattle.card.specs.declared.Keys.{Keys}
-use Rattle.card.specs.State.{zeros}
+use Rattle.card.specs.State.{zeros, keyUid, pathBytes}
 use Rattle.card.specs.Shape.{KeysLong}
 use Rattle.card.specs.Slots.{isZero, allZero}
 use Rattle.card.proofs.Tests.{zero-list}
 use Rattle.card.proofs.Rules.{PathRules}
-use Rattle.record.specs.Fields.{Field, encode, encodeAll, slotsBytes, keyUid, pathBytes}
+use Rattle.record.specs.Fields.{Field, encode, encodeAll, slotsBytes}
 use Rattle.record.specs.Parse.{headLength, body, rest, behind, content, fit, pathFrom, slotsFrom}
 
 -- ---- body and rest of encoded fields

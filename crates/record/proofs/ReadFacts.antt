@@ -14,7 +14,7 @@ use Rattle.octets.specs.Bytes.{sameBytes}
 use Rattle.octets.proofs.Lists.{same-refl, same-eq}
 use Rattle.card.specs.declared.Card.{Card}
 use Rattle.card.specs.declared.Path.{Path}
-use Rattle.card.specs.State.{zeros, freshOf, resetOf}
+use Rattle.card.specs.State.{zeros, freshOf, resetOf, keyUid, pathBytes}
 use Rattle.card.specs.Shape.{Shaped}
 use Rattle.card.specs.Slots.{isZero}
 use Rattle.card.specs.Sound.{isSound}
@@ -23,7 +23,7 @@ use Rattle.card.proofs.Rules.{sound-cases}
 use Rattle.card.proofs.SoundFacts.{fresh-sound, reset-sound, path-lengths}
 use Rattle.sound.specs.declared.Answer.{Answer}
 use Rattle.sound.specs.Reset.{noRefusal, unsound, done, refused}
-use Rattle.record.specs.Fields.{Field, encode, encodeAll, keyUid, pathBytes, identityFields, ownerFields, fields, recordOf}
+use Rattle.record.specs.Fields.{Field, encode, encodeAll, identityFields, ownerFields, fields, recordOf}
 use Rattle.record.specs.Parse.{cardOf}
 use Rattle.record.specs.Answers.{writeRoom, tooSmall, notRecord, writeRefusal, writeBytes, isRecordOf, readAnswer}
 use Rattle.record.proofs.ParseFacts.{slots-long}

@@ -13,12 +13,12 @@ use Rattle.card.specs.declared.Keys.{Keys}
 use Rattle.card.specs.declared.Pins.{Pins}
 use Rattle.card.specs.declared.Pairing.{Pairing}
 use Rattle.card.specs.declared.Card.{Card}
-use Rattle.card.specs.State.{zeros, slotCount, resetOf, closedOf, unverified, notPending}
+use Rattle.card.specs.State.{zeros, slotCount, resetOf, closedOf, unverified, notPending, pathBytes}
 use Rattle.card.specs.Shape.{Shaped}
 use Rattle.card.specs.Slots.{isZero}
 use Rattle.card.specs.Sound.{isSound}
 use Rattle.card.proofs.Rules.{Before, After, KeysRules, parts-rules, keys-rules, blank-rules, sound-cases}
-use Rattle.record.specs.Fields.{Field, encodeAll, slotsBytes, pathBytes, identityFields, ownerFields, fields, recordOf}
+use Rattle.record.specs.Fields.{Field, encodeAll, slotsBytes, identityFields, ownerFields, fields, recordOf}
 use Rattle.record.specs.Parse.{fit, pathFrom, slotsFrom, pinsFrom, pairingFrom, keysFrom, cardFrom, cardOf}
 use Rattle.record.proofs.BlankFacts.{pins-none, pairing-none, keys-none}
 use Rattle.record.proofs.ParseFacts.{firstContent, content-all, fit-exact, path-back, key-back, slots-long, slots-back}

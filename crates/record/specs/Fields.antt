@@ -3,14 +3,14 @@
 use Prim.Native.Nat.{ℕ, _/_, _%_}
 use mathlib.Core.Bool.{cond}
 use mathlib.Core.List.{List, [], _∷_, _++_}
-use lib.ListN.{length, take}
+use lib.ListN.{length}
 use Rattle.card.specs.declared.Identity.{Identity}
 use Rattle.card.specs.declared.Pins.{Pins}
 use Rattle.card.specs.declared.Slot.{Slot}
 use Rattle.card.specs.declared.Pairing.{Pairing}
-use Rattle.card.specs.declared.Path.{Path}
 use Rattle.card.specs.declared.Keys.{Keys}
 use Rattle.card.specs.declared.Card.{Card}
+use Rattle.card.specs.State.{keyUid, pathBytes}
 use Rattle.card.specs.Slots.{isZero}
 
 -- ---- a field: its tag and its content
@@ -34,14 +34,6 @@ encodeAll (f ∷ more) = encode (f .tag) (f .content) ++ encodeAll more
 unfoldable pub slotsBytes : List Slot → List ℕ
 slotsBytes [] = []
 slotsBytes (s ∷ more) = (s .filled ∷ s .key) ++ slotsBytes more
-
--- the key UID with a key, else nothing
-abbrev pub keyUid : Keys → List ℕ
-keyUid k = cond (isZero (k .kind)) [] (k .uid)
-
--- a path as GET STATUS answers it
-abbrev pub pathBytes : Path → List ℕ
-pathBytes p = take (p .len) (p .bytes)
 
 -- ---- the table: 01's fields in 01's order
 abbrev pub identityFields : ℕ → Identity → List Field

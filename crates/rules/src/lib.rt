@@ -1,0 +1,118 @@
+// The rulebook: what a command is, and the definitions of all that the card does with one, from its bytes to its answer.
+// Every length and count is in bytes. The rules stand in specs/; here are the types that the code and the rules share.
+use card::Card;
+
+// The status words (01), as one number of two bytes, SW1 SW2.
+pub const SUCCESS: u16 = 0x9000;
+
+// Tries left: the low digit is their number.
+pub const TRIES_LEFT: u16 = 0x63C0;
+
+pub const WRONG_LENGTH: u16 = 0x6700;
+
+pub const SECURITY_NOT_MET: u16 = 0x6982;
+
+pub const REFERENCE_INVALID: u16 = 0x6984;
+
+pub const CONDITIONS_NOT_MET: u16 = 0x6985;
+
+pub const WRONG_DATA: u16 = 0x6A80;
+
+pub const NOT_FOUND: u16 = 0x6A82;
+
+pub const NO_SPACE: u16 = 0x6A84;
+
+pub const WRONG_PARAMETERS: u16 = 0x6A86;
+
+pub const UNKNOWN_INSTRUCTION: u16 = 0x6D00;
+
+pub const UNKNOWN_CLASS: u16 = 0x6E00;
+
+// The most data that a command's response has, in bytes: with the status word it can be sealed.
+pub const RESPONSE_MAX_BYTES: usize = 221;
+
+// What the class and the instruction byte name.
+pub enum Instruction {
+    Select,
+    Init,
+    Open,
+    Mutual,
+    Pair,
+    Unpair,
+    Status,
+    Verify,
+    Change,
+    Unblock,
+    Load,
+    Derive,
+    Remove,
+    SetPinless,
+    Sign,
+}
+
+// Step 3: the instruction, or which of the two checks fails.
+pub enum Named {
+    Known(Instruction),
+    WrongClass,
+    Unknown,
+}
+
+// GET STATUS, P1 00 and 01: the tries and whether there is a key; the current path.
+pub enum Report {
+    Application,
+    Path,
+}
+
+// CHANGE, P1 00, 01 and 02.
+pub enum Secret {
+    Pin,
+    Puk,
+    Pairing,
+}
+
+// LOAD, P1 01, 02 and 03: a keypair; a keypair with its chain code; a seed of 64 bytes.
+pub enum KeyForm {
+    Keypair,
+    Extended,
+    Seed,
+}
+
+// A command whose P1 and P2 are listed. OPEN and UNPAIR carry the slot's index; GET STATUS, CHANGE and LOAD the choice that P1 makes.
+pub enum Command {
+    Select,
+    Init,
+    Open(u8),
+    Mutual,
+    PairFirst,
+    PairFinal,
+    Unpair(u8),
+    Status(Report),
+    Verify,
+    Change(Secret),
+    Unblock,
+    Load(KeyForm),
+    Derive,
+    Remove,
+    SetPinless,
+    Sign,
+}
+
+// Step 5: the command, or that its P1 and P2 are not listed.
+pub enum Choice {
+    Listed(Command),
+    Unlisted,
+}
+
+// A supply: its kind, 1 to 8, or 0 for none; how many bytes it has; and whether its first byte is a flag.
+pub struct Supply {
+    pub kind: u8,
+    pub bytes: usize,
+    pub flagged: bool,
+}
+
+// What a command's function answers: the status word, how many bytes of response data it wrote from the buffer's start, and the next card.
+pub struct Replied {
+    pub status: u16,
+    pub count: usize,
+    pub card: Card,
+}
