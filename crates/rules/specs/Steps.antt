@@ -175,7 +175,7 @@ atStake ins.SetPinless p1 c = c
 atStake ins.Sign p1 c = c
 
 -- ---- step 5: the P1 that each instruction lists. P2 is 00
-abbrev only : ℕ → ℕ → Command → Option Command
+abbrev pub only : ℕ → ℕ → Command → Option Command
 only n p1 k = cond (eqb p1 n) (some k) none
 
 abbrev pub byP1 : Instruction → ℕ → Option Command

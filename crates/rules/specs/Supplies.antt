@@ -6,7 +6,7 @@ use lib.Dec.{leb, eqb}
 use lib.ListN.{length, take, drop, getD}
 use Rattle.rules.specs.declared.Supply.{Supply}
 
-abbrev supply : ℕ → ℕ → Bool → Supply
+abbrev pub supply : ℕ → ℕ → Bool → Supply
 supply k n f = record { kind = k; bytes = n; flagged = f }
 
 -- kind 0: none is read
