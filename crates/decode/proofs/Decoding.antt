@@ -106,15 +106,17 @@ module _ (cmd : List ℕ) (header : 4 ≤ length cmd) where
     header = header;
     ordered = omega arith;
     within = omega arith;
+    short = omega arith;
     holds = rw (le-ltb (length cmd) 4 header, le-leb (length cmd) 5 h, drop-of-length-le cmd {i = length cmd} (omega arith), take-nil (length cmd - length cmd));
   }
 
-  pub form-data : 5 < length cmd → (lc : ℕ) → lc ≡ getD cmd 4 0 → lcFits lc (length cmd) ≡ true → DataAt cmd 5 (5 + lc)
+  pub form-data : 5 < length cmd → (lc : ℕ) → lc ≡ getD cmd 4 0 → lc < 256 → lcFits lc (length cmd) ≡ true → DataAt cmd 5 (5 + lc)
   unfolding dataOf
-  form-data h lc e f = record {
+  form-data h lc e byte f = record {
     header = header;
     ordered = omega arith;
     within = fits lc (length cmd) f;
+    short = omega (arith, less 5 lc, byte);
     holds = rw (le-ltb (length cmd) 4 header, lt-leb (length cmd) 5 h, ← e, f, less 5 lc);
   }
     where

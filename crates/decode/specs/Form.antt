@@ -8,11 +8,12 @@ use Rattle.rules.specs.Steps.{dataOf}
 use Rattle.decode.specs.declared.Form.{Form}
 use Rattle.decode.specs.declared.Form.the-variants as form
 
--- the header is there, and the data are the bytes from `start` up to `end`
+-- the header is there, and the data, 255 bytes at most, are those from the place `start` up to the place `stop`
 pub record DataAt (cmd : List ℕ) (start stop : ℕ) : Type 0 where
   pub header : 4 ≤ length cmd
   pub ordered : start ≤ stop
   pub within : stop ≤ length cmd
+  pub short : stop - start ≤ 255
   pub holds : dataOf cmd ≡ some (take (stop - start) (drop start cmd))
 
 -- a place for the data, or 6700

@@ -26,7 +26,7 @@ add-t8 : tie.Need-add-t8
 add-t8 c = omega (arith, c .before .before .wide .ensures, c .before .before .before .shared-slice-known2 .given 4)
 
 returns-3 : tie.Need-returns-3
-returns-3 c = form-data (c .before .before .before .before .before .before .before .args .cmd .now) (c .before .before .before .before .before .if1 .left) (c .before .before .before .before .if2 .left) (c .before .before .wide .result) (c .before .before .wide .ensures) (sym (c .before .lc-fits .ensures) ∙ c .if3 .taken)
+returns-3 c = form-data (c .before .before .before .before .before .before .before .args .cmd .now) (c .before .before .before .before .before .if1 .left) (c .before .before .before .before .if2 .left) (c .before .before .wide .result) (c .before .before .wide .ensures) (omega (arith, c .before .before .wide .ensures, c .before .before .before .shared-slice-known2 .given 4)) (sym (c .before .lc-fits .ensures) ∙ c .if3 .taken)
 
 returns-4 : tie.Need-returns-4
 returns-4 c = form-wrong (c .before .before .before .before .before .before .before .args .cmd .now) (c .before .before .before .before .before .if1 .left) (c .before .before .before .before .if2 .left) (c .before .before .wide .result) (c .before .before .wide .ensures) (sym (c .before .lc-fits .ensures) ∙ c .if3 .left)

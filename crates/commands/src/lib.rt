@@ -1,0 +1,69 @@
+// Any command, once it is decoded: the status word of its checks, and its reply.
+// Every length is in bytes.
+// Proved: for every command, the answer is the one that the rulebook's table gives it.
+ghost use mathlib.Core.Path.{_≡_};
+ghost use Prim.Native.Nat.{_≤_};
+ghost use lib.ListN.{length};
+ghost use Rattle.rules.specs.Words.{success, verdict, reportOf, Replies};
+ghost use Rattle.rules.specs.Supplies.{suits};
+ghost use Rattle.rules.specs.Commands.{checksOf, supplyOf, replyOf};
+ghost use Rattle.commands.specs.Fits.{InRange, PathsFit};
+use card::Card;
+use rules::Command;
+use rules::Replied;
+
+// Step 6: the status word of the first check that does not hold, or 9000.
+pub fn judge(card: Card, k: Command, data: &[u8]) -> u16
+    requires { ⌜ InRange k × PathsFit (card .keys) ⌝ }
+    ensures { λ r. ⌜ r ≡ verdict (checksOf k card (now («data» .entry))) ⌝ }
+{
+    let pins = card.pins;
+    let pairing = card.pairing;
+    let slots = pairing.slots;
+    let keys = card.keys;
+    let stage = card.channel.stage;
+    match k {
+        Command::Select => plain_commands::select_verdict(data),
+        Command::Init => init_command::init_verdict(data),
+        Command::Open(slot) => plain_commands::open_verdict(slots, slot, data),
+        Command::Mutual => pin_commands::mutual_verdict(stage, data),
+        Command::PairFirst => plain_commands::pair_first_verdict(pairing, stage, data),
+        Command::PairFinal => plain_commands::pair_final_verdict(pairing, stage, data),
+        Command::Unpair(_) => pin_commands::unpair_verdict(pins),
+        Command::Status(_) => rules::SUCCESS,
+        Command::Verify => pin_commands::verify_verdict(pins),
+        Command::Change(which) => pin_commands::change_verdict(pins, which, data),
+        Command::Unblock => pin_commands::unblock_verdict(pins, data),
+        Command::Load(form) => key_commands::load_verdict(pins, form, data),
+        Command::Derive => key_commands::derive_verdict(pins, keys, data),
+        Command::Remove => key_commands::remove_verdict(pins),
+        Command::SetPinless => key_commands::pinless_verdict(pins, data),
+        Command::Sign => key_commands::sign_verdict(pins, keys, data),
+    }
+}
+
+// Past the checks: the reply, with its response data from the start of `out`.
+pub fn act(card: Card, k: Command, data: &[u8], supply: &[u8], out: &mut [u8]) -> Replied
+    requires { ⌜ (verdict (checksOf k card (now «data»)) ≡ success) × (suits (supplyOf k) (now supply) ≡ true) ⌝ }
+    requires { ⌜ InRange k × PathsFit (card .keys) × (221 ≤ length (now out)) ⌝ }
+    ensures { λ r. ⌜ Replies (replyOf k card (now («data» .entry)) (now (supply .entry))) r (now (out .entry)) (now (out .exit)) ⌝ }
+{
+    match k {
+        Command::Select => plain_commands::select(card, out),
+        Command::Init => init_command::init(card, data, supply),
+        Command::Open(_) => plain_commands::open(card, supply, out),
+        Command::Mutual => pin_commands::mutual(card, supply, out),
+        Command::PairFirst => plain_commands::pair_first(card, supply, out),
+        Command::PairFinal => plain_commands::pair_final(card, supply, out),
+        Command::Unpair(slot) => pin_commands::unpair(card, slot),
+        Command::Status(which) => pin_commands::status(card, which, out),
+        Command::Verify => pin_commands::verify(card, data),
+        Command::Change(which) => pin_commands::change(card, which, data),
+        Command::Unblock => pin_commands::unblock(card, data),
+        Command::Load(form) => key_commands::load(card, form, supply, out),
+        Command::Derive => key_commands::derive(card, data, supply),
+        Command::Remove => key_commands::remove(card),
+        Command::SetPinless => key_commands::pinless(card, data),
+        Command::Sign => key_commands::sign(card, supply, out),
+    }
+}

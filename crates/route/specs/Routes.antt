@@ -1,0 +1,54 @@
+-- What a route stands for: a decision of the rulebook. Every length is in bytes.
+use Prim.Native.Nat.{ℕ}
+use mathlib.Core.Path.{_≡_}
+use mathlib.Core.Bool.{Bool, true, false, cond}
+use mathlib.Core.List.{List}
+use lib.ListN.{length, take}
+use Rattle.card.specs.declared.Card.{Card}
+use Rattle.rules.specs.declared.Instruction.{Instruction}
+use Rattle.rules.specs.declared.Command.{Command}
+use Rattle.rules.specs.declared.Command.the-variants as command
+use Rattle.rules.specs.Words.{success, verdict, Reply, fails}
+use Rattle.rules.specs.Steps.{headerOf, p1Of, p2Of}
+use Rattle.rules.specs.Commands.{checksOf, supplyOf, replyOf}
+use Rattle.rules.specs.Engine.{Told, plainly, overChannel, Decision, ends, byOpening, sessionOf}
+use Rattle.message.specs.Message.{commandHead, openField}
+use Rattle.commands.specs.Fits.{InRange, PathsFit}
+use Rattle.route.specs.declared.Route.{Route}
+
+-- how the answer goes out
+abbrev pub tellBy : Bool → Reply → Told
+tellBy true = overChannel
+tellBy false = plainly
+
+-- a route that ends
+abbrev pub endsWith : Bool → Card → ℕ → Route
+endsWith over c w = record { goes = false; over = over; status = w; count = 0; command = command.Select; card = c }
+
+-- the decision that a route and the command's data stand for
+abbrev pub decisionOf : Route → List ℕ → Decision
+decisionOf r d =
+    cond (r .goes)
+    (record { supply = supplyOf (r .command); data′ = d; answer = λ s. tellBy (r .over) (replyOf (r .command) (r .card) d s) })
+    (ends (tellBy (r .over) (fails (r .card) (r .status))))
+
+-- what a route that goes on rests on: the command's checks hold, its slot's index is one, and the data have the length told
+pub record Ready (r : Route) (d : List ℕ) : Type 0 where
+  pub judged : verdict (checksOf (r .command) (r .card) d) ≡ success
+  pub inrange : InRange (r .command)
+  pub long : length d ≡ r .count
+
+-- the route stands for this decision, the command's data being d
+pub record Routes (want : Decision) (r : Route) (d : List ℕ) : Type 0 where
+  pub decides : want ≡ decisionOf r d
+  pub ready : r .goes ≡ true → Ready r d
+  pub paths : PathsFit (r .card .keys)
+
+-- the same, where the data stand at the start of `plain`
+abbrev pub RoutesIn : Decision → Route → List ℕ → Type 0
+RoutesIn want r plain = Routes want r (take (r .count) plain)
+
+-- step 4 past the stage
+abbrev pub opening : Instruction → List ℕ → Card → List ℕ → Decision
+opening i cmd c field =
+    byOpening i (p1Of cmd) (p2Of cmd) c field (openField (sessionOf (c .channel)) (commandHead (headerOf cmd)) field)
