@@ -1,5 +1,5 @@
 // The commands about PIN and PUK, and three small ones: VERIFY, CHANGE, UNBLOCK, UNPAIR, GET STATUS and MUTUAL.
-// Every length and count is in bytes. A verdict decides the status word of step 6 from parts of the card; the reply is made where it is 9000.
+// Every length and count is in bytes. A verdict is the status word of step 6, from parts of the card; the reply is made where it is 9000.
 // Proved: each verdict and each reply is what the command's rule gives, for every card and all data.
 ghost use mathlib.Core.Path.{_≡_};
 ghost use mathlib.Core.Bool.{true};

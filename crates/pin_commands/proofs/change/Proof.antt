@@ -10,7 +10,9 @@ enum-told : tie.Need-enum-told
 enum-told c = search needs
 
 pin-of-requires : tie.Need-pin-of-requires
-pin-of-requires c κs = pin-long (c .before .before .before .before .before .args .«data» .now) (rw (c .enum-told .given .1) at (change-form _ _ _ (c .before .before .before .before .before .pre)))
+pin-of-requires c κs =
+    let b5 = c .before .before .before .before .before in
+    pin-long (b5 .args .«data» .now) (rw (c .enum-told .given .1) at (change-form _ _ _ (b5 .pre)))
 
 with-pin-requires : tie.Need-with-pin-requires
 with-pin-requires c κs = search needs
@@ -19,7 +21,9 @@ enum-told-2 : tie.Need-enum-told-2
 enum-told-2 c = search needs
 
 puk-of-requires : tie.Need-puk-of-requires
-puk-of-requires c κs = puk-long (c .before .before .before .before .before .args .«data» .now) (rw (c .enum-told2 .given .1) at (change-form _ _ _ (c .before .before .before .before .before .pre)))
+puk-of-requires c κs =
+    let b5 = c .before .before .before .before .before in
+    puk-long (b5 .args .«data» .now) (rw (c .enum-told2 .given .1) at (change-form _ _ _ (b5 .pre)))
 
 with-puk-requires : tie.Need-with-puk-requires
 with-puk-requires c κs = search needs
@@ -28,7 +32,9 @@ enum-told-3 : tie.Need-enum-told-3
 enum-told-3 c = search needs
 
 secret-of-requires : tie.Need-secret-of-requires
-secret-of-requires c κs = secret-long (c .before .before .before .before .before .args .«data» .now) (rw (c .enum-told3 .given .1) at (change-form _ _ _ (c .before .before .before .before .before .pre)))
+secret-of-requires c κs =
+    let b5 = c .before .before .before .before .before in
+    secret-long (b5 .args .«data» .now) (rw (c .enum-told3 .given .1) at (change-form _ _ _ (b5 .pre)))
 
 with-secret-requires : tie.Need-with-secret-requires
 with-secret-requires c κs = search needs

@@ -27,7 +27,9 @@ digits-requires : tie.Need-digits-requires
 digits-requires c κs = search needs
 
 returns-2 : tie.Need-returns-2
-returns-2 c = rw (eq-eqb _ _ (c .before .before .if1 .left)) (c .digits .ensures ∙ ap (λ (l : List ℕ). allOf isDigit l) (behind-puk (c .before .before .before .before .args .«data» .now)))
+returns-2 c =
+    rw (eq-eqb _ _ (c .before .before .if1 .left))
+    (c .digits .ensures ∙ ap (λ (l : List ℕ). allOf isDigit l) (behind-puk (c .before .before .before .before .args .«data» .now)))
 
 pub is-unblocking-spec : {M : Type 1} → statement M
 is-unblocking-spec =

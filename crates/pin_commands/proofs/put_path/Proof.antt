@@ -16,7 +16,10 @@ array-share-prefix-bytes : tie.Need-array-share-prefix-bytes
 array-share-prefix-bytes c = let l : length (c .before .before .before .before .args .path .bytes) ≡ 40 = search needs in omega arith
 
 slice-aggregate-put : tie.Need-slice-aggregate-put
-slice-aggregate-put c = sym (length-take-le (c .before .before .wide .result) (c .before .before .before .before .before .args .path .bytes) (array-share-prefix-bytes (c .before)))
+slice-aggregate-put c =
+    let b2 = c .before .before in
+    let b5 = b2 .before .before .before in
+    sym (length-take-le (b2 .wide .result) (b5 .args .path .bytes) (array-share-prefix-bytes (c .before)))
 
 put-requires : tie.Need-put-requires
 put-requires c κs = omega (arith, slice-aggregate-put c)
@@ -25,7 +28,11 @@ same-length : tie.Need-same-length
 same-length c = search needs
 
 returns : tie.Need-returns
-returns c = path-wrote _ _ _ _ (c .before .before .before .before .before .wide .ensures) (array-share-prefix-bytes (c .before .before .before .before)) (omega (arith, c .before .before .before .before .before .wide .ensures, c .before .before .before .before .before .before .before .before .pre .0, c .before .before .before .before .before .before .before .before .pre .1)) (c .before .before .put .ensures)
+returns c =
+    let b5 = c .before .before .before .before .before in
+    let b8 = b5 .before .before .before in
+    path-wrote _ _ _ _ (b5 .wide .ensures) (array-share-prefix-bytes (c .before .before .before .before))
+    (omega (arith, b5 .wide .ensures, b8 .pre .0, b8 .pre .1)) (c .before .before .put .ensures)
 
 pub put-path-spec : {M : Type 1} → statement M
 put-path-spec =

@@ -18,21 +18,25 @@ enum-told-2 : tie.Need-enum-told-2
 enum-told-2 c = search needs
 
 put-path-requires : tie.Need-put-path-requires
-put-path-requires c κs = (path-lengths _ (c .before .before .before .before .before .before .before .pre .1) .0, omega (arith, c .before .before .before .before .before .before .before .pre .0))
+put-path-requires c κs =
+    let p = c .before .before .before .before .before .before .before .pre in
+    (path-lengths _ (p .1) .0, omega (arith, p .0))
 
 same-length : tie.Need-same-length
 same-length c = search needs
 
 returns : tie.Need-returns
 unfolding statusReply
-returns c = rw (c .before .before .before .before .enum-told .given .1) (wrote-replies _ _ _ _ _ (c .before .before .put-application .ensures))
+returns c =
+    rw (c .before .before .before .before .enum-told .given .1) (wrote-replies _ _ _ _ _ (c .before .before .put-application .ensures))
 
 same-length-2 : tie.Need-same-length-2
 same-length-2 c = search needs
 
 returns-2 : tie.Need-returns-2
 unfolding statusReply
-returns-2 c = rw (c .before .before .before .before .before .enum-told2 .given .1) (wrote-replies _ _ _ _ _ (c .before .before .put-path .ensures))
+returns-2 c =
+    rw (c .before .before .before .before .before .enum-told2 .given .1) (wrote-replies _ _ _ _ _ (c .before .before .put-path .ensures))
 
 pub status-spec : {M : Type 1} → statement M
 status-spec =

@@ -28,7 +28,12 @@ tries-left-requires c κs = search needs
 
 returns-2 : tie.Need-returns-2
 unfolding verifyReply verifyBy
-returns-2 c = rw (sym (c .before .before .before .same .ensures) ∙ c .before .before .if1 .left, c .tries-left .ensures, c .before .pin-wrong .ensures)
+returns-2 c =
+    rw (
+      sym (c .before .before .before .same .ensures) ∙ c .before .before .if1 .left,
+      c .tries-left .ensures,
+      c .before .pin-wrong .ensures,
+    )
 
 pub verify-spec : {M : Type 1} → statement M
 verify-spec =
