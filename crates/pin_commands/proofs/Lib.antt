@@ -1,0 +1,4 @@
+pub mod CheckFacts
+pub mod VerdictFacts
+pub mod ReplyFacts
+pub mod Laws
