@@ -16,7 +16,7 @@ use Rattle.card.specs.State.{zeros, pathOf, withKeys, noKeys}
 use Rattle.answer_templates.specs.Answers.{signature}
 use Rattle.rules.specs.declared.KeyForm.{KeyForm}
 use Rattle.rules.specs.declared.Replied.{Replied}
-use Rattle.rules.specs.Words.{success, wrongData, referenceInvalid, Reply, reportOf, Replies}
+use Rattle.rules.specs.Words.{success, wrongData, referenceInvalid, succeeds, reportOf, Replies}
 use Rattle.rules.specs.Supplies.{saysYes, loadUid, signKey, signR, signS}
 use Rattle.rules.specs.Commands.{kindOf, keyWith, withCurrent, withPinless, loadReply, deriveReply, removeReply, pinlessReply, signReply}
 use Rattle.key_commands.proofs.SupplyFacts.{part-length}
@@ -55,41 +55,40 @@ module _ (c : Card) (form : KeyForm) (s : List ℕ) where
         left = ea ∙ written-first before (loadUid s);
       })
 
--- ---- DERIVE
+-- ---- DERIVE: path, keys, next and r are what the calls that make them give
 module _ (c : Card) (d s : List ℕ) where
-  pub derive-no : saysYes s ≡ false → _≡_ {A = Replied} (record { status = referenceInvalid; count = 0; card = c }) (reportOf (deriveReply c d s))
+  pub derive-no : saysYes s ≡ false
+      → _≡_ {A = Replied} (record { status = referenceInvalid; count = 0; card = c }) (reportOf (deriveReply c d s))
   unfolding deriveReply
   derive-no e = rw e
 
-  pub derive-yes : (path : Path) (keys : Keys) (next : Card) → saysYes s ≡ true
-      → path ≡ pathOf d → keys ≡ withCurrent (c .keys) path → next ≡ withKeys c keys
-      → _≡_ {A = Replied} (record { status = success; count = 0; card = next }) (reportOf (deriveReply c d s))
+  pub derive-yes : (path : Path) (keys : Keys) (next : Card) (r : Replied) → saysYes s ≡ true
+      → path ≡ pathOf d → keys ≡ withCurrent (c .keys) path → next ≡ withKeys c keys → r ≡ reportOf (succeeds next [])
+      → r ≡ reportOf (deriveReply c d s)
   unfolding deriveReply
-  derive-yes path keys next e ep ek en =
+  derive-yes path keys next r e ep ek en er =
       rw e
-      (ap {B = Replied} (λ x. record { status = success; count = 0; card = x })
-      (en ∙ ap (withKeys c) (ek ∙ ap (withCurrent (c .keys)) ep)))
+      (er ∙ ap {B = Replied} (λ x. reportOf (succeeds x [])) (en ∙ ap (withKeys c) (ek ∙ ap (withCurrent (c .keys)) ep)))
 
 -- ---- REMOVE
-pub removed : (c next : Card) → next ≡ withKeys c noKeys
-    → _≡_ {A = Replied} (record { status = success; count = 0; card = next }) (reportOf (removeReply c))
+pub remove-done : (c : Card) (keys : Keys) (next : Card) (r : Replied) → keys ≡ noKeys → next ≡ withKeys c keys
+    → r ≡ reportOf (succeeds next []) → r ≡ reportOf (removeReply c)
 unfolding removeReply
-removed c next en = ap {B = Replied} (λ x. record { status = success; count = 0; card = x }) en
+remove-done c keys next r ek en er = er ∙ ap {B = Replied} (λ x. reportOf (succeeds x [])) (en ∙ ap (withKeys c) ek)
 
 -- ---- SET PIN-LESS PATH
-pub pinless-set : (c : Card) (d : List ℕ) (path : Path) (keys : Keys) (next : Card)
-    → path ≡ pathOf d → keys ≡ withPinless (c .keys) path → next ≡ withKeys c keys
-    → _≡_ {A = Replied} (record { status = success; count = 0; card = next }) (reportOf (pinlessReply c d))
+pub pinless-done : (c : Card) (d : List ℕ) (path : Path) (keys : Keys) (next : Card) (r : Replied)
+    → path ≡ pathOf d → keys ≡ withPinless (c .keys) path → next ≡ withKeys c keys → r ≡ reportOf (succeeds next [])
+    → r ≡ reportOf (pinlessReply c d)
 unfolding pinlessReply
-pinless-set c d path keys next ep ek en =
-    ap {B = Replied} (λ x. record { status = success; count = 0; card = x })
-    (en ∙ ap (withKeys c) (ek ∙ ap (withPinless (c .keys)) ep))
+pinless-done c d path keys next r ep ek en er =
+    er ∙ ap {B = Replied} (λ x. reportOf (succeeds x [])) (en ∙ ap (withKeys c) (ek ∙ ap (withPinless (c .keys)) ep))
 
 -- ---- SIGN
-pub signed : (c : Card) (s before after : List ℕ) (n : ℕ) → Wrote (signature (signKey s) (signR s) (signS s)) 0 n before after
+pub sign-done : (c : Card) (s before after : List ℕ) (n : ℕ) → Wrote (signature (signKey s) (signR s) (signS s)) 0 n before after
     → Replies (signReply c s) (record { status = success; count = n; card = c }) before after
 unfolding signReply
-signed c s before after n w =
+sign-done c s before after n w =
     let t = signature (signKey s) (signR s) (signS s) in
     record {
       told = ap {B = Replied} (λ k. record { status = success; count = k; card = c }) (w .place ∙ zero-add (length t));

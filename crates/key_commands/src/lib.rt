@@ -2,12 +2,13 @@
 // from the parts of the card that they read, and one that makes the reply. Every length is in bytes.
 // Proved: each is what the command's definition in the rulebook gives, for every card, data and supply.
 ghost use mathlib.Core.Bool.{true};
+ghost use mathlib.Core.List.{[], _∷_};
 ghost use mathlib.Core.Path.{_≡_};
 ghost use Prim.Native.Nat.{_≤_};
 ghost use lib.ListN.{length};
 ghost use Rattle.octets.specs.Bytes.{sameBytes};
 ghost use Rattle.card.specs.State.{pathOf, pathBytes, withKeys};
-ghost use Rattle.rules.specs.Words.{success, verdict, reportOf, Replies};
+ghost use Rattle.rules.specs.Words.{success, conditionsNotMet, wrongData, must, verdict, succeeds, reportOf, Replies};
 ghost use Rattle.rules.specs.Supplies.{suits, saysYes, loadSupply, deriveSupply, signSupply};
 ghost use Rattle.rules.specs.Commands.{isPath, isKeyData, kindOf, keyWith, withCurrent, withPinless, onPinlessPath};
 ghost use Rattle.rules.specs.Commands.{loadChecks, loadReply, deriveChecks, deriveReply, removeChecks, removeReply};
@@ -30,6 +31,8 @@ pub const SEED_BYTES: usize = 64;
 pub const HASH_BYTES: usize = 32;
 
 // The kinds of key.
+pub const KIND_NONE: u8 = 0;
+
 pub const KIND_KEY: u8 = 1;
 
 pub const KIND_EXTENDED: u8 = 2;
@@ -75,6 +78,30 @@ fn with_keys(mut card: Card, keys: Keys) -> Card
     card
 }
 
+// The status word of a command's two checks in their order: its preconditions, then its data.
+fn checked(conditions: bool, right: bool) -> u16
+    ensures { λ r. ⌜ r ≡ verdict (must conditions conditionsNotMet ∷ must right wrongData ∷ []) ⌝ }
+{
+    if !conditions {
+        return rules::CONDITIONS_NOT_MET;
+    }
+    if !right {
+        return rules::WRONG_DATA;
+    }
+    rules::SUCCESS
+}
+
+// Success without response data, leaving this card.
+fn done(card: Card) -> Replied
+    ensures { λ r. ⌜ r ≡ reportOf (succeeds card []) ⌝ }
+{
+    Replied {
+        status: rules::SUCCESS,
+        count: 0,
+        card,
+    }
+}
+
 // Whether a supply's flag says yes.
 fn says_yes(supply: &[u8]) -> bool
     requires { ⌜ 1 ≤ length (now supply) ⌝ }
@@ -104,7 +131,7 @@ fn kind_of(form: KeyForm) -> u8
     }
 }
 
-// A key with this UID, both paths empty.
+// Keys of this kind and UID, both paths empty.
 fn key_with(kind: u8, uid: &[u8]) -> Keys
     requires { ⌜ length (now uid) ≡ 32 ⌝ }
     ensures { λ r. ⌜ r ≡ keyWith kind (now (uid .entry)) ⌝ }
@@ -126,13 +153,9 @@ fn key_with(kind: u8, uid: &[u8]) -> Keys
 pub fn load_verdict(pins: Pins, form: KeyForm, data: &[u8]) -> u16
     ensures { λ r. ⌜ r ≡ verdict (loadChecks pins form (now («data» .entry))) ⌝ }
 {
-    if pins.verified == 0 {
-        return rules::CONDITIONS_NOT_MET;
-    }
-    if !is_key_data(form, data) {
-        return rules::WRONG_DATA;
-    }
-    rules::SUCCESS
+    let verified = pins.verified != 0;
+    let key_data = is_key_data(form, data);
+    checked(verified, key_data)
 }
 
 pub fn load(card: Card, form: KeyForm, supply: &[u8], out: &mut [u8]) -> Replied
@@ -149,11 +172,11 @@ pub fn load(card: Card, form: KeyForm, supply: &[u8], out: &mut [u8]) -> Replied
     let uid = &supply[1..UID_END];
     octets::put(out, 0, uid);
     let keys = key_with(kind_of(form), uid);
-    let next = with_keys(card, keys);
+    let loaded = with_keys(card, keys);
     Replied {
         status: rules::SUCCESS,
         count: card::KEY_BYTES,
-        card: next,
+        card: loaded,
     }
 }
 
@@ -165,13 +188,8 @@ pub fn derive_verdict(pins: Pins, keys: Keys, data: &[u8]) -> u16
     let verified = pins.verified != 0;
     let set = pinless.len != 0;
     let extended = keys.kind == KIND_EXTENDED;
-    if !((verified | set) & extended) {
-        return rules::CONDITIONS_NOT_MET;
-    }
-    if !is_path(data) {
-        return rules::WRONG_DATA;
-    }
-    rules::SUCCESS
+    let path = is_path(data);
+    checked((verified | set) & extended, path)
 }
 
 // The keys with this current path.
@@ -195,12 +213,8 @@ pub fn derive(card: Card, data: &[u8], supply: &[u8]) -> Replied
     }
     let path = path_of(data);
     let keys = with_current(card.keys, path);
-    let next = with_keys(card, keys);
-    Replied {
-        status: rules::SUCCESS,
-        count: 0,
-        card: next,
-    }
+    let derived = with_keys(card, keys);
+    done(derived)
 }
 
 // ---- REMOVE
@@ -216,35 +230,19 @@ pub fn remove_verdict(pins: Pins) -> u16
 pub fn remove(card: Card) -> Replied
     ensures { λ r. ⌜ r ≡ reportOf (removeReply card) ⌝ }
 {
-    let empty = Path {
-        len: 0,
-        bytes: [0; card::PATH_MAX_BYTES],
-    };
-    let keys = Keys {
-        kind: 0,
-        uid: [0; card::KEY_BYTES],
-        current: empty,
-        pinless: empty,
-    };
-    let next = with_keys(card, keys);
-    Replied {
-        status: rules::SUCCESS,
-        count: 0,
-        card: next,
-    }
+    let uid = [0u8; card::KEY_BYTES];
+    let keys = key_with(KIND_NONE, &uid);
+    let removed = with_keys(card, keys);
+    done(removed)
 }
 
 // ---- SET PIN-LESS PATH
 pub fn pinless_verdict(pins: Pins, data: &[u8]) -> u16
     ensures { λ r. ⌜ r ≡ verdict (pinlessChecks pins (now («data» .entry))) ⌝ }
 {
-    if pins.verified == 0 {
-        return rules::CONDITIONS_NOT_MET;
-    }
-    if !is_path(data) {
-        return rules::WRONG_DATA;
-    }
-    rules::SUCCESS
+    let verified = pins.verified != 0;
+    let path = is_path(data);
+    checked(verified, path)
 }
 
 // The keys with this PIN-less path.
@@ -261,12 +259,8 @@ pub fn pinless(card: Card, data: &[u8]) -> Replied
 {
     let path = path_of(data);
     let keys = with_pinless(card.keys, path);
-    let next = with_keys(card, keys);
-    Replied {
-        status: rules::SUCCESS,
-        count: 0,
-        card: next,
-    }
+    let set = with_keys(card, keys);
+    done(set)
 }
 
 // ---- SIGN
@@ -301,13 +295,8 @@ pub fn sign_verdict(pins: Pins, keys: Keys, data: &[u8]) -> u16
     let some = keys.kind != 0;
     let verified = pins.verified != 0;
     let pinless = on_pinless_path(keys);
-    if !(some & (verified | pinless)) {
-        return rules::CONDITIONS_NOT_MET;
-    }
-    if data.len() != HASH_BYTES {
-        return rules::WRONG_DATA;
-    }
-    rules::SUCCESS
+    let hash = data.len() == HASH_BYTES;
+    checked(some & (verified | pinless), hash)
 }
 
 pub fn sign(card: Card, supply: &[u8], out: &mut [u8]) -> Replied

@@ -1,39 +1,30 @@
+-- By cases on the form, each with its own test.
+-- Assumes nothing.
 use borrow.Author.Needs.{needs}
 use Rattle.key_commands.proofs.is_key_data.Statement.{statement}
 use Rattle.key_commands.proofs.is_key_data.Tie as tie
-use Rattle.key_commands.proofs.is_key_data.Reads as reads
-use Rattle.key_commands.proofs.is_key_data.Lts as lts
-use Rattle.keypair.proofs.is_keypair.Reads as is-keypair-reads
 
--- src/lib.rt:90:29
 enum-told : tie.Need-enum-told
 enum-told c = search needs
 
--- src/lib.rt:90:29
 is-keypair-requires : tie.Need-is-keypair-requires
 is-keypair-requires c κs = search needs
 
--- src/lib.rt:91:30
 enum-told-2 : tie.Need-enum-told-2
 enum-told-2 c = search needs
 
--- src/lib.rt:91:30
 is-keypair-requires-2 : tie.Need-is-keypair-requires-2
 is-keypair-requires-2 c κs = search needs
 
--- src/lib.rt:92:26
 enum-told-3 : tie.Need-enum-told-3
 enum-told-3 c = search needs
 
--- src/lib.rt:86:1
 returns : tie.Need-returns
 returns c = rw (c .before .enum-told .given .1) (c .is-keypair .ensures)
 
--- src/lib.rt:86:1
 returns-2 : tie.Need-returns-2
 returns-2 c = rw (c .before .enum-told2 .given .1) (c .is-keypair2 .ensures)
 
--- src/lib.rt:86:1
 returns-3 : tie.Need-returns-3
 returns-3 c = rw (c .enum-told3 .given .1)
 

@@ -1,18 +1,32 @@
-use Rattle.key_commands.proofs.KeyReplies.{removed}
+-- The keys are those of a card without a key, by `remove-done`.
+-- Assumes nothing.
 use borrow.Author.Needs.{needs}
+use Rattle.key_commands.proofs.KeyReplies.{remove-done}
 use Rattle.key_commands.proofs.remove.Statement.{statement}
 use Rattle.key_commands.proofs.remove.Tie as tie
-use Rattle.key_commands.proofs.remove.Reads as reads
-use Rattle.key_commands.proofs.remove.Lts as lts
-use Rattle.key_commands.proofs.with_keys.Reads as with-keys-reads
 
--- src/lib.rt:228:9
+slice-aggregate-key-with : tie.Need-slice-aggregate-key-with
+slice-aggregate-key-with c = search needs
+
+key-with-requires : tie.Need-key-with-requires
+key-with-requires c κs = search needs
+
 with-keys-requires : tie.Need-with-keys-requires
 with-keys-requires c κs = search needs
 
--- src/lib.rt:215:1
+done-requires : tie.Need-done-requires
+done-requires c κs = search needs
+
 returns : tie.Need-returns
-returns c = removed _ _ (c .with-keys .ensures)
+returns c =
+    remove-done (c .before .before .before .before .args .card) _ _ _ (c .before .before .key-with .ensures) (c .before .with-keys .ensures) (c .done .ensures)
 
 pub remove-spec : {M : Type 1} → statement M
-remove-spec = tie.close (tie.spec with-keys-requires returns)
+remove-spec =
+    tie.close
+    (tie.spec
+    slice-aggregate-key-with
+    key-with-requires
+    with-keys-requires
+    done-requires
+    returns)
