@@ -2,8 +2,8 @@
 -- Assumes nothing.
 use mathlib.Core.Path.{_≡_, refl, sym, ap, ap₂, _∙_}
 use mathlib.Core.Bool.{true, false}
-use mathlib.Core.List.{List, [], _∷_, _++_}
-use Prim.Native.Nat.{ℕ, zero, suc, _+_, _-_, _≤_}
+use mathlib.Core.List.{List, [], _++_}
+use Prim.Native.Nat.{ℕ, zero, suc, _+_, _-_}
 use native.Mathlib.Nat.{zero-add, sub-zero, zero-sub, suc-sub-suc}
 use native.Mathlib.Omega.{arith}
 use lib.ListN.{length, drop}
@@ -34,11 +34,13 @@ zeros-left (suc n) (suc m) = zeros-left n m ∙ ap zeros (sym (suc-sub-suc n m))
 -- the bytes written into zeros from the start
 pub path-put : (d b : List ℕ) → b ≡ overwrite (zeros 40) 0 d → _≡_ {A = Path} (record { len = length d; bytes = b }) (pathOf d)
 path-put d b e =
-    ap {B = Path} (λ x. record { len = length d; bytes = x }) (e ∙ written-first (zeros 40) d ∙ ap (λ (x : List ℕ). d ++ x) (zeros-left 40 (length d)))
+    ap {B = Path} (λ x. record { len = length d; bytes = x })
+    (e ∙ written-first (zeros 40) d ∙ ap (λ (x : List ℕ). d ++ x) (zeros-left 40 (length d)))
 
 -- ---- LOAD
 module _ (c : Card) (form : KeyForm) (s : List ℕ) where
-  pub load-no : (out : List ℕ) → saysYes s ≡ false → Replies (loadReply c form s) (record { status = wrongData; count = 0; card = c }) out out
+  pub load-no : (out : List ℕ) → saysYes s ≡ false
+      → Replies (loadReply c form s) (record { status = wrongData; count = 0; card = c }) out out
   unfolding loadReply
   load-no out e = rw e (record { told = refl; left = refl })
 

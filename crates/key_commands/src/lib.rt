@@ -110,7 +110,8 @@ fn says_yes(supply: &[u8]) -> bool
     supply[0] == FLAG_YES
 }
 
-// ---- LOAD
+// ---- LOAD D0: a keypair, with its chain code or without, or a seed
+// Whether LOAD takes the data under this form.
 fn is_key_data(form: KeyForm, data: &[u8]) -> bool
     ensures { λ r. ⌜ r ≡ isKeyData form (now («data» .entry)) ⌝ }
 {
@@ -121,6 +122,7 @@ fn is_key_data(form: KeyForm, data: &[u8]) -> bool
     }
 }
 
+// The kind of key that a form makes.
 fn kind_of(form: KeyForm) -> u8
     ensures { λ r. ⌜ r ≡ kindOf form ⌝ }
 {
@@ -180,7 +182,7 @@ pub fn load(card: Card, form: KeyForm, supply: &[u8], out: &mut [u8]) -> Replied
     }
 }
 
-// ---- DERIVE
+// ---- DERIVE D1: another current path
 pub fn derive_verdict(pins: Pins, keys: Keys, data: &[u8]) -> u16
     ensures { λ r. ⌜ r ≡ verdict (deriveChecks pins keys (now («data» .entry))) ⌝ }
 {
@@ -217,7 +219,7 @@ pub fn derive(card: Card, data: &[u8], supply: &[u8]) -> Replied
     done(derived)
 }
 
-// ---- REMOVE
+// ---- REMOVE D3: no key, both paths empty
 pub fn remove_verdict(pins: Pins) -> u16
     ensures { λ r. ⌜ r ≡ verdict (removeChecks pins) ⌝ }
 {
@@ -236,7 +238,7 @@ pub fn remove(card: Card) -> Replied
     done(removed)
 }
 
-// ---- SET PIN-LESS PATH
+// ---- SET PIN-LESS PATH C1
 pub fn pinless_verdict(pins: Pins, data: &[u8]) -> u16
     ensures { λ r. ⌜ r ≡ verdict (pinlessChecks pins (now («data» .entry))) ⌝ }
 {
@@ -263,7 +265,7 @@ pub fn pinless(card: Card, data: &[u8]) -> Replied
     done(set)
 }
 
-// ---- SIGN
+// ---- SIGN C0: with a verified PIN, or where the current path is the PIN-less one
 // Whether two paths are the same.
 fn same_path(a: Path, b: Path) -> bool
     requires { ⌜ (a .len ≤ 40) × (b .len ≤ 40) ⌝ }

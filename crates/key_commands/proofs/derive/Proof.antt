@@ -33,9 +33,11 @@ done-requires c κs = search needs
 
 returns-2 : tie.Need-returns-2
 returns-2 c =
-    let b4 = c .before .before .before .before in let a = b4 .before .before .before .before .args in
+    let b3 = c .before .before .before in
+    let b4 = b3 .before in
+    let a = b4 .before .before .before .before .args in
     derive-yes (a .card) (a .«data» .now) (a .supply .now) _ _ _ _ (sym (b4 .before .says-yes .ensures) ∙ not-false _ (b4 .if1 .left))
-    (c .before .before .before .path-of .ensures) (c .before .before .with-current .ensures) (c .before .with-keys .ensures) (c .done .ensures)
+    (b3 .path-of .ensures) (c .before .before .with-current .ensures) (c .before .with-keys .ensures) (c .done .ensures)
 
 pub derive-spec : {M : Type 1} → statement M
 derive-spec =

@@ -43,7 +43,10 @@ same-length c = search needs
 
 returns-2 : tie.Need-returns-2
 returns-2 c =
-    let b5 = c .before .before .before .before .before in let b8 = b5 .before .before .before in let b12 = b8 .before .before .before .before in let a = b12 .args in
+    let b5 = c .before .before .before .before .before in
+    let b8 = b5 .before .before .before in
+    let b12 = b8 .before .before .before .before in
+    let a = b12 .args in
     load-yes (a .card) (a .form) (a .supply .now) _ _ _ _ _ (load-supply _ (b12 .pre .0))
     (sym (b8 .before .says-yes .ensures) ∙ not-false _ (b8 .if1 .left)) (b5 .put .ensures) (c .before .before .kind-of .ensures)
     (c .before .key-with .ensures) (c .with-keys .ensures)

@@ -20,9 +20,9 @@ done-requires c κs = search needs
 
 returns : tie.Need-returns
 returns c =
-    let a = c .before .before .before .before .before .args in
-    pinless-done (a .card) (a .«data» .now) _ _ _ _ (c .before .before .before .path-of .ensures) (c .before .before .with-pinless .ensures) (c .before .with-keys .ensures)
-    (c .done .ensures)
+    let b3 = c .before .before .before in let a = b3 .before .before .args in
+    pinless-done (a .card) (a .«data» .now) _ _ _ _ (b3 .path-of .ensures) (c .before .before .with-pinless .ensures)
+    (c .before .with-keys .ensures) (c .done .ensures)
 
 pub pinless-spec : {M : Type 1} → statement M
 pinless-spec =

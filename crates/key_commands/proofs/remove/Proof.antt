@@ -19,7 +19,8 @@ done-requires c κs = search needs
 
 returns : tie.Need-returns
 returns c =
-    remove-done (c .before .before .before .before .args .card) _ _ _ (c .before .before .key-with .ensures) (c .before .with-keys .ensures) (c .done .ensures)
+    let b2 = c .before .before in
+    remove-done (b2 .before .before .args .card) _ _ _ (b2 .key-with .ensures) (c .before .with-keys .ensures) (c .done .ensures)
 
 pub remove-spec : {M : Type 1} → statement M
 remove-spec =

@@ -24,7 +24,8 @@ array-share-prefix-a-bytes c =
 
 slice-aggregate-same : tie.Need-slice-aggregate-same
 slice-aggregate-same c =
-    sym (length-take-le (c .before .before .wide .result) (c .before .before .before .before .before .args .a .bytes) (array-share-prefix-a-bytes (c .before)))
+    let b2 = c .before .before in let a = b2 .before .before .before .args in
+    sym (length-take-le (b2 .wide .result) (a .a .bytes) (array-share-prefix-a-bytes (c .before)))
 
 array-share-prefix-b-bytes : tie.Need-array-share-prefix-b-bytes
 array-share-prefix-b-bytes c =
@@ -34,16 +35,19 @@ array-share-prefix-b-bytes c =
 
 slice-aggregate-same-2 : tie.Need-slice-aggregate-same-2
 slice-aggregate-same-2 c =
-    sym (length-take-le (c .before .before .wide2 .result) (c .before .before .before .before .before .before .args .b .bytes) (array-share-prefix-b-bytes (c .before)))
+    let b2 = c .before .before in let a = b2 .before .before .before .before .args in
+    sym (length-take-le (b2 .wide2 .result) (a .b .bytes) (array-share-prefix-b-bytes (c .before)))
 
 same-requires : tie.Need-same-requires
 same-requires c κs = search needs
 
 returns : tie.Need-returns
 returns c =
-    let a = c .before .before .before .before .before .before .before .args in
+    let b3 = c .before .before .before in
+    let b4 = b3 .before in
+    let a = b4 .before .before .before .args in
     c .same .ensures
-    ∙ ap₂ (λ (n m : ℕ). sameBytes (take n (a .a .bytes)) (take m (a .b .bytes))) (c .before .before .before .before .wide .ensures) (c .before .before .before .wide2 .ensures)
+    ∙ ap₂ (λ (n m : ℕ). sameBytes (take n (a .a .bytes)) (take m (a .b .bytes))) (b4 .wide .ensures) (b3 .wide2 .ensures)
 
 pub same-path-spec : {M : Type 1} → statement M
 same-path-spec =
