@@ -1,0 +1,4 @@
+pub mod Verdicts
+pub mod SupplyFacts
+pub mod KeyReplies
+pub mod Responses
