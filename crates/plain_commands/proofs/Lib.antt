@@ -1,0 +1,4 @@
+pub mod CheckFacts
+pub mod SupplyFacts
+pub mod SelectFacts
+pub mod ReplyFacts

@@ -1,0 +1,44 @@
+-- Both answers put together are the verdict of OPEN's list of checks.
+-- Assumes nothing.
+use mathlib.Core.Path.{_≡_}
+use native.Mathlib.Omega.{arith}
+use lib.ListN.{length}
+use borrow.Author.Needs.{needs}
+use Rattle.card.specs.State.{slotCount}
+use Rattle.plain_commands.proofs.CheckFacts.{open-checks}
+use Rattle.plain_commands.proofs.open_verdict.Statement.{statement}
+use Rattle.plain_commands.proofs.open_verdict.Tie as tie
+
+wide-requires : tie.Need-wide-requires
+wide-requires c κs = search needs
+
+mul-chosen : tie.Need-mul-chosen
+mul-chosen c = search needs
+
+array-copy-out-chosen : tie.Need-array-copy-out-chosen
+array-copy-out-chosen c = search needs
+
+is-point-requires : tie.Need-is-point-requires
+is-point-requires c κs = search needs
+
+must-requires : tie.Need-must-requires
+must-requires c κs = search needs
+
+must-requires-2 : tie.Need-must-requires-2
+must-requires-2 c κs = search needs
+
+returns : tie.Need-returns
+returns c = let l : length (c .before .before .before .before .before .before .before .args .t1) ≡ slotCount = search needs in
+    open-checks (c .before .before .before .before .before .before .before .args .t1) (c .before .before .before .before .before .before .before .args .slot) (c .before .before .before .before .before .before .before .args .«data» .now) (c .before .before .before .before .before .wide .result) _ (c .before .before .is-point .result) (c .before .must .result) (c .must2 .result) (c .must2 .ensures) (c .before .must .ensures) (c .before .before .is-point .ensures) (c .before .before .before .before .before .wide .ensures) (omega (arith, c .before .before .before .before .before .before .before .pre))
+
+pub open-verdict-spec : {M : Type 1} → statement M
+open-verdict-spec =
+    tie.close
+    (tie.spec
+    wide-requires
+    mul-chosen
+    array-copy-out-chosen
+    is-point-requires
+    must-requires
+    must-requires-2
+    returns)

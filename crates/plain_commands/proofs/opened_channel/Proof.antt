@@ -1,0 +1,21 @@
+-- Each part of the supply stands in its field.
+-- Assumes nothing.
+use borrow.Author.Needs.{needs}
+use Rattle.plain_commands.proofs.opened_channel.Statement.{statement}
+use Rattle.plain_commands.proofs.opened_channel.Tie as tie
+
+key-part-requires : tie.Need-key-part-requires
+key-part-requires c κs = search needs
+
+key-part-requires-2 : tie.Need-key-part-requires-2
+key-part-requires-2 c κs = search needs
+
+block-part-requires : tie.Need-block-part-requires
+block-part-requires c κs = search needs
+
+returns : tie.Need-returns
+returns c = rw (c .before .before .key-part .ensures, c .before .key-part2 .ensures, c .block-part .ensures)
+
+pub opened-channel-spec : {M : Type 1} → statement M
+opened-channel-spec =
+    tie.close (tie.spec key-part-requires key-part-requires-2 block-part-requires returns)

@@ -1,0 +1,39 @@
+-- The four answers put together are the verdict of the list of checks.
+-- Assumes nothing.
+use borrow.Author.Needs.{needs}
+use Rattle.plain_commands.proofs.CheckFacts.{final-checks}
+use Rattle.plain_commands.proofs.pair_final_verdict.Statement.{statement}
+use Rattle.plain_commands.proofs.pair_final_verdict.Tie as tie
+
+slice-aggregate-same : tie.Need-slice-aggregate-same
+slice-aggregate-same c = search needs
+
+same-requires : tie.Need-same-requires
+same-requires c κs = search needs
+
+must-requires : tie.Need-must-requires
+must-requires c κs = search needs
+
+must-requires-2 : tie.Need-must-requires-2
+must-requires-2 c κs = search needs
+
+must-requires-3 : tie.Need-must-requires-3
+must-requires-3 c κs = search needs
+
+must-requires-4 : tie.Need-must-requires-4
+must-requires-4 c κs = search needs
+
+returns : tie.Need-returns
+returns c = final-checks (c .before .before .before .before .before .before .before .before .before .args .pairing) (c .before .before .before .before .before .before .before .before .before .args .stage) (c .before .before .before .before .before .before .before .before .before .args .«data» .now) (c .before .before .before .before .same .result) (c .before .before .before .must .result) (c .before .before .must2 .result) (c .before .must3 .result) (c .must4 .result) (c .before .before .before .before .same .ensures) (c .before .before .before .must .ensures) (c .before .before .must2 .ensures) (c .before .must3 .ensures) (c .must4 .ensures)
+
+pub pair-final-verdict-spec : {M : Type 1} → statement M
+pair-final-verdict-spec =
+    tie.close
+    (tie.spec
+    slice-aggregate-same
+    same-requires
+    must-requires
+    must-requires-2
+    must-requires-3
+    must-requires-4
+    returns)

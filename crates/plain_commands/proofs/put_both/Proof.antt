@@ -1,0 +1,24 @@
+-- Two parts that were put one behind the other are written as one.
+-- Assumes nothing.
+use borrow.Author.Needs.{needs}
+use Rattle.plain_commands.proofs.ReplyFacts.{wrote-two}
+use Rattle.plain_commands.proofs.put_both.Statement.{statement}
+use Rattle.plain_commands.proofs.put_both.Tie as tie
+
+put-requires : tie.Need-put-requires
+put-requires c κs = search needs
+
+put-requires-2 : tie.Need-put-requires-2
+put-requires-2 c κs = search needs
+
+add-result : tie.Need-add-result
+add-result c = search needs
+
+same-length : tie.Need-same-length
+same-length c = search needs
+
+returns : tie.Need-returns
+returns c = wrote-two (c .before .before .before .before .before .before .before .before .before .before .before .args .out .now) (c .before .before .before .before .before .before .before .before .before .before .before .args .first .now) (c .before .before .before .before .before .before .before .before .before .before .before .args .second .now) (c .before .before .before .before .before .before .before .before .before .before .before .pre) (c .before .before .before .before .before .before .put .ensures) (c .before .before .put2 .ensures)
+
+pub put-both-spec : {M : Type 1} → statement M
+put-both-spec = tie.close (tie.spec put-requires put-requires-2 add-result same-length returns)
