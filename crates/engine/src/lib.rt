@@ -107,7 +107,14 @@ fn tell(over: bool, card: Card, status: u16, response: &[u8], buf: &mut [u8]) ->
 }
 
 // Past the checks and the supply's form: the command's reply, as it goes out.
-fn perform(over: bool, card: Card, k: Command, data: &[u8], supply: &[u8], buf: &mut [u8]) -> Answered
+fn perform(
+    over: bool,
+    card: Card,
+    k: Command,
+    data: &[u8],
+    supply: &[u8],
+    buf: &mut [u8],
+) -> Answered
     requires { ⌜ (verdict (checksOf k card (now «data»)) ≡ success) × (suits (supplyOf k) (now supply) ≡ true) ⌝ }
     requires { ⌜ InRange k × PathsFit (card .keys) × (258 ≤ length (now buf)) ⌝ }
     ensures { λ r. ⌜ AnswerDid (answered (tellBy over (replyOf k card (now («data» .entry)) (now (supply .entry))))) r

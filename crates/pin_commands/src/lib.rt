@@ -7,7 +7,6 @@ ghost use Prim.Native.Nat.{_≤_, _<_};
 ghost use lib.ListN.{length};
 ghost use Rattle.template.specs.Writing.{Wrote};
 ghost use Rattle.card.specs.State.{slotCount, freeSlot, pathBytes};
-ghost use Rattle.card.specs.Sound.{isSound};
 ghost use Rattle.rules.specs.Words.{success, triesLeft, verdict, reportOf, Replies};
 ghost use Rattle.rules.specs.Supplies.{suits, mutualSupply};
 ghost use Rattle.rules.specs.Commands.{areDigits, withSlot, unpairChecks, unpairReply, statusReply, mutualChecks, inStage2, mutualReply};
@@ -366,7 +365,7 @@ fn put_path(path: Path, out: &mut [u8]) -> usize
 }
 
 pub fn status(card: Card, which: Report, out: &mut [u8]) -> Replied
-    requires { ⌜ (221 ≤ length (now out)) × (isSound card ≡ true) ⌝ }
+    requires { ⌜ (221 ≤ length (now out)) × (card .keys .current .len ≤ 40) ⌝ }
     ensures { λ r. ⌜ Replies (statusReply card which) r (now (out .entry)) (now (out .exit)) ⌝ }
 {
     let pins = card.pins;

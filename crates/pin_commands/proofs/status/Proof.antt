@@ -1,8 +1,7 @@
--- GET STATUS: by cases on what is asked for; soundness bounds the path.
+-- GET STATUS: by cases on what is asked for.
 -- Assumes nothing.
 use native.Mathlib.Omega.{arith}
 use borrow.Author.Needs.{needs}
-use Rattle.card.proofs.SoundFacts.{path-lengths}
 use Rattle.rules.specs.Commands.{statusReply}
 use Rattle.pin_commands.proofs.ReplyFacts.{wrote-replies}
 use Rattle.pin_commands.proofs.status.Statement.{statement}
@@ -20,7 +19,7 @@ enum-told-2 c = search needs
 put-path-requires : tie.Need-put-path-requires
 put-path-requires c κs =
     let p = c .before .before .before .before .before .before .before .pre in
-    (path-lengths _ (p .1) .0, omega (arith, p .0))
+    (p .1, omega (arith, p .0))
 
 same-length : tie.Need-same-length
 same-length c = search needs
