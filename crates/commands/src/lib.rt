@@ -2,6 +2,7 @@
 // Every length is in bytes.
 // Proved: for every command, the answer is the one that the rulebook's table gives it.
 ghost use mathlib.Core.Path.{_≡_};
+ghost use mathlib.Core.Bool.{true};
 ghost use Prim.Native.Nat.{_≤_};
 ghost use lib.ListN.{length};
 ghost use Rattle.rules.specs.Words.{success, verdict, reportOf, Replies};

@@ -1,6 +1,6 @@
 // The commands on keys: LOAD, DERIVE, REMOVE, SET PIN-LESS PATH and SIGN. For each one a function that gives the status word of its checks,
 // from the parts of the card that they read, and one that makes the reply. Every length is in bytes.
-// Proved: each is what the command's definition in the rulebook gives, for every card, data and supply.
+// Proved: each is what the command's definition in the rulebook gives, for every card and all data and supplies that its contract admits.
 ghost use mathlib.Core.Bool.{true};
 ghost use mathlib.Core.List.{[], _∷_};
 ghost use mathlib.Core.Path.{_≡_};
