@@ -25,7 +25,7 @@ pub fn judge(card: Card, k: Command, data: &[u8]) -> u16
     let stage = card.channel.stage;
     match k {
         Command::Select => plain_commands::select_verdict(data),
-        Command::Init => rules::SUCCESS,
+        Command::Init => plain_commands::init_verdict(data),
         Command::Open(slot) => plain_commands::open_verdict(slots, slot, data),
         Command::Mutual => pin_commands::mutual_verdict(stage, data),
         Command::PairFirst => plain_commands::pair_first_verdict(pairing, stage, data),
@@ -51,11 +51,7 @@ pub fn act(card: Card, k: Command, data: &[u8], supply: &[u8], out: &mut [u8]) -
 {
     match k {
         Command::Select => plain_commands::select(card, out),
-        Command::Init => Replied {
-            status: 0,
-            count: 0,
-            card,
-        },
+        Command::Init => plain_commands::init(card, data, supply),
         Command::Open(_) => plain_commands::open(card, supply, out),
         Command::Mutual => pin_commands::mutual(card, supply, out),
         Command::PairFirst => plain_commands::pair_first(card, supply, out),

@@ -1,4 +1,6 @@
 pub mod CheckFacts
 pub mod SupplyFacts
 pub mod SelectFacts
+pub mod InitFacts
 pub mod ReplyFacts
+pub mod Laws

@@ -1,9 +1,9 @@
 -- Free slots counted one by one, and the key UID as SELECT answers it.
 -- Assumes nothing.
-use mathlib.Core.Path.{_≡_, refl, sym, ap, _∙_}
+use mathlib.Core.Path.{_≡_, refl, ap, _∙_}
 use mathlib.Core.Bool.{Bool, true, false, cond}
-use mathlib.Core.List.{List, [], _∷_}
-use Prim.Native.Nat.{ℕ, suc, _+_, _≤_, _<_}
+use mathlib.Core.List.{List, []}
+use Prim.Native.Nat.{ℕ, _+_, _≤_, _<_}
 use native.Mathlib.Numerals.{add-one}
 use native.Mathlib.Omega.{arith}
 use lib.ListN.{length, take, drop, getD, drop-of-length-le}
@@ -12,7 +12,7 @@ use borrow.Author.Tests.{eq-eqb, ne-eqb}
 use Rattle.card.specs.declared.Slot.{Slot}
 use Rattle.card.specs.declared.Keys.{Keys}
 use Rattle.card.specs.State.{keyUid}
-use Rattle.card.specs.Slots.{isFree, isZero}
+use Rattle.card.specs.Slots.{isZero}
 use Rattle.rules.specs.Commands.{freeSlots}
 use Rattle.plain_commands.specs.Parts.{keyUidBytes}
 
@@ -29,16 +29,6 @@ module _ (s : List Slot) (k : ℕ) (d : Slot) where
 pub free-none : (s : List Slot) (k : ℕ) → length s ≤ k → freeSlots (drop k s) ≡ 0
 unfolding freeSlots
 free-none s k h = rw (drop-of-length-le s h)
-
--- the number of free slots is at most the number of slots
-pub free-at-most : (s : List Slot) → freeSlots s ≤ length s
-unfolding freeSlots
-free-at-most [] = omega arith
-free-at-most (x ∷ s) = by-flag (free-at-most s) (isFree x)
-  where
-    by-flag : freeSlots s ≤ length s → (b : Bool) → cond b (1 + freeSlots s) (freeSlots s) ≤ suc (length s)
-    by-flag h true = omega arith
-    by-flag h false = omega arith
 
 -- ---- keyUid
 pub key-uid-is : (k : Keys) (n : ℕ) → length (k .uid) ≡ 32 → n ≡ keyUidBytes (k .kind) → take n (k .uid) ≡ keyUid k

@@ -1,4 +1,4 @@
-// SELECT, OPEN and PAIR, which are plain in every stage: for each the status word of its checks, and its reply past them.
+// SELECT, INIT, OPEN and PAIR, which are plain in every stage: for each the status word of its checks, and its reply past them.
 // Every length and count is in bytes; a slot's index counts slots from 0.
 // Proved: each answer, the next card and every byte of the buffer are what the command's rule gives, for every card, data and supply.
 ghost use mathlib.Core.Path.{_≡_};
@@ -6,13 +6,18 @@ ghost use mathlib.Core.Bool.{true, cond};
 ghost use mathlib.Core.List.{_++_};
 ghost use Prim.Native.Nat.{_+_, _≤_, _<_};
 ghost use lib.ListN.{length};
+ghost use Rattle.aes.specs.Aes.{invAes256};
+ghost use Rattle.cbc.specs.Mode.{cbcDecrypt};
+ghost use Rattle.padding.specs.Padding.{unpad};
 ghost use Rattle.template.specs.Writing.{Wrote};
 ghost use Rattle.answer_templates.specs.Answers.{preInitialised, applicationInfo};
 ghost use Rattle.card.specs.State.{slotCount, notPending, keyUid};
-ghost use Rattle.rules.specs.Words.{verdict, Replies};
-ghost use Rattle.rules.specs.Supplies.{suits, openSupply, pairFirstSupply, pairFinalSupply, part, openSalt, openIv};
+ghost use Rattle.rules.specs.Words.{success, verdict, reportOf, Replies};
+ghost use Rattle.rules.specs.Supplies.{suits, initSupply, openSupply, pairFirstSupply, pairFinalSupply, part, openSalt, openIv};
 ghost use Rattle.rules.specs.Commands.{selectChecks, freeSlots, selectReply, isPoint, openChecks, openedWith, openReply};
 ghost use Rattle.rules.specs.Commands.{pairFirstChecks, pendingWith, pairFirstReply, pairFinalChecks, withSlot, filledWith, pairFinalReply};
+ghost use Rattle.rules.specs.Commands.{initChecks, isContent, initialisedWith, initReply};
+ghost use Rattle.plain_commands.specs.Content.{isFormed, pinsWith, offered, Found};
 ghost use Rattle.plain_commands.specs.Parts.{selectedOf, keyUidBytes, FoundAt};
 use card::Card;
 use card::Channel;
@@ -20,9 +25,13 @@ use card::IV_BYTES;
 use card::Identity;
 use card::KEY_BYTES;
 use card::Keys;
+use card::PIN_BYTES;
+use card::PUK_BYTES;
 use card::Pairing;
+use card::Pins;
 use card::Slot;
 use card::wide;
+use padding::Unpadded;
 use rules::CONDITIONS_NOT_MET;
 use rules::NO_SPACE;
 use rules::NOT_FOUND;
@@ -62,6 +71,27 @@ pub const PAIR_DATA_BYTES: usize = 32;
 
 // The flag of a supply that says yes.
 pub const YES: u8 = 1;
+
+// INIT's data, and where its parts begin: the point's length in one byte, the point, IV 16, ciphertext 64.
+pub const INIT_DATA_BYTES: usize = 146;
+
+pub const POINT_LENGTH: u8 = 0x41;
+
+const INIT_IV_AT: usize = 66;
+
+const CIPHERTEXT_AT: usize = 82;
+
+const CIPHERTEXT_BYTES: usize = 64;
+
+// INIT's content, and where its parts begin: PIN 6, PUK 12, pairing secret 32.
+pub const CONTENT_BYTES: usize = 50;
+
+const PUK_AT: usize = 6;
+
+const SECRET_AT: usize = 18;
+
+// Where the key of INIT's supply begins, behind the flag.
+const AES_KEY_AT: usize = 1;
 
 // Where the parts of OPEN's supply begin: flag, enc key 32, MAC key 32, salt 32, IV 16.
 const ENC_KEY_AT: usize = 1;
@@ -222,6 +252,117 @@ pub fn select(card: Card, out: &mut [u8]) -> Replied
         status: SUCCESS,
         count,
         card: next,
+    }
+}
+
+// ---- INIT
+// Whether the data have INIT's form.
+fn is_formed(data: &[u8]) -> bool
+    ensures { λ r. ⌜ r ≡ isFormed (now («data» .entry)) ⌝ }
+{
+    if data.len() != INIT_DATA_BYTES {
+        return false;
+    }
+    let point_bytes = data[0] == POINT_LENGTH;
+    let point_form = data[1] == POINT_FORM;
+    point_bytes & point_form
+}
+
+pub fn init_verdict(data: &[u8]) -> u16
+    ensures { λ r. ⌜ r ≡ verdict (initChecks (now («data» .entry))) ⌝ }
+{
+    must(is_formed(data), WRONG_DATA, SUCCESS)
+}
+
+// Whether these bytes are a PIN, a PUK and a pairing secret.
+fn is_content(content: &[u8]) -> bool
+    ensures { λ r. ⌜ r ≡ isContent (now (content .entry)) ⌝ }
+{
+    if content.len() != CONTENT_BYTES {
+        return false;
+    }
+    let pin = sound_parts::digits(&content[0..PUK_AT]);
+    let puk = sound_parts::digits(&content[PUK_AT..SECRET_AT]);
+    pin & puk
+}
+
+// Deciphers the bytes where they stand, and looks whether they hold content that is right, which then stands at their start.
+fn decipher(key: [u8; KEY_BYTES], iv: [u8; IV_BYTES], plain: &mut [u8]) -> bool
+    requires { ⌜ length (now plain) ≡ 64 ⌝ }
+    ensures { λ r. ⌜ Found (unpad (cbcDecrypt (invAes256 key) iv (now (plain .entry)))) r (now (plain .exit)) ⌝ }
+{
+    cbc::cbc_decrypt(&key, iv, plain);
+    match padding::find_data(plain) {
+        Unpadded::Bytes(n) => is_content(&plain[0..n]),
+        Unpadded::Wrong => false,
+    }
+}
+
+// Opens INIT's data with the key that the supply brings, if its flag says yes.
+fn open_init(data: &[u8], supply: &[u8], plain: &mut [u8]) -> bool
+    requires { ⌜ (length (now «data») ≡ 146) × (length (now supply) ≡ 33) × (length (now plain) ≡ 64) ⌝ }
+    ensures { λ r. ⌜ Found (offered (now («data» .entry)) (now (supply .entry))) r (now (plain .exit)) ⌝ }
+{
+    if supply[0] == YES {
+        let key = key_part(supply, AES_KEY_AT);
+        let iv = block_part(data, INIT_IV_AT);
+        octets::put(plain, 0, &data[CIPHERTEXT_AT..INIT_DATA_BYTES]);
+        decipher(key, iv, plain)
+    } else {
+        false
+    }
+}
+
+// PIN and PUK with full tries.
+fn pins_with(content: &[u8]) -> Pins
+    requires { ⌜ length (now content) ≡ 50 ⌝ }
+    ensures { λ r. ⌜ r ≡ pinsWith (now (content .entry)) ⌝ }
+{
+    let mut pin = [0; PIN_BYTES];
+    octets::put(&mut pin, 0, &content[0..PUK_AT]);
+    let mut puk = [0; PUK_BYTES];
+    octets::put(&mut puk, 0, &content[PUK_AT..SECRET_AT]);
+    Pins {
+        pin,
+        puk,
+        pin_tries: Card::PIN_TRIES,
+        puk_tries: Card::PUK_TRIES,
+        verified: 0,
+    }
+}
+
+fn initialised_with(card: Card, content: &[u8]) -> Card
+    requires { ⌜ length (now content) ≡ 50 ⌝ }
+    ensures { λ r. ⌜ r ≡ initialisedWith card (now (content .entry)) ⌝ }
+{
+    let pins = pins_with(content);
+    let secret = key_part(content, SECRET_AT);
+    let mut pairing = card.pairing;
+    pairing.secret = secret;
+    let mut next = card;
+    next.initialised = 1;
+    next.pins = pins;
+    next.pairing = pairing;
+    next
+}
+
+pub fn init(card: Card, data: &[u8], supply: &[u8]) -> Replied
+    requires { ⌜ (verdict (initChecks (now «data»)) ≡ success) × (suits initSupply (now supply) ≡ true) ⌝ }
+    ensures { λ r. ⌜ r ≡ reportOf (initReply card (now («data» .entry)) (now (supply .entry))) ⌝ }
+{
+    let mut plain = [0; CIPHERTEXT_BYTES];
+    if open_init(data, supply, &mut plain) {
+        Replied {
+            status: SUCCESS,
+            count: 0,
+            card: initialised_with(card, &plain[0..CONTENT_BYTES]),
+        }
+    } else {
+        Replied {
+            status: WRONG_DATA,
+            count: 0,
+            card,
+        }
     }
 }
 

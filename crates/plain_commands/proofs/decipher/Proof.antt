@@ -1,0 +1,69 @@
+-- The padding that was found and the test of what stands before it decide as the definition does.
+-- Assumes nothing.
+use mathlib.Core.List.{List}
+use mathlib.Core.Path.{sym, ap, _∙_}
+use Prim.Native.Nat.{ℕ, _-_}
+use native.Mathlib.Omega.{arith}
+use borrow.Author.Needs.{needs}
+use Rattle.padding.specs.Padding.{unpad, answer}
+use Rattle.plain_commands.proofs.InitFacts.{data-within, found-content, found-nothing, found-same}
+use Rattle.plain_commands.proofs.decipher.Statement.{statement}
+use Rattle.plain_commands.proofs.decipher.Tie as tie
+
+cbc-decrypt-requires : tie.Need-cbc-decrypt-requires
+cbc-decrypt-requires c κs = search needs
+
+find-data-requires : tie.Need-find-data-requires
+find-data-requires c κs = search needs
+
+enum-known-n : tie.Need-enum-known-n
+enum-known-n c = search needs
+
+sub-is-content : tie.Need-sub-is-content
+sub-is-content c = search needs
+
+part-is-content-start : tie.Need-part-is-content-start
+part-is-content-start c = search needs
+
+part-is-content-end : tie.Need-part-is-content-end
+part-is-content-end c = data-within (c .before .before .before .before .before .before .before .before .cbc-decrypt .last .1 .1 .0) (c .before .before .n .given .0 .0) (sym (c .before .before .n .given .1) ∙ c .before .before .before .before .find-data .ensures)
+
+is-content-requires : tie.Need-is-content-requires
+is-content-requires c κs = search needs
+
+enum-told : tie.Need-enum-told
+enum-told c = search needs
+
+same-length : tie.Need-same-length
+same-length c = search needs
+
+returns : tie.Need-returns
+returns c = let p : List ℕ = c .before .before .before .before .before .before .before .before .before .before .cbc-decrypt .last .1 .1 .0 in let n : ℕ = c .before .before .before .before .n .given .0 .0 in
+    found-same (ap unpad (c .before .before .before .before .before .before .before .before .before .before .cbc-decrypt .ensures))
+    (found-content p n (n - 0) (c .is-content .result) (sym (c .before .before .before .before .n .given .1) ∙ c .before .before .before .before .before .before .find-data .ensures) (c .is-content .ensures) (omega arith)
+    (c .before .before .before .before .before .before .before .before .before .before .cbc-decrypt .kept .1 .1 .0 ∙ c .before .before .before .before .before .before .before .before .before .before .before .before .before .before .pre))
+
+same-length-2 : tie.Need-same-length-2
+same-length-2 c = search needs
+
+returns-2 : tie.Need-returns-2
+returns-2 c = let p : List ℕ = c .before .before .before .before .before .before .cbc-decrypt .last .1 .1 .0 in
+    found-nothing _ p (sym (c .enum-told .given .1) ∙ c .before .before .find-data .ensures ∙ ap (λ (x : List ℕ). answer (unpad x)) (c .before .before .before .before .before .before .cbc-decrypt .ensures))
+    (c .before .before .before .before .before .before .cbc-decrypt .kept .1 .1 .0 ∙ c .before .before .before .before .before .before .before .before .before .before .pre)
+
+pub decipher-spec : {M : Type 1} → statement M
+decipher-spec =
+    tie.close
+    (tie.spec
+    cbc-decrypt-requires
+    find-data-requires
+    enum-known-n
+    sub-is-content
+    part-is-content-start
+    part-is-content-end
+    is-content-requires
+    enum-told
+    same-length
+    returns
+    same-length-2
+    returns-2)
