@@ -20,7 +20,8 @@ enum-told-2 c = search needs
 put-path-requires : tie.Need-put-path-requires
 put-path-requires c κs =
     let p = c .before .before .before .before .before .before .before .pre in
-    (path-lengths _ (p .1) .0, omega (arith, p .0))
+    let l = path-lengths _ (p .1) in
+    (omega (arith, l .0, l .1), omega (arith, p .0))
 
 same-length : tie.Need-same-length
 same-length c = search needs
