@@ -8,10 +8,10 @@ use Rattle.pin_commands.proofs.unblock_verdict.Statement.{statement}
 use Rattle.pin_commands.proofs.unblock_verdict.Tie as tie
 
 returns : tie.Need-returns
-returns c = unblock-tries _ _ (c .if1 .taken)
+returns c = unblock-tries (c .before .before .before .args .pins) _ (c .if1 .taken)
 
 returns-2 : tie.Need-returns-2
-returns-2 c = unblock-blocked _ _ (c .before .before .if1 .left) (c .if2 .taken)
+returns-2 c = unblock-blocked (c .before .before .before .before .before .args .pins) _ (c .before .before .if1 .left) (c .if2 .taken)
 
 is-unblocking-requires : tie.Need-is-unblocking-requires
 is-unblocking-requires c κs = search needs
@@ -19,12 +19,14 @@ is-unblocking-requires c κs = search needs
 returns-3 : tie.Need-returns-3
 returns-3 c =
     let form = sym (c .before .is-unblocking .ensures) ∙ not-true _ (c .if3 .taken) in
-    unblock-malformed _ _ (c .before .before .before .before .if1 .left) (c .before .before .if2 .left) form
+    let b4 = c .before .before .before .before in
+    unblock-malformed (b4 .before .before .before .args .pins) _ (b4 .if1 .left) (c .before .before .if2 .left) form
 
 returns-4 : tie.Need-returns-4
 returns-4 c =
     let form = sym (c .before .is-unblocking .ensures) ∙ not-false _ (c .if3 .left) in
-    unblock-goes _ _ (c .before .before .before .before .if1 .left) (c .before .before .if2 .left) form
+    let b4 = c .before .before .before .before in
+    unblock-goes (b4 .before .before .before .args .pins) _ (b4 .if1 .left) (c .before .before .if2 .left) form
 
 pub unblock-verdict-spec : {M : Type 1} → statement M
 unblock-verdict-spec =
