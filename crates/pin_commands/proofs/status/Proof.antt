@@ -19,8 +19,7 @@ enum-told-2 c = search needs
 put-path-requires : tie.Need-put-path-requires
 put-path-requires c κs =
     let p = c .before .before .before .before .before .before .before .pre in
-    let l = path-lengths _ (p .1) in
-    (omega (arith, l .0, l .1), omega (arith, p .0))
+    (p .1, omega (arith, p .0))
 
 same-length : tie.Need-same-length
 same-length c = search needs
