@@ -14,7 +14,7 @@ use Rattle.rules.specs.Commands.{checksOf, supplyOf, replyOf}
 use Rattle.rules.specs.Engine.{Told, plainly, overChannel, Decision, ends, byOpening, sessionOf}
 use Rattle.message.specs.Message.{commandHead, openField}
 use Rattle.commands.specs.Fits.{InRange, PathsFit}
-use Rattle.route.specs.declared.Route.{Route}
+use Rattle.route.specs.declared.Way.{Way}
 
 -- how the answer goes out
 abbrev pub tellBy : Bool → Reply → Told
@@ -22,30 +22,30 @@ tellBy true = overChannel
 tellBy false = plainly
 
 -- a route that ends
-abbrev pub endsWith : Bool → Card → ℕ → Route
+abbrev pub endsWith : Bool → Card → ℕ → Way
 endsWith over c w = record { goes = false; over = over; status = w; count = 0; command = command.Select; card = c }
 
 -- the decision that a route and the command's data stand for
-abbrev pub decisionOf : Route → List ℕ → Decision
+abbrev pub decisionOf : Way → List ℕ → Decision
 decisionOf r d =
     cond (r .goes)
     (record { supply = supplyOf (r .command); data′ = d; answer = λ s. tellBy (r .over) (replyOf (r .command) (r .card) d s) })
     (ends (tellBy (r .over) (fails (r .card) (r .status))))
 
 -- what a route that goes on rests on: the command's checks hold, its slot's index is one, and the data have the length told
-pub record Ready (r : Route) (d : List ℕ) : Type 0 where
+pub record Ready (r : Way) (d : List ℕ) : Type 0 where
   pub judged : verdict (checksOf (r .command) (r .card) d) ≡ success
   pub inrange : InRange (r .command)
   pub long : length d ≡ r .count
 
 -- the route stands for this decision, the command's data being d
-pub record Routes (want : Decision) (r : Route) (d : List ℕ) : Type 0 where
+pub record Routes (want : Decision) (r : Way) (d : List ℕ) : Type 0 where
   pub decides : want ≡ decisionOf r d
   pub ready : r .goes ≡ true → Ready r d
   pub paths : PathsFit (r .card .keys)
 
 -- the same, where the data stand at the start of `plain`
-abbrev pub RoutesIn : Decision → Route → List ℕ → Type 0
+abbrev pub RoutesIn : Decision → Way → List ℕ → Type 0
 RoutesIn want r plain = Routes want r (take (r .count) plain)
 
 -- step 4 past the stage

@@ -25,7 +25,7 @@ const OPENED_BYTES: usize = 224;
 
 // Where the order of checks leads: to a command whose checks hold (goes), or to a status word. `over` says that the answer goes over the
 // channel, `count` how many bytes of data the command has, and `card` is the card that the answer starts from.
-pub struct Route {
+pub struct Way {
     pub goes: bool,
     pub over: bool,
     pub status: u16,
@@ -35,10 +35,10 @@ pub struct Route {
 }
 
 // A route that ends with a status word.
-fn ends(over: bool, card: Card, status: u16) -> Route
+fn ends(over: bool, card: Card, status: u16) -> Way
     ensures { λ r. ⌜ r ≡ endsWith over card status ⌝ }
 {
-    Route {
+    Way {
         goes: false,
         over,
         status,
@@ -49,13 +49,13 @@ fn ends(over: bool, card: Card, status: u16) -> Route
 }
 
 // Step 6: the command's checks.
-fn step_6(over: bool, i: Instruction, p1: u8, card: Card, k: Command, data: &[u8]) -> Route
+fn step_6(over: bool, i: Instruction, p1: u8, card: Card, k: Command, data: &[u8]) -> Way
     requires { ⌜ InRange k × PathsFit (card .keys) ⌝ }
     ensures { λ r. ⌜ Routes (step6 (tellBy over) (atStake i p1 card) card (now («data» .entry)) k) r (now («data» .entry)) ⌝ }
 {
     let status = commands::judge(card, k, data);
     if status == rules::SUCCESS {
-        return Route {
+        return Way {
             goes: true,
             over,
             status,
@@ -68,7 +68,7 @@ fn step_6(over: bool, i: Instruction, p1: u8, card: Card, k: Command, data: &[u8
 }
 
 // Step 5: P1 and P2.
-fn step_5(over: bool, i: Instruction, p1: u8, p2: u8, card: Card, data: &[u8]) -> Route
+fn step_5(over: bool, i: Instruction, p1: u8, p2: u8, card: Card, data: &[u8]) -> Way
     requires { ⌜ PathsFit (card .keys) ⌝ }
     ensures { λ r. ⌜ Routes (step5 (tellBy over) i p1 p2 card (now («data» .entry))) r (now («data» .entry)) ⌝ }
 {
@@ -104,7 +104,7 @@ pub fn with_mac(mut card: Card, mac: [u8; 16]) -> Card
 }
 
 // Step 4, for what goes over the channel: the data is opened; otherwise 6982, and the channel is closed.
-fn open(i: Instruction, card: Card, cmd: &[u8], field: &[u8], plain: &mut [u8]) -> Route
+fn open(i: Instruction, card: Card, cmd: &[u8], field: &[u8], plain: &mut [u8]) -> Way
     requires { ⌜ (4 ≤ length (now cmd)) × (length (now plain) ≡ 255) × PathsFit (card .keys) ⌝ }
     ensures { λ r. ⌜ RoutesIn (opening i (now (cmd .entry)) card (now (field .entry))) r (now (plain .exit)) ⌝ }
 {
@@ -120,7 +120,7 @@ fn open(i: Instruction, card: Card, cmd: &[u8], field: &[u8], plain: &mut [u8]) 
 }
 
 // Step 4: a plain command goes on with its data as it is; the others need the stage.
-fn step_4(i: Instruction, card: Card, cmd: &[u8], field: &[u8], plain: &mut [u8]) -> Route
+fn step_4(i: Instruction, card: Card, cmd: &[u8], field: &[u8], plain: &mut [u8]) -> Way
     requires { ⌜ (4 ≤ length (now cmd)) × (length (now field) ≤ 255) × (length (now plain) ≡ 255) × PathsFit (card .keys) ⌝ }
     ensures { λ r. ⌜ RoutesIn (step4 i (now (cmd .entry)) card (now (field .entry))) r (now (plain .exit)) ⌝ }
 {
@@ -135,7 +135,7 @@ fn step_4(i: Instruction, card: Card, cmd: &[u8], field: &[u8], plain: &mut [u8]
 }
 
 // Step 3: class and instruction.
-fn step_3(card: Card, cmd: &[u8], field: &[u8], plain: &mut [u8]) -> Route
+fn step_3(card: Card, cmd: &[u8], field: &[u8], plain: &mut [u8]) -> Way
     requires { ⌜ (4 ≤ length (now cmd)) × (length (now field) ≤ 255) × (length (now plain) ≡ 255) × PathsFit (card .keys) ⌝ }
     ensures { λ r. ⌜ RoutesIn (step3 (now (cmd .entry)) card (now (field .entry))) r (now (plain .exit)) ⌝ }
 {
@@ -148,7 +148,7 @@ fn step_3(card: Card, cmd: &[u8], field: &[u8], plain: &mut [u8]) -> Route
 }
 
 // Steps 1 to 6. The command's data is left at the start of `plain`.
-pub fn route(card: Card, cmd: &[u8], plain: &mut [u8]) -> Route
+pub fn route(card: Card, cmd: &[u8], plain: &mut [u8]) -> Way
     requires { ⌜ (length (now plain) ≡ 255) × PathsFit (card .keys) ⌝ }
     ensures { λ r. ⌜ RoutesIn (decide card (now (cmd .entry))) r (now (plain .exit)) ⌝ }
 {

@@ -1,283 +1,209 @@
+-- Each command with its own reply, by what is known of its checks, its supply and its index.
+-- Assumes nothing.
 use Rattle.key_commands.proofs.Responses.{derive-response, remove-response, pinless-response}
 use Rattle.pin_commands.proofs.Laws.{verify-empty, change-empty, unblock-empty, unpair-empty}
 use Rattle.plain_commands.proofs.Laws.{init-empty}
-use native.Mathlib.Omega.{arith}
 use Rattle.rules.specs.Commands.{checksOf, supplyOf, replyOf}
-use Rattle.rules.specs.declared.Command.the-variants as command
 use Rattle.commands.proofs.Facts.{checked, suited, ranged, silent}
 use borrow.Author.Needs.{needs}
 use Rattle.commands.proofs.act.Statement.{statement}
 use Rattle.commands.proofs.act.Tie as tie
-use Rattle.commands.proofs.act.Reads as reads
-use Rattle.commands.proofs.act.Lts as lts
-use Rattle.key_commands.proofs.derive.Reads as derive-reads
-use Rattle.key_commands.proofs.load.Reads as load-reads
-use Rattle.key_commands.proofs.pinless.Reads as pinless-reads
-use Rattle.key_commands.proofs.remove.Reads as remove-reads
-use Rattle.key_commands.proofs.sign.Reads as sign-reads
-use Rattle.pin_commands.proofs.change.Reads as change-reads
-use Rattle.pin_commands.proofs.mutual.Reads as mutual-reads
-use Rattle.pin_commands.proofs.status.Reads as status-reads
-use Rattle.pin_commands.proofs.unblock.Reads as unblock-reads
-use Rattle.pin_commands.proofs.unpair.Reads as unpair-reads
-use Rattle.pin_commands.proofs.verify.Reads as verify-reads
-use Rattle.plain_commands.proofs.init.Reads as init-reads
-use Rattle.plain_commands.proofs.open.Reads as open-reads
-use Rattle.plain_commands.proofs.pair_final.Reads as pair-final-reads
-use Rattle.plain_commands.proofs.pair_first.Reads as pair-first-reads
-use Rattle.plain_commands.proofs.select.Reads as select-reads
 
--- src/lib.rt:53:57
 enum-told : tie.Need-enum-told
 enum-told c = search needs
 
--- src/lib.rt:53:28
 select-requires : tie.Need-select-requires
 unfolding checksOf supplyOf replyOf
 select-requires c κs = c .before .before .before .before .before .before .pre .1 .2
 
--- src/lib.rt:54:26
 enum-told-2 : tie.Need-enum-told-2
 enum-told-2 c = search needs
 
--- src/lib.rt:54:26
 init-requires : tie.Need-init-requires
 unfolding checksOf supplyOf replyOf
 init-requires c κs = (checked _ _ (c .enum-told2 .given .1) _ _ (c .before .before .before .before .before .pre .0 .0), suited _ _ (c .enum-told2 .given .1) _ (c .before .before .before .before .before .pre .0 .1))
 
--- src/lib.rt:55:64
 enum-told-3 : tie.Need-enum-told-3
 enum-told-3 c = search needs
 
--- src/lib.rt:55:29
 open-requires : tie.Need-open-requires
 unfolding checksOf supplyOf replyOf
 open-requires c κs = (suited _ _ (c .before .enum-told3 .given .1) _ (c .before .before .before .before .before .before .pre .0 .1), c .before .before .before .before .before .before .pre .1 .2)
 
--- src/lib.rt:56:63
 enum-told-4 : tie.Need-enum-told-4
 enum-told-4 c = search needs
 
--- src/lib.rt:56:28
 mutual-requires : tie.Need-mutual-requires
 unfolding checksOf supplyOf replyOf
 mutual-requires c κs = (suited _ _ (c .before .enum-told4 .given .1) _ (c .before .before .before .before .before .before .pre .0 .1), c .before .before .before .before .before .before .pre .1 .2)
 
--- src/lib.rt:57:72
 enum-told-5 : tie.Need-enum-told-5
 enum-told-5 c = search needs
 
--- src/lib.rt:57:31
 pair-first-requires : tie.Need-pair-first-requires
 unfolding checksOf supplyOf replyOf
 pair-first-requires c κs = (suited _ _ (c .before .enum-told5 .given .1) _ (c .before .before .before .before .before .before .pre .0 .1), c .before .before .before .before .before .before .pre .1 .2)
 
--- src/lib.rt:58:72
 enum-told-6 : tie.Need-enum-told-6
 enum-told-6 c = search needs
 
--- src/lib.rt:58:31
 pair-final-requires : tie.Need-pair-final-requires
 unfolding checksOf supplyOf replyOf
 pair-final-requires c κs = (suited _ _ (c .before .enum-told6 .given .1) _ (c .before .before .before .before .before .before .pre .0 .1), c .before .before .before .before .before .before .pre .1 .2)
 
--- src/lib.rt:59:25
 enum-known-k : tie.Need-enum-known-k
 enum-known-k c = search needs
 
--- src/lib.rt:59:34
 unpair-requires : tie.Need-unpair-requires
 unfolding checksOf supplyOf replyOf
 unpair-requires c κs = ranged _ _ (c .before .k .given .1) (c .before .before .before .before .before .before .pre .1 .0)
 
--- src/lib.rt:60:25
 enum-known-k-2 : tie.Need-enum-known-k-2
 enum-known-k-2 c = search needs
 
--- src/lib.rt:60:35
 status-requires : tie.Need-status-requires
 unfolding checksOf supplyOf replyOf
 status-requires c κs = (c .before .before .before .before .before .before .before .pre .1 .2, c .before .before .before .before .before .before .before .pre .1 .1 .0)
 
--- src/lib.rt:61:28
 enum-told-7 : tie.Need-enum-told-7
 enum-told-7 c = search needs
 
--- src/lib.rt:61:28
 verify-requires : tie.Need-verify-requires
 unfolding checksOf supplyOf replyOf
 verify-requires c κs = checked _ _ (c .enum-told7 .given .1) _ _ (c .before .before .before .before .before .pre .0 .0)
 
--- src/lib.rt:62:25
 enum-known-k-3 : tie.Need-enum-known-k-3
 enum-known-k-3 c = search needs
 
--- src/lib.rt:62:35
 change-requires : tie.Need-change-requires
 unfolding checksOf supplyOf replyOf
 change-requires c κs = checked _ _ (c .before .k3 .given .1) _ _ (c .before .before .before .before .before .before .pre .0 .0)
 
--- src/lib.rt:63:29
 enum-told-8 : tie.Need-enum-told-8
 enum-told-8 c = search needs
 
--- src/lib.rt:63:29
 unblock-requires : tie.Need-unblock-requires
 unfolding checksOf supplyOf replyOf
 unblock-requires c κs = checked _ _ (c .enum-told8 .given .1) _ _ (c .before .before .before .before .before .pre .0 .0)
 
--- src/lib.rt:64:23
 enum-known-k-4 : tie.Need-enum-known-k-4
 enum-known-k-4 c = search needs
 
--- src/lib.rt:64:32
 load-requires : tie.Need-load-requires
 unfolding checksOf supplyOf replyOf
 load-requires c κs = (suited _ _ (c .before .before .k4 .given .1) _ (c .before .before .before .before .before .before .before .pre .0 .1), c .before .before .before .before .before .before .before .pre .1 .2)
 
--- src/lib.rt:65:28
 enum-told-9 : tie.Need-enum-told-9
 enum-told-9 c = search needs
 
--- src/lib.rt:65:28
 derive-requires : tie.Need-derive-requires
 unfolding checksOf supplyOf replyOf
 derive-requires c κs = (checked _ _ (c .enum-told9 .given .1) _ _ (c .before .before .before .before .before .pre .0 .0), suited _ _ (c .enum-told9 .given .1) _ (c .before .before .before .before .before .pre .0 .1))
 
--- src/lib.rt:66:28
 enum-told-10 : tie.Need-enum-told-10
 enum-told-10 c = search needs
 
--- src/lib.rt:66:28
 remove-requires : tie.Need-remove-requires
 remove-requires c κs = search needs
 
--- src/lib.rt:67:32
 enum-told-11 : tie.Need-enum-told-11
 enum-told-11 c = search needs
 
--- src/lib.rt:67:32
 pinless-requires : tie.Need-pinless-requires
 unfolding checksOf supplyOf replyOf
 pinless-requires c κs = checked _ _ (c .enum-told11 .given .1) _ _ (c .before .before .before .before .before .pre .0 .0)
 
--- src/lib.rt:68:59
 enum-told-12 : tie.Need-enum-told-12
 enum-told-12 c = search needs
 
--- src/lib.rt:68:26
 sign-requires : tie.Need-sign-requires
 unfolding checksOf supplyOf replyOf
 sign-requires c κs = (suited _ _ (c .before .enum-told12 .given .1) _ (c .before .before .before .before .before .before .pre .0 .1), c .before .before .before .before .before .before .pre .1 .2)
 
--- src/lib.rt:47:1
 same-length : tie.Need-same-length
 same-length c = search needs
 
--- src/lib.rt:47:1
 returns : tie.Need-returns
 unfolding checksOf supplyOf replyOf
 returns c = rw (c .before .before .before .before .enum-told .given .1) (c .before .before .select .ensures)
 
--- src/lib.rt:47:1
 returns-2 : tie.Need-returns-2
 unfolding checksOf supplyOf replyOf
 returns-2 c = rw (c .before .enum-told2 .given .1) (silent _ _ _ (init-empty _ _ _) (c .init .ensures))
 
--- src/lib.rt:47:1
 same-length-2 : tie.Need-same-length-2
 same-length-2 c = search needs
 
--- src/lib.rt:47:1
 returns-3 : tie.Need-returns-3
 unfolding checksOf supplyOf replyOf
 returns-3 c = rw (c .before .before .before .before .enum-told3 .given .1) (c .before .before .«open» .ensures)
 
--- src/lib.rt:47:1
 same-length-3 : tie.Need-same-length-3
 same-length-3 c = search needs
 
--- src/lib.rt:47:1
 returns-4 : tie.Need-returns-4
 unfolding checksOf supplyOf replyOf
 returns-4 c = rw (c .before .before .before .before .enum-told4 .given .1) (c .before .before .«mutual» .ensures)
 
--- src/lib.rt:47:1
 same-length-4 : tie.Need-same-length-4
 same-length-4 c = search needs
 
--- src/lib.rt:47:1
 returns-5 : tie.Need-returns-5
 unfolding checksOf supplyOf replyOf
 returns-5 c = rw (c .before .before .before .before .enum-told5 .given .1) (c .before .before .pair-first .ensures)
 
--- src/lib.rt:47:1
 same-length-5 : tie.Need-same-length-5
 same-length-5 c = search needs
 
--- src/lib.rt:47:1
 returns-6 : tie.Need-returns-6
 unfolding checksOf supplyOf replyOf
 returns-6 c = rw (c .before .before .before .before .enum-told6 .given .1) (c .before .before .pair-final .ensures)
 
--- src/lib.rt:47:1
 returns-7 : tie.Need-returns-7
 unfolding checksOf supplyOf replyOf
 returns-7 c = rw (c .before .before .k .given .1) (silent _ _ _ (unpair-empty _ _) (c .unpair .ensures))
 
--- src/lib.rt:47:1
 same-length-6 : tie.Need-same-length-6
 same-length-6 c = search needs
 
--- src/lib.rt:47:1
 returns-8 : tie.Need-returns-8
 unfolding checksOf supplyOf replyOf
 returns-8 c = rw (c .before .before .before .before .before .k2 .given .1) (c .before .before .status .ensures)
 
--- src/lib.rt:47:1
 returns-9 : tie.Need-returns-9
 unfolding checksOf supplyOf replyOf
 returns-9 c = rw (c .before .enum-told7 .given .1) (silent _ _ _ (verify-empty _ _) (c .verify .ensures))
 
--- src/lib.rt:47:1
 returns-10 : tie.Need-returns-10
 unfolding checksOf supplyOf replyOf
 returns-10 c = rw (c .before .before .k3 .given .1) (silent _ _ _ (change-empty _ _ _) (c .change .ensures))
 
--- src/lib.rt:47:1
 returns-11 : tie.Need-returns-11
 unfolding checksOf supplyOf replyOf
 returns-11 c = rw (c .before .enum-told8 .given .1) (silent _ _ _ (unblock-empty _ _) (c .unblock .ensures))
 
--- src/lib.rt:47:1
 same-length-7 : tie.Need-same-length-7
 same-length-7 c = search needs
 
--- src/lib.rt:47:1
 returns-12 : tie.Need-returns-12
 unfolding checksOf supplyOf replyOf
 returns-12 c = rw (c .before .before .before .before .before .k4 .given .1) (c .before .before .load .ensures)
 
--- src/lib.rt:47:1
 returns-13 : tie.Need-returns-13
 unfolding checksOf supplyOf replyOf
 returns-13 c = rw (c .before .enum-told9 .given .1) (silent _ _ _ (derive-response _ _ _) (c .derive .ensures))
 
--- src/lib.rt:47:1
 returns-14 : tie.Need-returns-14
 unfolding checksOf supplyOf replyOf
 returns-14 c = rw (c .before .enum-told10 .given .1) (silent _ _ _ (remove-response _) (c .remove .ensures))
 
--- src/lib.rt:47:1
 returns-15 : tie.Need-returns-15
 unfolding checksOf supplyOf replyOf
 returns-15 c = rw (c .before .enum-told11 .given .1) (silent _ _ _ (pinless-response _ _) (c .pinless .ensures))
 
--- src/lib.rt:47:1
 same-length-8 : tie.Need-same-length-8
 same-length-8 c = search needs
 
--- src/lib.rt:47:1
 returns-16 : tie.Need-returns-16
 unfolding checksOf supplyOf replyOf
 returns-16 c = rw (c .before .before .before .before .enum-told12 .given .1) (c .before .before .sign .ensures)

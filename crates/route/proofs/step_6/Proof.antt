@@ -1,0 +1,31 @@
+use borrow.Author.Needs.{needs}
+use Rattle.route.proofs.step_6.Statement.{statement}
+use Rattle.route.proofs.step_6.Tie as tie
+use Rattle.route.proofs.step_6.Reads as reads
+use Rattle.route.proofs.step_6.Lts as lts
+use Rattle.commands.proofs.judge.Reads as judge-reads
+use Rattle.decode.proofs.at_stake.Reads as at-stake-reads
+use Rattle.route.proofs.ends.Reads as ends-reads
+
+-- src/lib.rt:56:9
+judge-requires : tie.Need-judge-requires
+judge-requires c κs = search needs
+
+-- src/lib.rt:58:9
+returns : tie.Need-returns
+returns c = ?
+
+-- src/lib.rt:67:16
+at-stake-requires : tie.Need-at-stake-requires
+at-stake-requires c κs = search needs
+
+-- src/lib.rt:67:5
+ends-requires : tie.Need-ends-requires
+ends-requires c κs = search needs
+
+-- src/lib.rt:52:1
+returns-2 : tie.Need-returns-2
+returns-2 c = ?
+
+pub step-6-spec : {M : Type 1} → statement M
+step-6-spec = tie.close (tie.spec judge-requires returns at-stake-requires ends-requires returns-2)
