@@ -1,1 +1,1 @@
-mod Decoding
+pub mod Decoding

@@ -5,7 +5,7 @@ ghost use mathlib.Core.Path.{_≡_};
 ghost use Prim.Native.Nat.{_≤_};
 ghost use lib.ListN.{length, take};
 ghost use Rattle.commands.specs.Fits.{InRange, PathsFit};
-ghost use Rattle.rules.specs.Engine.{sessionOf, withMac, step3, step4, step5, step6, decide};
+ghost use Rattle.rules.specs.Engine.{overChannel, sessionOf, withMac, step3, step4, step5, step6, decide};
 ghost use Rattle.rules.specs.Steps.{atStake};
 ghost use Rattle.route.specs.Routes.{tellBy, Routes, RoutesIn, endsWith, opening};
 use card::Card;
@@ -103,20 +103,42 @@ pub fn with_mac(mut card: Card, mac: [u8; 16]) -> Card
     card
 }
 
+// Step 4, past the opening: the MAC is the next IV, and the opened data goes on.
+fn opened_way(
+    i: Instruction,
+    p1: u8,
+    p2: u8,
+    card: Card,
+    field: &[u8],
+    data: &[u8],
+    plain: &mut [u8],
+) -> Way
+    requires { ⌜ (32 ≤ length (now field)) × (length (now «data») ≤ 223) × (length (now plain) ≡ 255) × PathsFit (card .keys) ⌝ }
+    ensures { λ r. ⌜ RoutesIn (step5 overChannel i p1 p2 (withMac card (take 16 (now (field .entry)))) (now («data» .entry))) r (now (plain .exit)) ⌝ }
+{
+    let mac = octets::block(&field[0..16]);
+    octets::put(plain, 0, data);
+    step_5(true, i, p1, p2, with_mac(card, mac), data)
+}
+
 // Step 4, for what goes over the channel: the data is opened; otherwise 6982, and the channel is closed.
 fn open(i: Instruction, card: Card, cmd: &[u8], field: &[u8], plain: &mut [u8]) -> Way
     requires { ⌜ (4 ≤ length (now cmd)) × (length (now plain) ≡ 255) × PathsFit (card .keys) ⌝ }
     ensures { λ r. ⌜ RoutesIn (opening i (now (cmd .entry)) card (now (field .entry))) r (now (plain .exit)) ⌝ }
 {
-    let header = [cmd[0], cmd[1], cmd[2], cmd[3]];
+    let p1 = cmd[2];
+    let p2 = cmd[3];
     let session = session_of(card.channel);
     let mut opened = [0u8; OPENED_BYTES];
-    let Opening::Bytes(n) = sealing::open_command(session, header, field, &mut opened) else {
+    let Opening::Bytes(n) = sealing::open_command(
+        session,
+        [cmd[0], cmd[1], p1, p2],
+        field,
+        &mut opened,
+    ) else {
         return ends(false, decode::close(card), rules::SECURITY_NOT_MET);
     };
-    let mac = octets::block(&field[0..16]);
-    octets::put(plain, 0, &opened[0..n]);
-    step_5(true, i, cmd[2], cmd[3], with_mac(card, mac), &opened[0..n])
+    opened_way(i, p1, p2, card, field, &opened[0..n], plain)
 }
 
 // Step 4: a plain command goes on with its data as it is; the others need the stage.

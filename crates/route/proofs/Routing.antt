@@ -1,0 +1,172 @@
+-- What each step makes of a route: it ends, it goes on, or it is the next step's; and the data as they stand in the scratch.
+-- Assumes nothing.
+use mathlib.Core.Path.{_≡_, refl, sym, ap, subst, _∙_}
+use mathlib.Core.Bool.{Bool, true, false, _&&_, not, cond, false≢true}
+use mathlib.Core.List.{List, [], _∷_, _++_}
+use mathlib.Core.Option.{Option, none, some}
+use Prim.Native.Nat.{ℕ, _+_, _-_, _≤_, _<_}
+use native.Mathlib.Omega.{arith}
+use borrow.Author.Tests.{eq-eqb, ne-eqb, ltb-true}
+use lib.Dec.{eqb, ltb}
+use lib.ListN.{length, take, drop, getD}
+use Rattle.octets.specs.Bytes.{overwrite}
+use Rattle.octets.proofs.Lists.{overwritten}
+use Rattle.message.specs.declared.Session.{Session}
+use Rattle.message.specs.declared.Opening.{Opening}
+use Rattle.message.specs.declared.Opening.the-variants as opening
+use Rattle.message.specs.Message.{fieldForm, opened, openField, openingOf, commandHead}
+use Rattle.message.proofs.Fields.{provided-some, form-is}
+use Rattle.sealing.specs.Promise.{Opens}
+use Rattle.card.specs.declared.Card.{Card}
+use Rattle.card.specs.declared.Keys.{Keys}
+use Rattle.card.specs.State.{slotCount}
+use Rattle.rules.specs.declared.Instruction.{Instruction}
+use Rattle.rules.specs.declared.Instruction.the-variants as ins
+use Rattle.rules.specs.declared.Named.{Named}
+use Rattle.rules.specs.declared.Command.{Command}
+use Rattle.rules.specs.declared.Command.the-variants as command
+use Rattle.rules.specs.declared.Choice.{Choice}
+use Rattle.rules.specs.declared.Choice.the-variants as choice
+use Rattle.rules.specs.Words.{success, wrongParameters, verdict, Reply, fails}
+use Rattle.rules.specs.Steps.{closed, forgotten, begins, dropped, kept, afterStep1, headerOf, atStake, commandOf, byP1, choiceOf}
+use Rattle.rules.specs.Commands.{checksOf, supplyOf, replyOf}
+use Rattle.rules.specs.Engine.{Told, Decision, ends, step5, step6, byChoice}
+use Rattle.commands.specs.Fits.{InRange, PathsFit}
+use Rattle.decode.specs.Stakes.{stakeOf, without}
+use Rattle.decode.specs.declared.Stake.{Stake}
+use Rattle.decode.specs.declared.Stake.the-variants as stake
+use Rattle.decode.proofs.Decoding.{stake-is}
+use Rattle.route.specs.declared.Way.{Way}
+use Rattle.route.specs.Routes.{tellBy, endsWith, decisionOf, Ready, Routes}
+
+-- ---- the keys are the card's own through steps 1 to 5
+without-keys : (s : Stake) (c : Card) → without s c .keys ≡ c .keys
+without-keys stake.Nothing c = refl
+without-keys stake.Channel c = refl
+without-keys stake.Pending c = refl
+
+pub stake-keys : (i : Instruction) (p1 : ℕ) (c : Card) → atStake i p1 c .keys ≡ c .keys
+stake-keys i p1 c = ap (λ (x : Card). x .keys) (stake-is i p1 c) ∙ without-keys (stakeOf i p1 (c .channel .stage)) c
+
+if-keys : (b : Bool) (x y : Card) (k : Keys) → x .keys ≡ k → y .keys ≡ k → cond b x y .keys ≡ k
+if-keys true x y k e f = e
+if-keys false x y k e f = f
+
+dropped-keys : (cmd : List ℕ) (c : Card) → dropped cmd c .keys ≡ c .keys
+dropped-keys cmd c = if-keys (eqb (c .channel .stage) 1 && not (begins 0x11 cmd)) (closed c) c (c .keys) refl refl
+
+pub step1-keys : (cmd : List ℕ) (c : Card) → afterStep1 cmd c .keys ≡ c .keys
+unfolding afterStep1
+step1-keys cmd c =
+    if-keys (begins 0x12 cmd) (dropped cmd c) (forgotten (dropped cmd c)) (c .keys) (dropped-keys cmd c) (dropped-keys cmd c)
+
+pub paths-by : (c d : Card) → c .keys ≡ d .keys → PathsFit (d .keys) → PathsFit (c .keys)
+paths-by c d e h = subst PathsFit (sym e) h
+
+-- ---- a route that ends
+pub ends-route : (over : Bool) (c : Card) (w : ℕ) (want : Decision) (d : List ℕ) → want ≡ ends (tellBy over (fails c w))
+    → PathsFit (c .keys) → Routes want (endsWith over c w) d
+ends-route over c w want d e h = record { decides = e; ready = λ t. absurd (false≢true t); paths = h }
+
+-- ---- step 6
+module _ (over : Bool) (lost c : Card) (d : List ℕ) (k : Command) where
+  pub step6-goes : (w : ℕ) → w ≡ verdict (checksOf k c d) → w ≡ success → InRange k → PathsFit (c .keys)
+      → Routes (step6 (tellBy over) lost c d k) (record { goes = true; over = over; status = w; count = length d; command = k; card = c }) d
+  unfolding step6
+  step6-goes w e s i h = record {
+    decides = rw (eq-eqb (verdict (checksOf k c d)) success (sym e ∙ s));
+    ready = λ _. record { judged = sym e ∙ s; inrange = i; long = refl };
+    paths = h;
+  }
+
+  pub step6-ends : (w : ℕ) → w ≡ verdict (checksOf k c d) → (w ≡ success → ⊥) → step6 (tellBy over) lost c d k ≡ ends (tellBy over (fails lost w))
+  unfolding step6
+  step6-ends w e n = rw (ne-eqb (verdict (checksOf k c d)) success (λ s. n (e ∙ s)), ← e)
+
+-- ---- step 5
+module _ (o : Option Command) where
+  pub chosen : (k : Command) → choice.Listed k ≡ choiceOf o → o ≡ some k
+  chosen k e = by o e
+    where
+      by : (o : Option Command) → choice.Listed k ≡ choiceOf o → o ≡ some k
+      by none e = let z : _≡_ {A = ℕ} 0 1 = cc in absurd (omega arith)
+      by (some x) e = cc
+
+  pub unlisted : choice.Unlisted ≡ choiceOf o → o ≡ none
+  unlisted e = by o e
+    where
+      by : (o : Option Command) → choice.Unlisted ≡ choiceOf o → o ≡ none
+      by none e = refl
+      by (some x) e = let z : _≡_ {A = ℕ} 0 1 = cc in absurd (omega arith)
+
+-- a listed slot is one
+abbrev Ranged : Option Command → Type 0
+Ranged none = Unit {0}
+Ranged (some k) = InRange k
+
+only-ranged : (b : Bool) (k : Command) → InRange k → Ranged (cond b (some k) none)
+only-ranged true k h = h
+only-ranged false k h = tt
+
+slot-ranged : (p1 : ℕ) (k : Command) → (p1 < slotCount → InRange k) → Ranged (cond (ltb p1 slotCount) (some k) none)
+slot-ranged p1 k h = by (ltb p1 slotCount) refl
+  where
+    by : (b : Bool) → ltb p1 slotCount ≡ b → Ranged (cond b (some k) none)
+    by true e = h (ltb-true p1 slotCount e)
+    by false e = tt
+
+if-ranged : (b : Bool) (x y : Option Command) → Ranged x → Ranged y → Ranged (cond b x y)
+if-ranged true x y h g = h
+if-ranged false x y h g = g
+
+listed-ranged : (i : Instruction) (p1 : ℕ) → Ranged (byP1 i p1)
+listed-ranged ins.Select p1 = only-ranged (eqb p1 4) command.Select tt
+listed-ranged ins.Init p1 = only-ranged (eqb p1 0) command.Init tt
+listed-ranged ins.Open p1 = slot-ranged p1 (command.Open p1) (λ h. h)
+listed-ranged ins.Mutual p1 = only-ranged (eqb p1 0) command.Mutual tt
+listed-ranged ins.Pair p1 = if-ranged (eqb p1 0) _ _ tt (only-ranged (eqb p1 1) command.PairFinal tt)
+listed-ranged ins.Unpair p1 = slot-ranged p1 (command.Unpair p1) (λ h. h)
+listed-ranged ins.Status p1 = if-ranged (eqb p1 0) _ _ tt (only-ranged (eqb p1 1) _ tt)
+listed-ranged ins.Verify p1 = only-ranged (eqb p1 0) command.Verify tt
+listed-ranged ins.Change p1 = if-ranged (eqb p1 0) _ _ tt (if-ranged (eqb p1 1) _ _ tt (only-ranged (eqb p1 2) _ tt))
+listed-ranged ins.Unblock p1 = only-ranged (eqb p1 0) command.Unblock tt
+listed-ranged ins.Load p1 = if-ranged (eqb p1 1) _ _ tt (if-ranged (eqb p1 2) _ _ tt (only-ranged (eqb p1 3) _ tt))
+listed-ranged ins.Derive p1 = only-ranged (eqb p1 0) command.Derive tt
+listed-ranged ins.Remove p1 = only-ranged (eqb p1 0) command.Remove tt
+listed-ranged ins.SetPinless p1 = only-ranged (eqb p1 0) command.SetPinless tt
+listed-ranged ins.Sign p1 = only-ranged (eqb p1 0) command.Sign tt
+
+pub command-ranged : (i : Instruction) (p1 p2 : ℕ) (k : Command) → commandOf i p1 p2 ≡ some k → InRange k
+unfolding commandOf
+command-ranged i p1 p2 k e = subst Ranged e (if-ranged (eqb p2 0) (byP1 i p1) none (listed-ranged i p1) tt)
+
+module _ (tell : Reply → Told) (i : Instruction) (p1 p2 : ℕ) (c : Card) (d : List ℕ) where
+  pub step5-listed : (k : Command) → commandOf i p1 p2 ≡ some k → step5 tell i p1 p2 c d ≡ step6 tell (atStake i p1 c) c d k
+  unfolding step5
+  step5-listed k e = ap (byChoice tell (atStake i p1 c) c d) e
+
+  pub step5-unlisted : commandOf i p1 p2 ≡ none → step5 tell i p1 p2 c d ≡ ends (tell (fails (atStake i p1 c) wrongParameters))
+  unfolding step5
+  step5-unlisted e = ap (byChoice tell (atStake i p1 c) c d) e
+
+-- ---- the same route for another name of the decision, and for the data at the start of the scratch
+pub routes-as : (want want′ : Decision) (r : Way) (d : List ℕ) → want′ ≡ want → Routes want r d → Routes want′ r d
+routes-as want want′ r d e h = record { decides = e ∙ h .decides; ready = h .ready; paths = h .paths }
+
+module _ (want : Decision) (r : Way) (d plain : List ℕ) (h : Routes want r d) (e : take (length d) plain ≡ d) where
+  pub stored : Routes want r (take (r .count) plain)
+  stored = by (r .goes) refl
+    where
+      by : (b : Bool) → r .goes ≡ b → Routes want r (take (r .count) plain)
+      by true g = subst (Routes want r) (sym (ap (λ (n : ℕ). take n plain) (sym (h .ready g .long)) ∙ e)) h
+      by false g = record {
+        decides = h .decides ∙ ended d g ∙ sym (ended (take (r .count) plain) g);
+        ready = λ t. absurd (false≢true (sym g ∙ t));
+        paths = h .paths;
+      }
+        where
+          ended : (x : List ℕ) → r .goes ≡ false → decisionOf r x ≡ ends (tellBy (r .over) (fails (r .card) (r .status)))
+          ended x f = rw (f)
+
+pub at-start : (plain d : List ℕ) → length d ≤ length plain → take (length d) (overwrite plain 0 d) ≡ d
+at-start plain d h = overwritten plain 0 d (omega (arith, h))
