@@ -1,3 +1,11 @@
+use Rattle.rules.specs.Engine.{overChannel, withMac, step5}
+use Rattle.card.specs.declared.Card.{Card}
+use native.Mathlib.Omega.{arith}
+use lib.ListN.{length, take}
+use Prim.Native.Nat.{ℕ}
+use mathlib.Core.List.{List}
+use mathlib.Core.Path.{_≡_, sym, ap, subst, _∙_}
+use Rattle.route.proofs.Routing.{stored, routes-as, at-start}
 use borrow.Author.Needs.{needs}
 use Rattle.route.proofs.opened_way.Statement.{statement}
 use Rattle.route.proofs.opened_way.Tie as tie
@@ -34,7 +42,7 @@ with-mac-requires c κs = search needs
 
 -- src/lib.rt:121:5
 step-5-requires : tie.Need-step-5-requires
-step-5-requires c κs = ?
+step-5-requires c κs = rw (c .with-mac .ensures) (c .before .before .before .before .before .before .before .before .before .before .pre .3)
 
 -- src/lib.rt:107:1
 same-length : tie.Need-same-length
@@ -42,7 +50,12 @@ same-length c = search needs
 
 -- src/lib.rt:107:1
 returns : tie.Need-returns
-returns c = ?
+returns c = let g = c .before .before .before .before .before .before .before .before .before .before .before .args in
+    let p = c .before .before .before .before .before .before .before .before .before .before .before .pre in
+    let d = g .«data» .now in
+    stored _ _ d _
+    (routes-as _ _ _ d (ap (λ (x : Card). step5 overChannel (g .i) (g .p1) (g .p2) x d) (sym (c .before .with-mac .ensures ∙ ap (withMac (g .card)) (c .before .before .before .before .before .before .block .ensures)))) (c .step-5 .ensures))
+    (subst (λ (x : List ℕ). take (length d) x ≡ d) (sym (c .before .before .before .before .put .ensures)) (at-start (g .plain .now) d (omega (arith, p .1, p .2))))
 
 pub opened-way-spec : {M : Type 1} → statement M
 opened-way-spec =
