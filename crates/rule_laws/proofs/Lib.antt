@@ -1,0 +1,4 @@
+pub mod Checks
+pub mod Parts
+pub mod Changed
+pub mod Kept
