@@ -1,0 +1,218 @@
+-- From a sound card every next card is sound, and keeps its shape: step by step through the order of checks, then for ANSWER.
+-- Assumes nothing but the shape of the card that is given.
+use mathlib.Core.Path.{_≡_, refl, sym, _∙_}
+use mathlib.Core.Bool.{Bool, true, false, _&&_, not}
+use mathlib.Core.Logic.{⊎-elim}
+use mathlib.Core.List.{List}
+use mathlib.Core.Option.{Option, none, some}
+use Prim.Native.Nat.{ℕ}
+use native.Mathlib.Omega.{arith}
+use lib.Dec.{ltb, leb, eqb}
+use lib.ListN.{length, take}
+use borrow.Author.Tests.{eqb-true, eqb-false, leb-true, ne-eqb}
+use Rattle.message.specs.Message.{commandHead, openField}
+use Rattle.template.proofs.HeadFacts.{by-test}
+use Rattle.card.specs.declared.Card.{Card}
+use Rattle.card.specs.State.{freshOf, resetOf}
+use Rattle.card.specs.Slots.{isZero}
+use Rattle.card.specs.Sound.{isSound, channelSound, sessionZero}
+use Rattle.card.specs.Shape.{Shaped}
+use Rattle.card.proofs.Tests.{both}
+use Rattle.card.proofs.Rules.{parts-rules, blank-rules, sound-cases}
+use Rattle.rules.specs.declared.Instruction.{Instruction}
+use Rattle.rules.specs.declared.Instruction.the-variants as ins
+use Rattle.rules.specs.declared.Named.{Named}
+use Rattle.rules.specs.declared.Named.the-variants as named
+use Rattle.rules.specs.declared.Command.{Command}
+use Rattle.rules.specs.Words.{success, verdict, Reply, fails}
+use Rattle.rules.specs.Supplies.{suits}
+use Rattle.rules.specs.Steps.{begins, dropped, afterStep1, dataOf, headerOf, claOf, insOf, p1Of, p2Of, rowOf, isInitialised, nameOf, isPlain, inStage, atStake, commandOf}
+use Rattle.rules.specs.Commands.{checksOf, replyOf}
+use Rattle.rules.specs.Engine.{sessionOf, withMac, Told, plainly, overChannel, Decision, step6, byChoice, step5, byOpening, step4, byName, step3, byForm, step2, decide, Answered, answerRoom, answerOut}
+use Rattle.rule_laws.specs.Reached.{Reached}
+use Rattle.rule_laws.proofs.Parts.{Fit, channel-kept, closed-fit, forgotten-fit, channel-shaped}
+use Rattle.rule_laws.proofs.Kept.{reply-fit}
+use Rattle.engine_laws.proofs.Names.{begins-byte, Says, name-says, step1-pending, step1-stage, Ready, Each, chosen}
+
+-- ---- step 1
+pub step1-fit : (cmd : List ℕ) (c : Card) → Fit c → Fit (afterStep1 cmd c)
+unfolding afterStep1
+step1-fit cmd c f = by-test Fit (begins 0x12 cmd) (λ e. drop-fit) (λ e. forgotten-fit (dropped cmd c) drop-fit)
+  where
+    drop-fit : Fit (dropped cmd c)
+    drop-fit = by-test Fit (eqb (c .channel .stage) 1 && not (begins 0x11 cmd)) (λ e. closed-fit c f) (λ e. f)
+
+-- ---- the next IV: soundness reads it in stage 0 alone
+pub mac-fit : (c : Card) (mac : List ℕ) → Fit c → (c .channel .stage ≡ 0 → ⊥) → Fit (withMac c mac)
+mac-fit c mac f n = record {
+  sound = ⊎-elim
+      (λ b. absurd (n (eqb-true (c .channel .stage) 0 (both (isZero (c .channel .stage)) (sessionZero (c .channel)) (blank-rules c (b .blank) .channel) .0))))
+      (λ a. channel-kept c a (withMac c mac .channel) (within (parts-rules c (a .parts) .channel)) (parts-rules c (a .parts) .stage))
+      (sound-cases c (f .sound));
+  shaped = channel-shaped c (f .shaped) (withMac c mac .channel);
+}
+  where
+    within : channelSound (c .channel) ≡ true → channelSound (withMac c mac .channel) ≡ true
+    within e = rw (both (leb (c .channel .stage) 2) _ e .0, ne-eqb (c .channel .stage) 0 n)
+
+-- ---- what is lost before steps 5 and 6
+pub stake-fit : (i : Instruction) (p1 : ℕ) (c : Card) → Fit c → Fit (atStake i p1 c)
+unfolding atStake
+stake-fit ins.Open p1 c f = closed-fit c f
+stake-fit ins.Pair p1 c f = by-test Fit (eqb p1 1) (λ e. forgotten-fit c f) (λ e. f)
+stake-fit ins.Mutual p1 c f = by-test Fit (eqb (c .channel .stage) 2) (λ e. f) (λ e. closed-fit c f)
+stake-fit ins.Select p1 c f = f
+stake-fit ins.Init p1 c f = f
+stake-fit ins.Unpair p1 c f = f
+stake-fit ins.Status p1 c f = f
+stake-fit ins.Verify p1 c f = f
+stake-fit ins.Change p1 c f = f
+stake-fit ins.Unblock p1 c f = f
+stake-fit ins.Load p1 c f = f
+stake-fit ins.Derive p1 c f = f
+stake-fit ins.Remove p1 c f = f
+stake-fit ins.SetPinless p1 c f = f
+stake-fit ins.Sign p1 c f = f
+
+-- ---- how an answer goes out
+abbrev Keeps : (Reply → Told) → Type 0
+Keeps tell = (r : Reply) → Fit (r .card) → Fit (tell r .card)
+
+abbrev Leaves : Told → Type 0
+Leaves t = Fit (t .card)
+
+plainly-keeps : Keeps plainly
+plainly-keeps r f = f
+
+channel-keeps : Keeps overChannel
+unfolding overChannel
+channel-keeps r f = by-test Leaves (eqb (r .card .channel .stage) 2)
+    (λ e. mac-fit (r .card) _ f (λ z. omega (arith, eqb-true (r .card .channel .stage) 2 e)))
+    (λ e. f)
+
+-- ---- the order of checks: whatever supply has the form, the answer leaves a sound card that has its shape
+abbrev Fine : Decision → Type 0
+Fine d = (s : List ℕ) → suits (d .supply) s ≡ true → Fit (d .answer s .card)
+
+step6-fine : (tell : Reply → Told) → Keeps tell → (lost c : Card) → Fit lost → Fit c → (d : List ℕ) (k : Command) → Reached k c
+    → Fine (step6 tell lost c d k)
+unfolding step6
+step6-fine tell t lost c l f d k r = by-test Fine (eqb (verdict (checksOf k c d)) success)
+    (λ e s u. t (replyOf k c d s) (reply-fit k c d s f r (eqb-true (verdict (checksOf k c d)) success e) u))
+    (λ e s u. t (fails lost (verdict (checksOf k c d))) l)
+
+by-choice-fine : (tell : Reply → Told) → Keeps tell → (lost c : Card) → Fit lost → Fit c → (d : List ℕ) (o : Option Command) → Each c o
+    → Fine (byChoice tell lost c d o)
+by-choice-fine tell t lost c l f d none r = λ s u. t (fails lost _) l
+by-choice-fine tell t lost c l f d (some k) r = step6-fine tell t lost c l f d k r
+
+step5-fine : (tell : Reply → Told) → Keeps tell → (i : Instruction) (p1 p2 : ℕ) (c : Card) → Fit c → Ready i c → (d : List ℕ)
+    → Fine (step5 tell i p1 p2 c d)
+unfolding step5
+step5-fine tell t i p1 p2 c f r d =
+    by-choice-fine tell t (atStake i p1 c) c (stake-fit i p1 c f) f d (commandOf i p1 p2) (chosen c i p1 p2 r)
+
+by-opening-fine : (i : Instruction) (p1 p2 : ℕ) (c : Card) → Fit c → Ready i c → (c .channel .stage ≡ 0 → ⊥) → (field : List ℕ)
+    → (o : Option (List ℕ)) → Fine (byOpening i p1 p2 c field o)
+by-opening-fine i p1 p2 c f r n field none = λ s u. closed-fit c f
+by-opening-fine i p1 p2 c f r n field (some d) =
+    step5-fine overChannel channel-keeps i p1 p2 (withMac c (take 16 field)) (mac-fit c (take 16 field) f n)
+    (record { offer = r .offer; pending = r .pending; stage = r .stage }) d
+
+step4-fine : (i : Instruction) (cmd : List ℕ) (c : Card) → Fit c → Ready i c → (field : List ℕ) → Fine (step4 i cmd c field)
+unfolding step4 isPlain inStage
+step4-fine i cmd c f r field = by-test Fine (isZero (rowOf i .stage))
+    (λ e. step5-fine plainly plainly-keeps i (p1Of cmd) (p2Of cmd) c f r field)
+    (λ e. by-test Fine (leb (rowOf i .stage) (c .channel .stage))
+    (λ t. by-opening-fine i (p1Of cmd) (p2Of cmd) c f r (open-stage e t) field
+    (openField (sessionOf (c .channel)) (commandHead (headerOf cmd)) field))
+    (λ t s u. f))
+  where
+    open-stage : isZero (rowOf i .stage) ≡ false → leb (rowOf i .stage) (c .channel .stage) ≡ true → c .channel .stage ≡ 0 → ⊥
+    open-stage e t z =
+        eqb-false (rowOf i .stage) 0 e (omega (arith, leb-true (rowOf i .stage) (c .channel .stage) t))
+
+by-name-fine : (cmd : List ℕ) (c : Card) → Fit c → (begins 0x12 cmd ≡ false → c .pairing .pending ≡ 0)
+    → (begins 0x11 cmd ≡ false → c .channel .stage ≡ 1 → ⊥) → (field : List ℕ) (n : Named) → Says (isInitialised c) (insOf cmd) n
+    → Fine (byName cmd c field n)
+by-name-fine cmd c f p g field (named.Known i) h = step4-fine i cmd c f ready field
+  where
+    other : (n : ℕ) → (rowOf i .byte ≡ n → ⊥) → (b : Bool) → begins n cmd ≡ b → b ≡ false
+    other n x true e = absurd (x (sym (h .1) ∙ begins-byte n cmd e))
+    other n x false e = refl
+
+    ready : Ready i c
+    ready = record {
+      offer = h .0;
+      pending = λ x. p (other 0x12 x (begins 0x12 cmd) refl);
+      stage = λ x. g (other 0x11 x (begins 0x11 cmd) refl);
+    }
+by-name-fine cmd c f p g field named.WrongClass h = λ s u. f
+by-name-fine cmd c f p g field named.Unknown h = λ s u. f
+
+by-form-fine : (cmd : List ℕ) (c : Card) → Fit c → (begins 0x12 cmd ≡ false → c .pairing .pending ≡ 0)
+    → (begins 0x11 cmd ≡ false → c .channel .stage ≡ 1 → ⊥) → (o : Option (List ℕ)) → Fine (byForm cmd c o)
+unfolding step3
+by-form-fine cmd c f p g none = λ s u. f
+by-form-fine cmd c f p g (some field) =
+    by-name-fine cmd c f p g field (nameOf (isInitialised c) (claOf cmd) (insOf cmd)) (name-says (isInitialised c) (claOf cmd) (insOf cmd))
+
+decide-fit : (c : Card) (cmd : List ℕ) → Fit c → Fine (decide c cmd)
+unfolding decide step2
+decide-fit c cmd f =
+    by-form-fine cmd (afterStep1 cmd c) (step1-fit cmd c f) (step1-pending cmd c) (step1-stage cmd c) (dataOf cmd)
+
+-- ---- the order of checks keeps soundness and shape
+pub decide-sound : (c : Card) (cmd s : List ℕ) → isSound c ≡ true → Shaped c → suits (decide c cmd .supply) s ≡ true
+    → isSound (decide c cmd .answer s .card) ≡ true
+decide-sound c cmd s e h u = decide-fit c cmd (record { sound = e; shaped = h }) s u .sound
+
+pub decide-shaped : (c : Card) (cmd s : List ℕ) → isSound c ≡ true → Shaped c → suits (decide c cmd .supply) s ≡ true
+    → Shaped (decide c cmd .answer s .card)
+decide-shaped c cmd s e h u = decide-fit c cmd (record { sound = e; shaped = h }) s u .shaped
+
+-- ---- ANSWER keeps soundness and shape, refusals included
+answer-fit : (c : Card) (cmd s : List ℕ) (room : ℕ) → Fit c → Fit (answerOut c cmd s room .card)
+unfolding answerOut
+answer-fit c cmd s room f = by-test (λ (o : Answered). Fit (o .card)) (isSound c)
+    (λ e. by-test (λ (o : Answered). Fit (o .card)) (ltb room answerRoom)
+    (λ t. f)
+    (λ t. by-test (λ (o : Answered). Fit (o .card)) (suits (decide c cmd .supply) s) (λ u. decide-fit c cmd f s u) (λ u. f)))
+    (λ e. f)
+
+pub answer-sound : (c : Card) (cmd s : List ℕ) (room : ℕ) → isSound c ≡ true → Shaped c → isSound (answerOut c cmd s room .card) ≡ true
+answer-sound c cmd s room e h = answer-fit c cmd s room (record { sound = e; shaped = h }) .sound
+
+pub answer-shaped : (c : Card) (cmd s : List ℕ) (room : ℕ) → isSound c ≡ true → Shaped c → Shaped (answerOut c cmd s room .card)
+answer-shaped c cmd s room e h = answer-fit c cmd s room (record { sound = e; shaped = h }) .shaped
+
+-- ---- FRESH has the shape, and RESET keeps it; that both are sound is shown in crate `card`
+pub fresh-shaped : (uid key : List ℕ) → length uid ≡ 16 → length key ≡ 65 → Shaped (freshOf uid key)
+fresh-shaped uid key u k = record {
+  uid = u;
+  «public_key» = k;
+  pin = refl;
+  puk = refl;
+  secret = refl;
+  slots = refl;
+  keys = (refl, (refl, (refl, (refl, (refl, tt)))));
+  expected = refl;
+  keyuid = refl;
+  current = refl;
+  pinless = refl;
+}
+
+pub reset-shaped : (c : Card) → Shaped c → Shaped (resetOf c)
+reset-shaped c h = record {
+  uid = h .uid;
+  «public_key» = h .«public_key»;
+  pin = h .pin;
+  puk = h .puk;
+  secret = h .secret;
+  slots = h .slots;
+  keys = h .keys;
+  expected = refl;
+  keyuid = h .keyuid;
+  current = h .current;
+  pinless = h .pinless;
+}
