@@ -1,2 +1,4 @@
 pub mod Names
 pub mod Sound
+pub mod Refusals
+pub mod Agreement

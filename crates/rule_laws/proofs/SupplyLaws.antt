@@ -3,7 +3,7 @@
 use mathlib.Core.Path.{_≡_, refl}
 use mathlib.Core.Bool.{true, false, _||_, false≢true}
 use mathlib.Core.List.{List}
-use Prim.Native.Nat.{ℕ}
+use Prim.Native.Nat.{ℕ, _≤_}
 use native.Mathlib.Omega.{arith}
 use lib.Dec.{eqb}
 use Rattle.card.specs.declared.Card.{Card}
@@ -32,6 +32,27 @@ supply-kind command.Derive = refl
 supply-kind command.Remove = refl
 supply-kind command.SetPinless = refl
 supply-kind command.Sign = refl
+
+pub supply-kind-most : (k : Command) → supplyOf k .kind ≤ 8
+supply-kind-most k = rw (supply-kind k) (most k)
+  where
+    most : (k : Command) → kindOfCommand k ≤ 8
+    most command.Select = omega arith
+    most command.Init = omega arith
+    most (command.Open i) = omega arith
+    most command.Mutual = omega arith
+    most command.PairFirst = omega arith
+    most command.PairFinal = omega arith
+    most (command.Unpair i) = omega arith
+    most (command.Status which) = omega arith
+    most command.Verify = omega arith
+    most (command.Change which) = omega arith
+    most command.Unblock = omega arith
+    most (command.Load form) = omega arith
+    most command.Derive = omega arith
+    most command.Remove = omega arith
+    most command.SetPinless = omega arith
+    most command.Sign = omega arith
 
 -- each supply has the length, in bytes, and the flag that the table gives for its kind
 pub supply-bytes : (k : Command) → supplyOf k .bytes ≡ kindBytes (supplyOf k .kind)
