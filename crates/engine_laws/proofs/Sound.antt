@@ -26,53 +26,70 @@ use Rattle.rules.specs.declared.Named.the-variants as named
 use Rattle.rules.specs.declared.Command.{Command}
 use Rattle.rules.specs.Words.{success, verdict, Reply, fails}
 use Rattle.rules.specs.Supplies.{suits}
-use Rattle.rules.specs.Steps.{begins, dropped, afterStep1, dataOf, headerOf, claOf, insOf, p1Of, p2Of, rowOf, isInitialised, nameOf, isPlain, inStage, atStake, commandOf}
+use Rattle.rules.specs.Steps.{closed, forgotten, begins, dropped, afterStep1, dataOf, headerOf, claOf, insOf, p1Of, p2Of, rowOf, isInitialised, nameOf, isPlain, inStage, atStake, commandOf}
 use Rattle.rules.specs.Commands.{checksOf, replyOf}
 use Rattle.rules.specs.Engine.{sessionOf, withMac, Told, plainly, overChannel, Decision, step6, byChoice, step5, byOpening, step4, byName, step3, byForm, step2, decide, Answered, answerRoom, answerOut}
 use Rattle.rule_laws.specs.Reached.{Reached}
-use Rattle.rule_laws.proofs.Parts.{Fit, channel-kept, closed-fit, forgotten-fit, channel-shaped}
+use Rattle.rule_laws.proofs.Parts.{Fit, channel-kept, closed-sound, forgotten-sound, closed-shaped, forgotten-shaped, channel-shaped, closed-fit, forgotten-fit}
 use Rattle.rule_laws.proofs.Kept.{reply-fit}
 use Rattle.engine_laws.proofs.Names.{begins-byte, Says, name-says, step1-pending, step1-stage, Ready, Each, chosen}
 
--- ---- step 1
-pub step1-fit : (cmd : List ℕ) (c : Card) → Fit c → Fit (afterStep1 cmd c)
+-- ---- step 1: what closing the channel and forgetting the pending pairing keep
+step1-keeps : (P : Card → Type 0) → ((c : Card) → P c → P (closed c)) → ((c : Card) → P c → P (forgotten c)) → (cmd : List ℕ) (c : Card) → P c
+    → P (afterStep1 cmd c)
 unfolding afterStep1
-step1-fit cmd c f = by-test Fit (begins 0x12 cmd) (λ e. drop-fit) (λ e. forgotten-fit (dropped cmd c) drop-fit)
+step1-keeps P close forget cmd c f = by-test P (begins 0x12 cmd) (λ e. drop-keeps) (λ e. forget (dropped cmd c) drop-keeps)
   where
-    drop-fit : Fit (dropped cmd c)
-    drop-fit = by-test Fit (eqb (c .channel .stage) 1 && not (begins 0x11 cmd)) (λ e. closed-fit c f) (λ e. f)
+    drop-keeps : P (dropped cmd c)
+    drop-keeps = by-test P (eqb (c .channel .stage) 1 && not (begins 0x11 cmd)) (λ e. close c f) (λ e. f)
+
+pub step1-sound : (cmd : List ℕ) (c : Card) → isSound c ≡ true → isSound (afterStep1 cmd c) ≡ true
+step1-sound = step1-keeps (λ (c : Card). isSound c ≡ true) closed-sound forgotten-sound
+
+pub step1-shaped : (cmd : List ℕ) (c : Card) → Shaped c → Shaped (afterStep1 cmd c)
+step1-shaped = step1-keeps Shaped closed-shaped forgotten-shaped
 
 -- ---- the next IV: soundness reads it in stage 0 alone
-pub mac-fit : (c : Card) (mac : List ℕ) → Fit c → (c .channel .stage ≡ 0 → ⊥) → Fit (withMac c mac)
-mac-fit c mac f n = record {
-  sound = ⊎-elim
-      (λ b. absurd (n (eqb-true (c .channel .stage) 0 (both (isZero (c .channel .stage)) (sessionZero (c .channel)) (blank-rules c (b .blank) .channel) .0))))
-      (λ a. channel-kept c a (withMac c mac .channel) (within (parts-rules c (a .parts) .channel)) (parts-rules c (a .parts) .stage))
-      (sound-cases c (f .sound));
-  shaped = channel-shaped c (f .shaped) (withMac c mac .channel);
-}
+pub mac-sound : (c : Card) (mac : List ℕ) → isSound c ≡ true → (c .channel .stage ≡ 0 → ⊥) → isSound (withMac c mac) ≡ true
+mac-sound c mac e n = ⊎-elim
+    (λ b. absurd (n (eqb-true (c .channel .stage) 0 (both (isZero (c .channel .stage)) (sessionZero (c .channel)) (blank-rules c (b .blank) .channel) .0))))
+    (λ a. channel-kept c a (withMac c mac .channel) (within (parts-rules c (a .parts) .channel)) (parts-rules c (a .parts) .stage))
+    (sound-cases c e)
   where
     within : channelSound (c .channel) ≡ true → channelSound (withMac c mac .channel) ≡ true
-    within e = rw (both (leb (c .channel .stage) 2) _ e .0, ne-eqb (c .channel .stage) 0 n)
+    within h = rw (both (leb (c .channel .stage) 2) _ h .0, ne-eqb (c .channel .stage) 0 n)
+
+pub mac-shaped : (c : Card) (mac : List ℕ) → Shaped c → Shaped (withMac c mac)
+mac-shaped c mac h = channel-shaped c h (withMac c mac .channel)
+
+mac-fit : (c : Card) (mac : List ℕ) → Fit c → (c .channel .stage ≡ 0 → ⊥) → Fit (withMac c mac)
+mac-fit c mac f n = record { sound = mac-sound c mac (f .sound) n; shaped = mac-shaped c mac (f .shaped) }
 
 -- ---- what is lost before steps 5 and 6
-pub stake-fit : (i : Instruction) (p1 : ℕ) (c : Card) → Fit c → Fit (atStake i p1 c)
-unfolding atStake
-stake-fit ins.Open p1 c f = closed-fit c f
-stake-fit ins.Pair p1 c f = by-test Fit (eqb p1 1) (λ e. forgotten-fit c f) (λ e. f)
-stake-fit ins.Mutual p1 c f = by-test Fit (eqb (c .channel .stage) 2) (λ e. f) (λ e. closed-fit c f)
-stake-fit ins.Select p1 c f = f
-stake-fit ins.Init p1 c f = f
-stake-fit ins.Unpair p1 c f = f
-stake-fit ins.Status p1 c f = f
-stake-fit ins.Verify p1 c f = f
-stake-fit ins.Change p1 c f = f
-stake-fit ins.Unblock p1 c f = f
-stake-fit ins.Load p1 c f = f
-stake-fit ins.Derive p1 c f = f
-stake-fit ins.Remove p1 c f = f
-stake-fit ins.SetPinless p1 c f = f
-stake-fit ins.Sign p1 c f = f
+module _ (P : Card → Type 0) (close : (c : Card) → P c → P (closed c)) (forget : (c : Card) → P c → P (forgotten c)) where
+  stake-keeps : (i : Instruction) (p1 : ℕ) (c : Card) → P c → P (atStake i p1 c)
+  unfolding atStake
+  stake-keeps ins.Open p1 c f = close c f
+  stake-keeps ins.Pair p1 c f = by-test P (eqb p1 1) (λ e. forget c f) (λ e. f)
+  stake-keeps ins.Mutual p1 c f = by-test P (eqb (c .channel .stage) 2) (λ e. f) (λ e. close c f)
+  stake-keeps ins.Select p1 c f = f
+  stake-keeps ins.Init p1 c f = f
+  stake-keeps ins.Unpair p1 c f = f
+  stake-keeps ins.Status p1 c f = f
+  stake-keeps ins.Verify p1 c f = f
+  stake-keeps ins.Change p1 c f = f
+  stake-keeps ins.Unblock p1 c f = f
+  stake-keeps ins.Load p1 c f = f
+  stake-keeps ins.Derive p1 c f = f
+  stake-keeps ins.Remove p1 c f = f
+  stake-keeps ins.SetPinless p1 c f = f
+  stake-keeps ins.Sign p1 c f = f
+
+pub stake-sound : (i : Instruction) (p1 : ℕ) (c : Card) → isSound c ≡ true → isSound (atStake i p1 c) ≡ true
+stake-sound = stake-keeps (λ (c : Card). isSound c ≡ true) closed-sound forgotten-sound
+
+pub stake-shaped : (i : Instruction) (p1 : ℕ) (c : Card) → Shaped c → Shaped (atStake i p1 c)
+stake-shaped = stake-keeps Shaped closed-shaped forgotten-shaped
 
 -- ---- how an answer goes out
 abbrev Keeps : (Reply → Told) → Type 0
@@ -110,7 +127,7 @@ step5-fine : (tell : Reply → Told) → Keeps tell → (i : Instruction) (p1 p2
     → Fine (step5 tell i p1 p2 c d)
 unfolding step5
 step5-fine tell t i p1 p2 c f r d =
-    by-choice-fine tell t (atStake i p1 c) c (stake-fit i p1 c f) f d (commandOf i p1 p2) (chosen c i p1 p2 r)
+    by-choice-fine tell t (atStake i p1 c) c (stake-keeps Fit closed-fit forgotten-fit i p1 c f) f d (commandOf i p1 p2) (chosen c i p1 p2 r)
 
 by-opening-fine : (i : Instruction) (p1 p2 : ℕ) (c : Card) → Fit c → Ready i c → (c .channel .stage ≡ 0 → ⊥) → (field : List ℕ)
     → (o : Option (List ℕ)) → Fine (byOpening i p1 p2 c field o)
@@ -160,7 +177,7 @@ by-form-fine cmd c f p g (some field) =
 decide-fit : (c : Card) (cmd : List ℕ) → Fit c → Fine (decide c cmd)
 unfolding decide step2
 decide-fit c cmd f =
-    by-form-fine cmd (afterStep1 cmd c) (step1-fit cmd c f) (step1-pending cmd c) (step1-stage cmd c) (dataOf cmd)
+    by-form-fine cmd (afterStep1 cmd c) (step1-keeps Fit closed-fit forgotten-fit cmd c f) (step1-pending cmd c) (step1-stage cmd c) (dataOf cmd)
 
 -- ---- the order of checks keeps soundness and shape
 pub decide-sound : (c : Card) (cmd s : List ℕ) → isSound c ≡ true → Shaped c → suits (decide c cmd .supply) s ≡ true

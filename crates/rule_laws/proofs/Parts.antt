@@ -261,11 +261,14 @@ module _ (c : Card) (h : Shaped c) where
     pinless = h .pinless;
   }
 
+  pub closed-shaped : Shaped (closed c)
+  closed-shaped = channel-shaped closedOf
+
   pub forgotten-shaped : Shaped (forgotten c)
   forgotten-shaped = pairing-shaped (notPending (c .pairing)) (h .secret) (h .slots) (h .keys) refl
 
 pub closed-fit : (c : Card) → Fit c → Fit (closed c)
-closed-fit c f = record { sound = closed-sound c (f .sound); shaped = channel-shaped c (f .shaped) closedOf }
+closed-fit c f = record { sound = closed-sound c (f .sound); shaped = closed-shaped c (f .shaped) }
 
 pub forgotten-fit : (c : Card) → Fit c → Fit (forgotten c)
 forgotten-fit c f = record { sound = forgotten-sound c (f .sound); shaped = forgotten-shaped c (f .shaped) }
