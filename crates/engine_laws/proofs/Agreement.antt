@@ -10,7 +10,6 @@ use native.Mathlib.Omega.{arith}
 use lib.Dec.{eqb}
 use lib.ListN.{take}
 use borrow.Author.Tests.{le-ltb, ne-eqb}
-use Rattle.message.specs.Message.{commandHead, openField}
 use Rattle.template.proofs.HeadFacts.{by-test}
 use Rattle.card.specs.declared.Card.{Card}
 use Rattle.card.specs.Sound.{isSound}
@@ -18,11 +17,11 @@ use Rattle.rules.specs.declared.Instruction.{Instruction}
 use Rattle.rules.specs.declared.Named.{Named}
 use Rattle.rules.specs.declared.Named.the-variants as named
 use Rattle.rules.specs.declared.Command.{Command}
-use Rattle.rules.specs.Words.{success, conditionsNotMet, verdict, Reply, fails}
+use Rattle.rules.specs.Words.{success, verdict, Reply}
 use Rattle.rules.specs.Supplies.{suits}
-use Rattle.rules.specs.Steps.{afterStep1, dataOf, headerOf, claOf, insOf, p1Of, p2Of, isInitialised, nameOf, isPlain, inStage, atStake, commandOf}
+use Rattle.rules.specs.Steps.{afterStep1, dataOf, claOf, insOf, p1Of, p2Of, isInitialised, nameOf, isPlain, inStage, atStake, commandOf}
 use Rattle.rules.specs.Commands.{checksOf}
-use Rattle.rules.specs.Engine.{sessionOf, withMac, Told, plainly, overChannel, Decision, ends, step6, byChoice, step5, byOpening, step4, byName, step3, byForm, step2, decide, asked, askOut, answered, withSupply, answerOut}
+use Rattle.rules.specs.Engine.{withMac, Told, plainly, overChannel, Decision, ends, step6, byChoice, step5, byOpening, step4, byName, step3, byForm, step2, decide, asked, askOut, answered, withSupply, answerOut}
 use Rattle.rule_laws.specs.Forms.{hasForm}
 use Rattle.rule_laws.proofs.SupplyLaws.{form-suits, none-read, supply-kind-most}
 use Rattle.engine_laws.specs.CommandData.{openedAs, openedFrom, commandData}
@@ -62,21 +61,15 @@ by-opening-regular : (i : Instruction) (p1 p2 : ℕ) (c : Card) (field : List �
 by-opening-regular i p1 p2 c field none = ends-regular none _
 by-opening-regular i p1 p2 c field (some d) = step5-regular overChannel i p1 p2 (withMac c (take 16 field)) d
 
+either : (b : Bool) {o p : Option (List ℕ)} {x y : Decision} → Regular o x → Regular p y → Regular (cond b o p) (cond b x y)
+either true r t = r
+either false r t = t
+
 by-name-regular : (cmd : List ℕ) (c : Card) (field : List ℕ) (n : Named) → Regular (openedAs c cmd field n) (byName cmd c field n)
 unfolding step4
-by-name-regular cmd c field (named.Known i) = plain-or-not (isPlain i)
-  where
-    o : Option (List ℕ)
-    o = openField (sessionOf (c .channel)) (commandHead (headerOf cmd)) field
-
-    plain-or-not : (b : Bool) → Regular (cond b (some field) (openField (sessionOf (c .channel)) (commandHead (headerOf cmd)) field))
-        (cond b (step5 plainly i (p1Of cmd) (p2Of cmd) c field)
-        (cond (inStage i (c .channel .stage))
-        (byOpening i (p1Of cmd) (p2Of cmd) c field (openField (sessionOf (c .channel)) (commandHead (headerOf cmd)) field))
-        (ends (plainly (fails c conditionsNotMet)))))
-    plain-or-not true = step5-regular plainly i (p1Of cmd) (p2Of cmd) c field
-    plain-or-not false = by-test (Regular o) (inStage i (c .channel .stage))
-        (λ e. by-opening-regular i (p1Of cmd) (p2Of cmd) c field o) (λ e. ends-regular o _)
+by-name-regular cmd c field (named.Known i) =
+    either (isPlain i) (step5-regular plainly i (p1Of cmd) (p2Of cmd) c field)
+    (by-test (Regular _) (inStage i (c .channel .stage)) (λ e. by-opening-regular i (p1Of cmd) (p2Of cmd) c field _) (λ e. ends-regular _ _))
 by-name-regular cmd c field named.WrongClass = ends-regular none _
 by-name-regular cmd c field named.Unknown = ends-regular none _
 
