@@ -2,3 +2,5 @@ pub mod Names
 pub mod Sound
 pub mod Refusals
 pub mod Agreement
+pub mod Lengths
+pub mod Rooms

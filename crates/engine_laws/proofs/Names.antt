@@ -78,6 +78,17 @@ step1-stage cmd c e = by-test (λ (k : Card). k .channel .stage ≡ 1 → ⊥) (
     not-one = by-test (λ (k : Card). k .channel .stage ≡ 1 → ⊥) (eqb (c .channel .stage) 1 && not (begins 0x11 cmd))
         (λ t z. omega arith) (λ t z. false≢true (sym (rw (z, e) at t)))
 
+-- where the channel is open behind step 1, step 1 has left it as it was
+pub step1-channel : (cmd : List ℕ) (c : Card) → (afterStep1 cmd c .channel .stage ≡ 0 → ⊥) → afterStep1 cmd c .channel ≡ c .channel
+unfolding afterStep1
+step1-channel cmd c = by-test Same (begins 0x12 cmd) (λ t. drop-same) (λ t. drop-same)
+  where
+    Same : Card → Type 0
+    Same k = (k .channel .stage ≡ 0 → ⊥) → k .channel ≡ c .channel
+
+    drop-same : Same (dropped cmd c)
+    drop-same = by-test Same (eqb (c .channel .stage) 1 && not (begins 0x11 cmd)) (λ t n. absurd (n refl)) (λ t n. refl)
+
 -- ---- where an instruction is named, what the steps before have seen to
 pub record Ready (i : Instruction) (c : Card) : Type 0 where
   pub offer : offered (isInitialised c) i ≡ true

@@ -71,12 +71,17 @@ module _ (c : Card) (cmd s : List ℕ) (room : ℕ) where
 
   -- 1: the card is not sound
   pub answer-unsound : answerOut c cmd s room .refusal ≡ 1 ↔ isSound c ≡ false
-  answer-unsound = (λ e. number-1 (isSound c) (ltb room 258) (suits (decide c cmd .supply) s) (sym answer-number ∙ e), λ e. answer-number ∙ rw e)
+  answer-unsound = (
+    λ e. number-1 (isSound c) (ltb room 258) (suits (decide c cmd .supply) s) (sym answer-number ∙ e),
+    λ e. answer-number ∙ rw e,
+  )
 
   -- 2: it is sound, and the room is under 258
   pub answer-room : answerOut c cmd s room .refusal ≡ 2 ↔ (isSound c ≡ true) × (room < 258)
   answer-room = (
-    λ e. let h = number-2 (isSound c) (ltb room 258) (suits (decide c cmd .supply) s) (sym answer-number ∙ e) in (h .0, ltb-true room 258 (h .1)),
+    λ e.
+        let h = number-2 (isSound c) (ltb room 258) (suits (decide c cmd .supply) s) (sym answer-number ∙ e) in
+        (h .0, ltb-true room 258 (h .1)),
     λ h. answer-number ∙ rw (h .0, lt-ltb room 258 (h .1)),
   )
 

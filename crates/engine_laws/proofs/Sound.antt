@@ -52,7 +52,9 @@ step1-shaped = step1-keeps Shaped closed-shaped forgotten-shaped
 -- ---- the next IV: soundness reads it in stage 0 alone
 pub mac-sound : (c : Card) (mac : List ℕ) → isSound c ≡ true → (c .channel .stage ≡ 0 → ⊥) → isSound (withMac c mac) ≡ true
 mac-sound c mac e n = ⊎-elim
-    (λ b. absurd (n (eqb-true (c .channel .stage) 0 (both (isZero (c .channel .stage)) (sessionZero (c .channel)) (blank-rules c (b .blank) .channel) .0))))
+    (λ b.
+    let h = both (isZero (c .channel .stage)) (sessionZero (c .channel)) (blank-rules c (b .blank) .channel) in
+    absurd (n (eqb-true (c .channel .stage) 0 (h .0))))
     (λ a. channel-kept c a (withMac c mac .channel) (within (parts-rules c (a .parts) .channel)) (parts-rules c (a .parts) .stage))
     (sound-cases c e)
   where
@@ -177,7 +179,8 @@ by-form-fine cmd c f p g (some field) =
 decide-fit : (c : Card) (cmd : List ℕ) → Fit c → Fine (decide c cmd)
 unfolding decide step2
 decide-fit c cmd f =
-    by-form-fine cmd (afterStep1 cmd c) (step1-keeps Fit closed-fit forgotten-fit cmd c f) (step1-pending cmd c) (step1-stage cmd c) (dataOf cmd)
+    let f1 = step1-keeps Fit closed-fit forgotten-fit cmd c f in
+    by-form-fine cmd (afterStep1 cmd c) f1 (step1-pending cmd c) (step1-stage cmd c) (dataOf cmd)
 
 -- ---- the order of checks keeps soundness and shape
 pub decide-sound : (c : Card) (cmd s : List ℕ) → isSound c ≡ true → Shaped c → suits (decide c cmd .supply) s ≡ true

@@ -31,7 +31,7 @@ keys-set [] i x h e = h
 keys-set (y ∷ s) zero x h e = (e, h .1)
 keys-set (y ∷ s) (suc i) x h e = (h .0, keys-set s i x (h .1) e)
 
-pub all-set : (p : Slot → Bool) (s : List Slot) (i : ℕ) (x : Slot) → allOf p s ≡ true → p x ≡ true → allOf p (set s i x) ≡ true
+all-set : (p : Slot → Bool) (s : List Slot) (i : ℕ) (x : Slot) → allOf p s ≡ true → p x ≡ true → allOf p (set s i x) ≡ true
 unfolding allOf
 all-set p [] i x h e = refl
 all-set p (y ∷ s) zero x h e = rw e (both (p y) (allOf p s) h .1)
@@ -40,7 +40,7 @@ all-set p (y ∷ s) (suc i) x h e =
     rw (t .0) (all-set p s i x (t .1) e)
 
 -- a test that was passed by one is passed by one still, where the new one passes it
-pub some-set : (p : Slot → Bool) (s : List Slot) (i : ℕ) (x : Slot) → someOf p s ≡ true → p x ≡ true → someOf p (set s i x) ≡ true
+some-set : (p : Slot → Bool) (s : List Slot) (i : ℕ) (x : Slot) → someOf p s ≡ true → p x ≡ true → someOf p (set s i x) ≡ true
 unfolding someOf
 some-set p [] i x h e = h
 some-set p (y ∷ s) zero x h e = rw e
@@ -132,17 +132,17 @@ module _ (p : Pairing) (e : pairingSound p ≡ true) where
       record { slots = r .slots; flag = r .flag; room = r .room; unused = r .unused }
 
 -- ---- paths
-pub zeros-zero : (n : ℕ) → allZero (zeros n) ≡ true
+zeros-zero : (n : ℕ) → allZero (zeros n) ≡ true
 unfolding allOf
 zeros-zero zero = refl
 zeros-zero (suc n) = zeros-zero n
 
-pub empty-rules : PathRules emptyPath
+empty-rules : PathRules emptyPath
 unfolding allOf
 empty-rules = record { most = refl; whole = refl; unused = refl }
 
 module _ (d : List ℕ) (e : isPath d ≡ true) where
-  pub path-of-rules : PathRules (pathOf d)
+  path-of-rules : PathRules (pathOf d)
   path-of-rules =
       let h = both (leb (length d) 40) (eqb (length d % 4) 0) e in
       record { most = h .0; whole = h .1; unused = rw (drop-at d (zeros (40 - length d)) (length d) refl) (zeros-zero (40 - length d)) }

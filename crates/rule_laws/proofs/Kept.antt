@@ -141,13 +141,13 @@ module _ (c : Card) (f : Fit c) (i : isInitialised c ≡ true) where
       let two = eqb-false (c .channel .stage) 2 (not-true _ (h .0)) in
       let most = leb-true (c .channel .stage) 2 (both (leb (c .channel .stage) 2) _ (parts′ .channel) .0) in
       let l = suited pairFirstSupply s refl u in
+      let p = pendingWith (c .pairing) (pairExpected s) in
       record {
         sound =
-            pairing-kept c after′ (pendingWith (c .pairing) (pairExpected s)) (pending-rules (c .pairing) (parts′ .pairing) (pairExpected s) (h .1 .1 .0))
+            pairing-kept c after′ p (pending-rules (c .pairing) (parts′ .pairing) (pairExpected s) (h .1 .1 .0))
             (eq-eqb (c .channel .stage) 0 (zero-of (c .channel .stage) most n two));
         shaped =
-            pairing-shaped c (f .shaped) (pendingWith (c .pairing) (pairExpected s)) (f .shaped .secret) (f .shaped .slots) (f .shaped .keys)
-            (part-length 64 32 s (omega arith));
+            pairing-shaped c (f .shaped) p (f .shaped .secret) (f .shaped .slots) (f .shaped .keys) (part-length 64 32 s (omega arith));
       }
     where
       zero-of : (n : ℕ) → n ≤ 2 → (n ≡ 1 → ⊥) → (n ≡ 2 → ⊥) → n ≡ 0

@@ -43,7 +43,7 @@ before-init c e i = ⊎-elim (λ b. b) (λ a. absurd (never (a .flag))) (sound-c
 pub pairing-sound : (p : Pairing) → PairingRules p → pairingSound p ≡ true
 pairing-sound p r = rw (r .slots, r .flag, r .room) (r .unused)
 
-pub path-sound : (p : Path) → PathRules p → pathSound p ≡ true
+path-sound : (p : Path) → PathRules p → pathSound p ≡ true
 path-sound p r = rw (r .most, r .whole) (r .unused)
 
 pub keys-sound : (k : Keys) → KeysRules k → keysSound k ≡ true

@@ -16,7 +16,9 @@ use Rattle.rule_laws.proofs.Changed.{blank-pending}
 pub pending-slot : (c : Card) → isSound c ≡ true → (c .pairing .pending ≡ 0 → ⊥) → firstFree (c .pairing .slots) ≡ free.Full → ⊥
 pending-slot c e n f = ⊎-elim
     (λ b. n (blank-pending (c .pairing) (blank-rules c (b .blank) .pairing)))
-    (λ a. false≢true (none ∙ free-there (isZero (c .pairing .pending)) refl (pairing-rules (c .pairing) (parts-rules c (a .parts) .pairing) .room)))
+    (λ a.
+    let r = pairing-rules (c .pairing) (parts-rules c (a .parts) .pairing) in
+    false≢true (none ∙ free-there (isZero (c .pairing .pending)) refl (r .room)))
     (sound-cases c e)
   where
     none : false ≡ someOf isFree (c .pairing .slots)
