@@ -1,4 +1,4 @@
--- A card that is sound and has its shape, and how it stays so when one part is changed.
+-- How a card that is sound stays so, and one that has its shape keeps it, when one part is changed.
 -- Assumes nothing.
 use mathlib.Core.Path.{_≡_, refl}
 use mathlib.Core.Bool.{Bool, true, false, _&&_, _||_}
@@ -21,10 +21,13 @@ use Rattle.card.proofs.Tests.{both}
 use Rattle.card.proofs.Rules.{PinsRules, pins-rules, pins-sound, PairingRules, pairing-rules, PathRules, KeysRules, parts-rules, parts-sound, blank-rules, parts-blank, Before, After, sound-cases, sound-before, sound-after}
 use Rattle.rules.specs.Steps.{isInitialised, closed, forgotten}
 
--- ---- a card that is sound and has its shape
-pub record Fit (c : Card) : Type 0 where
+-- ---- a card that is sound, and has its shape where the card g has it
+pub record Fit (g c : Card) : Type 0 where
   pub sound : isSound c ≡ true
-  pub shaped : Shaped c
+  pub shaped : Shaped g → Shaped c
+
+pub itself-fit : (c : Card) → isSound c ≡ true → Fit c c
+itself-fit c e = record { sound = e; shaped = λ w. w }
 
 -- ---- before INIT and after it
 pub after-init : (c : Card) → isSound c ≡ true → isInitialised c ≡ true → After c
@@ -267,8 +270,8 @@ module _ (c : Card) (h : Shaped c) where
   pub forgotten-shaped : Shaped (forgotten c)
   forgotten-shaped = pairing-shaped (notPending (c .pairing)) (h .secret) (h .slots) (h .keys) refl
 
-pub closed-fit : (c : Card) → Fit c → Fit (closed c)
-closed-fit c f = record { sound = closed-sound c (f .sound); shaped = closed-shaped c (f .shaped) }
+pub closed-fit : (g c : Card) → Fit g c → Fit g (closed c)
+closed-fit g c f = record { sound = closed-sound c (f .sound); shaped = λ w. closed-shaped c (f .shaped w) }
 
-pub forgotten-fit : (c : Card) → Fit c → Fit (forgotten c)
-forgotten-fit c f = record { sound = forgotten-sound c (f .sound); shaped = forgotten-shaped c (f .shaped) }
+pub forgotten-fit : (g c : Card) → Fit g c → Fit g (forgotten c)
+forgotten-fit g c f = record { sound = forgotten-sound c (f .sound); shaped = λ w. forgotten-shaped c (f .shaped w) }
