@@ -1,0 +1,6 @@
+pub mod Names
+pub mod Sound
+pub mod Refusals
+pub mod Agreement
+pub mod Lengths
+pub mod Rooms
