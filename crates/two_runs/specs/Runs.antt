@@ -91,11 +91,12 @@ pub record Agree (c d : Card) : Type 0 where
   pub channel : c .channel ≡ d .channel
 
 -- ---- wherever both runs make a comparison at the same call, it comes out right in both or wrong in both
+abbrev pub OutAlike : Option Comparison → Option Comparison → Type 0
+OutAlike m n = (x y : Comparison) → m ≡ some x → n ≡ some y → x .right ≡ y .right
+
 unfoldable pub Alike : Card → Card → List Call → Type 0
 Alike c d [] = Unit {0}
-Alike c d (k ∷ more) =
-    ((x y : Comparison) → comparisonAt c k ≡ some x → comparisonAt d k ≡ some y → x .right ≡ y .right)
-    × Alike (nextAt c k) (nextAt d k) more
+Alike c d (k ∷ more) = OutAlike (comparisonAt c k) (comparisonAt d k) × Alike (nextAt c k) (nextAt d k) more
 
 -- ---- the claim: the two runs show the same at every call, and end with cards that agree
 pub record SameRuns (c d : Card) (calls : List Call) : Type 0 where
