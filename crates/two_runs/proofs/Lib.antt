@@ -1,2 +1,3 @@
 pub mod Erasure
 pub mod Replies
+pub mod Order
