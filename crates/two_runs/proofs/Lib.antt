@@ -1,3 +1,5 @@
 pub mod Erasure
 pub mod Replies
 pub mod Order
+pub mod Calls
+pub mod TwoRuns

@@ -1,0 +1,65 @@
+-- Demand 3 (01, The two runs of demand 3): two runs of one list of calls, from sound cards that agree in all but PIN and PUK, whose comparisons
+-- come out alike wherever both make one, show the same at every call and end with cards that agree. `Shaped` says of a card what its type
+-- says (crate `shape`).
+-- Assumes what its module's parameters say: ANSWER keeps soundness and shape.
+use mathlib.Core.Path.{_≡_, refl, sym, ap, ap₂, subst}
+use mathlib.Core.Bool.{Bool, true, cond}
+use mathlib.Core.List.{List, [], _∷_}
+use Prim.Native.Nat.{ℕ}
+use lib.ListN.{length}
+use Rattle.card.specs.declared.Card.{Card}
+use Rattle.card.specs.State.{resetOf}
+use Rattle.card.specs.Sound.{isSound}
+use Rattle.card.specs.Shape.{Shaped}
+use Rattle.card.proofs.SoundFacts.{reset-sound}
+use Rattle.sound.specs.declared.Answer.{Answer}
+use Rattle.sound.specs.Reset.{resetAnswer, done, refused, unsound}
+use Rattle.rules.specs.Engine.{answerOut}
+use Rattle.two_runs.specs.Runs.{Call, ask, answer, reset, Seen, seenAt, nextAt, runOf, endOf, Agree, Alike, SameRuns}
+use Rattle.two_runs.proofs.Calls.{StepSame, call-same}
+
+-- ---- RESET keeps the shape
+shaped-reset : (c : Card) → Shaped c → Shaped (resetOf c)
+shaped-reset c h = record {
+  uid = h .uid;
+  «public_key» = h .«public_key»;
+  pin = h .pin;
+  puk = h .puk;
+  secret = h .secret;
+  slots = h .slots;
+  keys = h .keys;
+  expected = refl;
+  keyuid = h .keyuid;
+  current = h .current;
+  pinless = h .pinless;
+}
+
+reset-is : (c : Card) → isSound c ≡ true → resetAnswer c ≡ done (resetOf c)
+unfolding resetAnswer
+reset-is c e = ap (λ (b : Bool). cond b (done (resetOf c)) (refused unsound c)) e
+
+module _ (answer-sound : (c : Card) (cmd s : List ℕ) (room : ℕ) → isSound c ≡ true → Shaped c → isSound (answerOut c cmd s room .card) ≡ true)
+    (answer-shaped : (c : Card) (cmd s : List ℕ) (room : ℕ) → isSound c ≡ true → Shaped c → Shaped (answerOut c cmd s room .card)) where
+  -- ---- every card of a run is sound, and has its shape
+  pub next-sound : (c : Card) (k : Call) → isSound c ≡ true → Shaped c → isSound (nextAt c k) ≡ true
+  unfolding nextAt
+  next-sound c (ask cmd buf) e h = e
+  next-sound c (answer cmd s buf) e h = answer-sound c cmd s (length buf) e h
+  next-sound c reset e h = subst (λ (a : Answer). isSound (a .card) ≡ true) (sym (reset-is c e)) (reset-sound c e)
+
+  pub next-shaped : (c : Card) (k : Call) → isSound c ≡ true → Shaped c → Shaped (nextAt c k)
+  unfolding nextAt
+  next-shaped c (ask cmd buf) e h = h
+  next-shaped c (answer cmd s buf) e h = answer-shaped c cmd s (length buf) e h
+  next-shaped c reset e h = subst (λ (a : Answer). Shaped (a .card)) (sym (reset-is c e)) (shaped-reset c h)
+
+  -- ---- the claim
+  pub two-runs : (calls : List Call) (c d : Card) → isSound c ≡ true → isSound d ≡ true → Shaped c → Shaped d → Agree c d → Alike c d calls
+      → SameRuns c d calls
+  unfolding runOf endOf Alike
+  two-runs [] c d sc sd hc hd a l = record { shown = refl; ends = a }
+  two-runs (k ∷ more) c d sc sd hc hd a l =
+      let t : StepSame c d k = call-same c d k sc sd a (l .0) in
+      let r : SameRuns (nextAt c k) (nextAt d k) more = two-runs more (nextAt c k) (nextAt d k) (next-sound c k sc hc) (next-sound d k sd hd)
+      (next-shaped c k sc hc) (next-shaped d k sd hd) (t .next) (l .1) in
+      record { shown = ap₂ (λ (x : Seen) (s : List Seen). x ∷ s) (t .seen) (r .shown); ends = r .ends }
