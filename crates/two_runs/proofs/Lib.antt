@@ -3,3 +3,4 @@ pub mod Replies
 pub mod Order
 pub mod Calls
 pub mod TwoRuns
+pub mod Compared
