@@ -152,3 +152,28 @@ pub call-same : (c d : Card) (k : Call) → isSound c ≡ true → isSound d ≡
 call-same c d k sc sd a =
     subst (λ (x : Card). isSound x ≡ true → OutAlike (comparisonAt c k) (comparisonAt x k) → StepSame c x k) (agree-swap c d a)
     (λ e h. call-swap (d .pins .pin) (d .pins .puk) c sc e k h) sd
+
+-- ---- ASK and a refused call pass on the card that they were given
+pub ask-passes : (c : Card) (cmd buf : List ℕ) → nextAt c (ask cmd buf) ≡ c
+unfolding nextAt
+ask-passes c cmd buf = refl
+
+pub refused-passes : (c : Card) (k : Call) → (seenAt c k .refusal ≡ noRefusal → ⊥) → nextAt c k ≡ c
+unfolding seenAt nextAt answerOut resetAnswer
+refused-passes c (ask cmd buf) n = refl
+refused-passes c (answer cmd s buf) n = go (isSound c) (ltb (length buf) answerRoom) (suits (decide c cmd .supply) s) n
+  where
+    out : Bool → Bool → Bool → Answered
+    out b t f =
+        cond b (cond t (answerRefused c noRoom) (cond f (answered (decide c cmd .answer s)) (answerRefused c wrongSupply))) (answerRefused c unsound)
+
+    go : (b t f : Bool) → (out b t f .refusal ≡ noRefusal → ⊥) → out b t f .card ≡ c
+    go false t f m = refl
+    go true true f m = refl
+    go true false true m = absurd (m refl)
+    go true false false m = refl
+refused-passes c reset n = go (isSound c) n
+  where
+    go : (b : Bool) → (cond b (done (resetOf c)) (refused unsound c) .refusal ≡ noRefusal → ⊥) → cond b (done (resetOf c)) (refused unsound c) .card ≡ c
+    go true m = absurd (m refl)
+    go false m = refl

@@ -4,3 +4,4 @@ pub mod Order
 pub mod Calls
 pub mod TwoRuns
 pub mod Compared
+pub mod Meets

@@ -15,7 +15,7 @@ use Rattle.card.proofs.SoundFacts.{reset-sound}
 use Rattle.sound.specs.declared.Answer.{Answer}
 use Rattle.sound.specs.Reset.{resetAnswer, done, refused, unsound}
 use Rattle.rules.specs.Engine.{answerOut}
-use Rattle.two_runs.specs.Runs.{Call, ask, answer, reset, Seen, seenAt, nextAt, runOf, endOf, Agree, Alike, SameRuns}
+use Rattle.two_runs.specs.Runs.{Call, ask, answer, reset, Seen, seenAt, nextAt, runOf, endOf, Alike, Premise, SameRuns}
 use Rattle.two_runs.proofs.Calls.{StepSame, call-same}
 
 -- ---- RESET keeps the shape
@@ -54,12 +54,17 @@ module _ (answer-sound : (c : Card) (cmd s : List ℕ) (room : ℕ) → isSound 
   next-shaped c reset e h = subst (λ (a : Answer). Shaped (a .card)) (sym (reset-is c e)) (shaped-reset c h)
 
   -- ---- the claim
-  pub two-runs : (calls : List Call) (c d : Card) → isSound c ≡ true → isSound d ≡ true → Shaped c → Shaped d → Agree c d → Alike c d calls
-      → SameRuns c d calls
+  pub two-runs : (calls : List Call) (c d : Card) → Premise c d calls → SameRuns c d calls
   unfolding runOf endOf Alike
-  two-runs [] c d sc sd hc hd a l = record { shown = refl; ends = a }
-  two-runs (k ∷ more) c d sc sd hc hd a l =
-      let t : StepSame c d k = call-same c d k sc sd a (l .0) in
-      let r : SameRuns (nextAt c k) (nextAt d k) more = two-runs more (nextAt c k) (nextAt d k) (next-sound c k sc hc) (next-sound d k sd hd)
-      (next-shaped c k sc hc) (next-shaped d k sd hd) (t .next) (l .1) in
+  two-runs [] c d h = record { shown = refl; ends = h .agree }
+  two-runs (k ∷ more) c d h =
+      let t : StepSame c d k = call-same c d k (h .sound) (h .sound′) (h .agree) (h .alike .0) in
+      let r : SameRuns (nextAt c k) (nextAt d k) more = two-runs more (nextAt c k) (nextAt d k) (record {
+        sound = next-sound c k (h .sound) (h .shaped);
+        sound′ = next-sound d k (h .sound′) (h .shaped′);
+        shaped = next-shaped c k (h .sound) (h .shaped);
+        shaped′ = next-shaped d k (h .sound′) (h .shaped′);
+        agree = t .next;
+        alike = h .alike .1;
+      }) in
       record { shown = ap₂ (λ (x : Seen) (s : List Seen). x ∷ s) (t .seen) (r .shown); ends = r .ends }

@@ -2,12 +2,14 @@
 -- two cards agree in all but PIN and PUK; and when the comparisons of two runs come out alike. Every length and count is in bytes.
 use Prim.Native.Nat.{ℕ}
 use mathlib.Core.Path.{_≡_}
-use mathlib.Core.Bool.{cond}
+use mathlib.Core.Bool.{true, cond}
 use mathlib.Core.List.{List, [], _∷_, _++_}
 use mathlib.Core.Option.{Option, none, some}
 use lib.Dec.{eqb}
 use lib.ListN.{length, drop}
 use Rattle.card.specs.declared.Card.{Card}
+use Rattle.card.specs.Shape.{Shaped}
+use Rattle.card.specs.Sound.{isSound}
 use Rattle.sound.specs.Reset.{resetAnswer}
 use Rattle.rules.specs.Engine.{noRefusal, askOut, answerOut}
 use Rattle.two_runs.specs.Comparison.{on, Secret, Comparison, comparison}
@@ -97,6 +99,15 @@ OutAlike m n = (x y : Comparison) → m ≡ some x → n ≡ some y → x .right
 unfoldable pub Alike : Card → Card → List Call → Type 0
 Alike c d [] = Unit {0}
 Alike c d (k ∷ more) = OutAlike (comparisonAt c k) (comparisonAt d k) × Alike (nextAt c k) (nextAt d k) more
+
+-- ---- what the claim asks of two cards and a list. `Shaped` is what a card's type says of it
+pub record Premise (c d : Card) (calls : List Call) : Type 0 where
+  pub sound : isSound c ≡ true
+  pub sound′ : isSound d ≡ true
+  pub shaped : Shaped c
+  pub shaped′ : Shaped d
+  pub agree : Agree c d
+  pub alike : Alike c d calls
 
 -- ---- the claim: the two runs show the same at every call, and end with cards that agree
 pub record SameRuns (c d : Card) (calls : List Call) : Type 0 where
