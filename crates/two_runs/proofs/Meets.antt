@@ -5,11 +5,12 @@
 use mathlib.Core.Path.{_≡_, refl, sym, ap, _∙_}
 use mathlib.Core.Bool.{Bool, true, false, _&&_, not, cond}
 use mathlib.Core.List.{List, [], _∷_}
+use mathlib.Core.Logic.{⊎-elim}
 use mathlib.Core.Option.{Option, none, some}
 use Prim.Native.Nat.{ℕ, _+_, _≤_, _<_}
 use native.Mathlib.Omega.{arith}
-use borrow.Author.Tests.{le-ltb, lt-leb, eq-eqb, ne-eqb}
-use lib.Dec.{eqb}
+use borrow.Author.Tests.{leb-true, le-ltb, lt-leb, eq-eqb, ne-eqb}
+use lib.Dec.{leb, eqb}
 use lib.ListN.{length}
 use lib.Seq.{take-length}
 use Rattle.octets.specs.Bytes.{Bytes, sameBytes}
@@ -23,6 +24,8 @@ use Rattle.card.specs.State.{withSecrets}
 use Rattle.card.specs.Slots.{allOf, isZero}
 use Rattle.card.specs.Sound.{isSound, isDigit}
 use Rattle.card.specs.Shape.{Shaped}
+use Rattle.card.proofs.Tests.{both}
+use Rattle.card.proofs.Rules.{pins-rules, parts-rules, sound-cases}
 use Rattle.card.proofs.SoundFacts.{secrets-sound}
 use Rattle.rules.specs.declared.Instruction.{Instruction}
 use Rattle.rules.specs.declared.Instruction.the-variants as ins
@@ -32,7 +35,7 @@ use Rattle.rules.specs.declared.Command.the-variants as command
 use Rattle.rules.specs.Steps.{closed, forgotten, begins, kept, afterStep1, dataOf, headerOf, claOf, insOf, p1Of, p2Of, isInitialised, nameOf, isPlain, inStage, commandOf}
 use Rattle.rules.specs.Engine.{sessionOf, answerRoom}
 use Rattle.two_runs.specs.Comparison.{on, Past, pin, Comparison, pastSteps, pastStep5, compares, comparison}
-use Rattle.two_runs.specs.Runs.{Call, answer, comparisonAt, Agree, Alike, Premise}
+use Rattle.two_runs.specs.Runs.{Call, answer, comparisonAt, Agree, OutAlike, Alike, Premise}
 use Rattle.two_runs.proofs.Erasure.{erase-agree}
 use Rattle.two_runs.proofs.Compared.{one-at}
 
@@ -55,6 +58,19 @@ module _ (c : Card) (p q : List ℕ) where
     current = h .current;
     pinless = h .pinless;
   }
+
+-- ---- digits are bytes, and a sound card's PIN is digits
+digits-bytes : (x : List ℕ) → allOf isDigit x ≡ true → Bytes x
+unfolding allOf
+digits-bytes [] e = tt
+digits-bytes (b ∷ x) e =
+    let h = both (isDigit b) (allOf isDigit x) e in
+    let l = leb-true b 0x39 (both (leb 0x30 b) (leb b 0x39) (h .0) .1) in
+    (omega (arith, l), digits-bytes x (h .1))
+
+pin-digits-of : (c : Card) → isSound c ≡ true → c .initialised ≡ 1 → allOf isDigit (c .pins .pin) ≡ true
+pin-digits-of c e i =
+    ⊎-elim (λ b. absurd (omega (arith, i, b .flag))) (λ a. pins-rules (c .pins) (parts-rules c (a .parts) .pins) .pin) (sound-cases c e)
 
 -- ---- a command whose data fill it: Lc and then as many bytes
 data-filled : (a b p1 p2 : ℕ) (f : List ℕ) → 1 ≤ length f → dataOf (a ∷ b ∷ p1 ∷ p2 ∷ length f ∷ f) ≡ some f
@@ -106,7 +122,7 @@ pub record Ready (c : Card) : Type 0 where
   pub tries : isZero (c .pins .«pin_tries») ≡ false
 
 header-is : Header verifyHeader
-header-is = record { long = refl; bytes = (omega arith, (omega arith, (omega arith, (omega arith, record {})))) }
+header-is = record { long = refl; bytes = (omega arith, (omega arith, (omega arith, (omega arith, tt)))) }
 
 module _ (c : Card) (ready : Ready c) (entry : List ℕ) (bytes : Bytes entry) (fits : length entry ≤ 223) where
   abbrev s : Session
@@ -153,3 +169,66 @@ module _ (c : Card) (ready : Ready c) (entry : List ℕ) (bytes : Bytes entry) (
   pub verify-at : (supply buf : List ℕ) → answerRoom ≤ length buf
       → comparisonAt c (answer (verifyCommand c entry) supply buf) ≡ some (record { of = pin; right = sameBytes entry (c .pins .pin) })
   verify-at supply buf l = one-at c (verifyCommand c entry) supply buf _ (ready .sound) l verify-compares
+
+-- ---- two cards and one call: the premise holds, and both runs compare the PIN with this outcome
+pub record Met (c d : Card) (k : Call) (right : Bool) : Type 0 where
+  pub premise : Premise c d (k ∷ [])
+  pub here : comparisonAt c k ≡ some (record { of = pin; right = right })
+  pub there : comparisonAt d k ≡ some (record { of = pin; right = right })
+
+outcomes : {o u : Option Comparison} (m n : Comparison) → o ≡ some m → u ≡ some n → m .right ≡ n .right → OutAlike o u
+outcomes m n e f h x y i j = cc
+
+module _ (c : Card) (ready : Ready c) (p q : List ℕ) (pin-digits : allOf isDigit p ≡ true) (puk-digits : allOf isDigit q ≡ true)
+    (pin-long : length p ≡ 6) (puk-long : length q ≡ 12) where
+  abbrev other : Card
+  other = withSecrets p q c
+
+  ready′ : Ready other
+  ready′ = record {
+    sound = secrets-sound c p q pin-digits puk-digits (ready .sound) (ready .initialised);
+    shaped = secrets-shaped c p q pin-long puk-long (ready .shaped);
+    initialised = ready .initialised;
+    stage = ready .stage;
+    keyed = ready .keyed;
+    tries = ready .tries;
+  }
+
+  module _ (entry supply buf : List ℕ) (bytes : Bytes entry) (fits : length entry ≤ 223) (room : answerRoom ≤ length buf) where
+    abbrev call : Call
+    call = answer (verifyCommand c entry) supply buf
+
+    -- an entry that is right under both PINs or wrong under both
+    pub entry-meets : (right : Bool) → sameBytes entry (c .pins .pin) ≡ right → sameBytes entry p ≡ right → Met c other call right
+    unfolding Alike
+    entry-meets right e f =
+        let here : comparisonAt c call ≡ some (record { of = pin; right = right }) = verify-at c ready entry bytes fits supply buf room
+        ∙ ap (λ (b : Bool). some (record { of = pin; right = b })) e in
+        let there : comparisonAt other call ≡ some (record { of = pin; right = right }) = verify-at other ready′ entry bytes fits supply buf room
+        ∙ ap (λ (b : Bool). some (record { of = pin; right = b })) f in
+        record {
+          premise = record {
+            sound = ready .sound;
+            sound′ = ready′ .sound;
+            shaped = ready .shaped;
+            shaped′ = ready′ .shaped;
+            agree = secrets-agree c p q;
+            alike = (outcomes _ _ here there refl, tt);
+          };
+          here = here;
+          there = there;
+        }
+
+    -- a wrong entry under different PINs
+    pub wrong-meets : sameBytes entry (c .pins .pin) ≡ false → sameBytes entry p ≡ false → Met c other call false
+    wrong-meets e f = entry-meets false e f
+
+-- the right PIN under different PUKs
+pub right-meets : (c : Card) → Ready c → (q : List ℕ) → allOf isDigit q ≡ true → length q ≡ 12 → (supply buf : List ℕ) → answerRoom ≤ length buf
+    → Met c (withSecrets (c .pins .pin) q c) (answer (verifyCommand c (c .pins .pin)) supply buf) true
+right-meets c ready q g j supply buf room =
+    entry-meets c ready (c .pins .pin) q digits g (ready .shaped .pin) j (c .pins .pin) supply buf (digits-bytes (c .pins .pin) digits)
+    (omega (arith, ready .shaped .pin)) room true (same-refl (c .pins .pin)) (same-refl (c .pins .pin))
+  where
+    digits : allOf isDigit (c .pins .pin) ≡ true
+    digits = pin-digits-of c (ready .sound) (ready .initialised)
