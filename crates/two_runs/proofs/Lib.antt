@@ -5,3 +5,4 @@ pub mod Calls
 pub mod TwoRuns
 pub mod Compared
 pub mod Meets
+pub mod Examples
