@@ -31,6 +31,7 @@ use Rattle.rules.specs.Engine.{sessionOf, withMac, Told, overChannel, Decision,
 use Rattle.two_runs.specs.Comparison.{on, Past, Secret, pin, puk, Comparison, known, instructionOf, openedData, listed, pastSteps, pastDataCheck, compares, comparison}
 use Rattle.two_runs.specs.Runs.{Call, answer, comparisonAt, Agree, OutAlike}
 use Rattle.two_runs.proofs.Erasure.{step1-pins}
+use Rattle.two_runs.proofs.Secrets.{rightBy, replyBy, made, deciding, form, verify-none, verify-some, unblock-open, unblock-spent, unblock-malformed, unblock-some, at-verify-some, at-unblock-some}
 use Rattle.two_runs.proofs.Order.{comparedBy, comparison-at}
 use Rattle.two_runs.proofs.Calls.{StepSame, call-same}
 
@@ -41,69 +42,51 @@ never x e = absurd (let z : _≡_ {A = ℕ} 0 1 = cc in omega arith)
 pub none-made : (c d : Card) (k : Call) → isSound c ≡ true → isSound d ≡ true → Agree c d → comparisonAt c k ≡ none → StepSame c d k
 none-made c d k sc sd a e = call-same c d k sc sd a (λ x y i j. never x (sym e ∙ i))
 
--- ---- where one is made: whether it is right, and the command's reply by how it came out
-abbrev pub rightBy : Secret → Pins → List ℕ → Bool
-rightBy pin p d = sameBytes d (p .pin)
-rightBy puk p d = sameBytes (take 12 d) (p .puk)
-
-abbrev pub replyBy : Secret → Bool → Card → List ℕ → Reply
-replyBy pin right c d = verifyBy right c
-replyBy puk right c d = unblockBy right c (drop 12 d)
-
--- a decision that reads no supply
-abbrev deciding : List ℕ → Told → Decision
-deciding d t = record { supply = noSupply; data′ = d; answer = λ _. t }
-
 -- ---- step 6
 record At6 (tell : Reply → Told) (lost c : Card) (d : List ℕ) (k : Command) (x : Comparison) : Type 0 where
   pub right : x .right ≡ rightBy (x .of) (c .pins) d
   pub decides : step6 tell lost c d k ≡ deciding d (tell (replyBy (x .of) (x .right) c d))
 
-module _ (tell : Reply → Told) (lost c : Card) (d : List ℕ) where
-  abbrev verifying : Comparison
-  verifying = record { of = pin; right = rightBy pin (c .pins) d }
+module _ (tell : Reply → Told) (lost c : Card) (d : List ℕ) (x : Comparison) where
+  -- a comparison that is made is the one that it must be
+  is-made : (s : Secret) (k : Command) → compares (c .pins) k d ≡ some (made s (c .pins) d)
+      → step6 tell lost c d k ≡ deciding d (tell (replyBy s (rightBy s (c .pins) d) c d)) → compares (c .pins) k d ≡ some x → At6 tell lost c d k x
+  is-made s k m r e =
+      let same : made s (c .pins) d ≡ x = cc in
+      subst (λ (y : Comparison). At6 tell lost c d k y) same (record { right = refl; decides = r })
 
-  abbrev unblocking : Comparison
-  unblocking = record { of = puk; right = rightBy puk (c .pins) d }
+  none-there : {A : Type 0} (o : Option Comparison) → o ≡ none → o ≡ some x → A
+  none-there o n e = never x (sym n ∙ e)
 
-  verify-decides : isZero (c .pins .«pin_tries») ≡ false → At6 tell lost c d command.Verify verifying
-  unfolding step6 checksOf supplyOf replyOf verifyChecks verifyReply
-  verify-decides z = record { right = refl; decides = rw z }
+  verify-compares : (b : Bool) → isZero (c .pins .«pin_tries») ≡ b → compares (c .pins) command.Verify d ≡ some x → At6 tell lost c d command.Verify x
+  verify-compares true z e = none-there _ (verify-none (c .pins) d z) e
+  verify-compares false z e = is-made pin command.Verify (verify-some (c .pins) d z) (at-verify-some tell lost c d z) e
 
-  unblock-decides : pastDataCheck (c .pins) d ≡ true → At6 tell lost c d command.Unblock unblocking
-  unfolding step6 checksOf supplyOf replyOf unblockChecks unblockReply
-  unblock-decides z =
-      let l = both _ _ z in
-      let h = both (isZero (c .pins .«pin_tries»)) (not (isZero (c .pins .«puk_tries»))) (l .0) in
-      record { right = refl; decides = rw (h .0, h .1, l .1) }
+  unblock-compares : (b t f : Bool) → isZero (c .pins .«pin_tries») ≡ b → isZero (c .pins .«puk_tries») ≡ t → form d ≡ f
+      → compares (c .pins) command.Unblock d ≡ some x → At6 tell lost c d command.Unblock x
+  unblock-compares false t f z y m e = none-there _ (unblock-open (c .pins) d z) e
+  unblock-compares true true f z y m e = none-there _ (unblock-spent (c .pins) d z y) e
+  unblock-compares true false false z y m e = none-there _ (unblock-malformed (c .pins) d z y m) e
+  unblock-compares true false true z y m e = is-made puk command.Unblock (unblock-some (c .pins) d z y m) (at-unblock-some tell lost c d z y m) e
 
-  module _ (x : Comparison) where
-    verify-compares : (b : Bool) → isZero (c .pins .«pin_tries») ≡ b → cond b none (some verifying) ≡ some x → At6 tell lost c d command.Verify x
-    verify-compares true z e = never x e
-    verify-compares false z e = subst (λ (y : Comparison). At6 tell lost c d command.Verify y) (cc) (verify-decides z)
-
-    unblock-compares : (b : Bool) → pastDataCheck (c .pins) d ≡ b → cond b (some unblocking) none ≡ some x → At6 tell lost c d command.Unblock x
-    unblock-compares true z e = subst (λ (y : Comparison). At6 tell lost c d command.Unblock y) (cc) (unblock-decides z)
-    unblock-compares false z e = never x e
-
-    step6-compares : (k : Command) → compares (c .pins) k d ≡ some x → At6 tell lost c d k x
-    unfolding compares
-    step6-compares command.Verify e = verify-compares (isZero (c .pins .«pin_tries»)) refl e
-    step6-compares command.Unblock e = unblock-compares (pastDataCheck (c .pins) d) refl e
-    step6-compares command.Select e = never x e
-    step6-compares command.Init e = never x e
-    step6-compares (command.Open i) e = never x e
-    step6-compares command.Mutual e = never x e
-    step6-compares command.PairFirst e = never x e
-    step6-compares command.PairFinal e = never x e
-    step6-compares (command.Unpair i) e = never x e
-    step6-compares (command.Status which) e = never x e
-    step6-compares (command.Change which) e = never x e
-    step6-compares (command.Load form) e = never x e
-    step6-compares command.Derive e = never x e
-    step6-compares command.Remove e = never x e
-    step6-compares command.SetPinless e = never x e
-    step6-compares command.Sign e = never x e
+  step6-compares : (k : Command) → compares (c .pins) k d ≡ some x → At6 tell lost c d k x
+  unfolding compares
+  step6-compares command.Verify e = verify-compares (isZero (c .pins .«pin_tries»)) refl e
+  step6-compares command.Unblock e = unblock-compares (isZero (c .pins .«pin_tries»)) (isZero (c .pins .«puk_tries»)) (form d) refl refl refl e
+  step6-compares command.Select e = never x e
+  step6-compares command.Init e = never x e
+  step6-compares (command.Open i) e = never x e
+  step6-compares command.Mutual e = never x e
+  step6-compares command.PairFirst e = never x e
+  step6-compares command.PairFinal e = never x e
+  step6-compares (command.Unpair i) e = never x e
+  step6-compares (command.Status which) e = never x e
+  step6-compares (command.Change which) e = never x e
+  step6-compares (command.Load form) e = never x e
+  step6-compares command.Derive e = never x e
+  step6-compares command.Remove e = never x e
+  step6-compares command.SetPinless e = never x e
+  step6-compares command.Sign e = never x e
 
 -- ---- step 5: no plain command compares
 module _ (f : Option Command → Option Comparison) where

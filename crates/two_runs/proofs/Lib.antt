@@ -1,5 +1,6 @@
 pub mod Erasure
 pub mod Replies
+pub mod Secrets
 pub mod Order
 pub mod Calls
 pub mod TwoRuns

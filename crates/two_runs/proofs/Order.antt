@@ -25,10 +25,10 @@ use Rattle.rules.specs.Words.{success, triesLeft, conditionsNotMet, securityNot
 use Rattle.rules.specs.Steps.{closed, forgotten, afterStep1, dataOf, headerOf, claOf, insOf, p1Of, p2Of, isInitialised, nameOf, isPlain, inStage, atStake, commandOf}
 use Rattle.rules.specs.Commands.{unpairChecks, verifyChecks, changeChecks, unblockChecks, loadChecks, deriveChecks, removeChecks, pinlessChecks, signChecks, verifyBy, verifyReply, unblockBy, unblockReply, checksOf, supplyOf, replyOf}
 use Rattle.rules.specs.Engine.{sessionOf, withMac, Told, plainly, overChannel, Decision, ends, step6, byChoice, step5, byOpening, step4, byName, step3, byForm, step2, decide}
-use Rattle.two_runs.specs.Comparison.{on, Comparison, Past, known, instructionOf, openedData, listed, pastSteps, pastStep5, pastDataCheck, compares, comparison}
-use Rattle.two_runs.specs.Comparison as comparison-specs
+use Rattle.two_runs.specs.Comparison.{on, Past, Secret, pin, puk, Comparison, known, instructionOf, openedData, listed, pastSteps, pastStep5, pastDataCheck, compares, comparison}
 use Rattle.two_runs.specs.Runs.{OutAlike}
 use Rattle.two_runs.proofs.Erasure.{cond-same, erase, eraseReply, eraseTold, step1-pins, step1-swap, Blind, plainly-blind, channel-blind, told-same}
+use Rattle.two_runs.proofs.Secrets.{rightBy, made, form, verify-some, unblock-some, at-verify-none, at-verify-some, at-unblock-open, at-unblock-spent, at-unblock-malformed, at-unblock-some}
 use Rattle.two_runs.proofs.Replies.{select-blind, init-blind, open-blind, mutual-blind, pair-first-blind, pair-final-blind, unpair-blind, status-blind, change-blind, load-blind, derive-blind, remove-blind, pinless-blind, sign-blind, verify-blind, unblock-blind}
 
 -- ---- two decisions: the supply and its data are the same; so are the answers, but for PIN and PUK of the next card, where L holds
@@ -47,15 +47,14 @@ ends-same t t′ e = record { supply = refl; data′ = refl; answer = λ _ _. e 
 fails-same : (c d : Card) (w : ℕ) → erase c ≡ erase d → eraseReply (fails c w) ≡ eraseReply (fails d w)
 fails-same c d w e = ap (λ (x : Card). fails x w) e
 
--- ---- the comparison's outcome, where one is made
-outcome : (s : comparison-specs.Secret) (b b′ : Bool) → OutAlike (some (record { of = s; right = b })) (some (record { of = s; right = b′ })) → b ≡ b′
-outcome s b b′ h = h (record { of = s; right = b }) (record { of = s; right = b′ }) refl refl
+same-over : {L : Type 0} {x x′ y y′ : Decision} → x ≡ x′ → y ≡ y′ → Same L x′ y′ → Same L x y
+same-over {L} {x} {x′} {y} {y′} e f r = subst (λ (z : Decision). Same L z y) (sym e) (subst (λ (z : Decision). Same L x′ z) (sym f) r)
 
 -- ---- the comparison of a command that is past step 5, and which secret it compares
 abbrev pub comparedBy : Pins → Option Past → Option Comparison
 comparedBy p o = on o (λ x. compares p (x .command) (x .data′))
 
-abbrev pub secretOf : Option Comparison → Option comparison-specs.Secret
+abbrev pub secretOf : Option Comparison → Option Secret
 secretOf m = on m (λ x. some (x .of))
 
 -- the PIN and the PUK are those of the card behind step 1, too
@@ -120,60 +119,43 @@ module _ (p q : List ℕ) where
         (failing (verdict (checksOf k c d))))
 
     verify-same : Same (Alike command.Verify) (step6 tell lost c d command.Verify) (step6 tell lost′ (swap c) d command.Verify)
-    unfolding step6 checksOf supplyOf replyOf verifyChecks verifyReply compares
-    verify-same = go (isZero (c .pins .«pin_tries»))
+    verify-same = go (isZero (c .pins .«pin_tries»)) refl
       where
         right : Card → Bool
-        right x = sameBytes d (x .pins .pin)
+        right x = rightBy pin (x .pins) d
 
-        go : (none-left : Bool)
-            → Same
-            (OutAlike (cond none-left none (some (record { of = comparison-specs.pin; right = right c })))
-            (cond none-left none (some (record { of = comparison-specs.pin; right = right (swap c) }))))
-            (cond (eqb (verdict (must (not none-left) (triesLeft 0) ∷ [])) success)
-            (record { supply = supplyOf command.Verify; data′ = d; answer = λ s. tell (verifyBy (right c) c) })
-            (ends (tell (fails lost (verdict (must (not none-left) (triesLeft 0) ∷ []))))))
-            (cond (eqb (verdict (must (not none-left) (triesLeft 0) ∷ [])) success)
-            (record { supply = supplyOf command.Verify; data′ = d; answer = λ s. tell (verifyBy (right (swap c)) (swap c)) })
-            (ends (tell (fails lost′ (verdict (must (not none-left) (triesLeft 0) ∷ []))))))
-        go true = failing (triesLeft 0)
-        go false = record {
+        go : (b : Bool) → isZero (c .pins .«pin_tries») ≡ b
+            → Same (Alike command.Verify) (step6 tell lost c d command.Verify) (step6 tell lost′ (swap c) d command.Verify)
+        go true z = same-over (at-verify-none tell lost c d z) (at-verify-none tell lost′ (swap c) d z) (failing (triesLeft 0))
+        go false z = same-over (at-verify-some tell lost c d z) (at-verify-some tell lost′ (swap c) d z) (record {
           supply = refl;
           data′ = refl;
           answer = λ h s. told-same tell blind (verifyBy (right c) c) (verifyBy (right (swap c)) (swap c))
-              (verify-blind p q c (right c) ∙ ap (λ (b : Bool). eraseReply (verifyBy b (swap c))) (outcome comparison-specs.pin (right c) (right (swap c)) h));
-        }
+              (verify-blind p q c (right c)
+              ∙ ap (λ (b : Bool). eraseReply (verifyBy b (swap c)))
+              (h (made pin (c .pins) d) (made pin (swap c .pins) d) (verify-some (c .pins) d z) (verify-some (swap c .pins) d z)));
+        })
 
     unblock-same : Same (Alike command.Unblock) (step6 tell lost c d command.Unblock) (step6 tell lost′ (swap c) d command.Unblock)
-    unfolding step6 checksOf supplyOf replyOf unblockChecks unblockReply compares
-    unblock-same = go (isZero (c .pins .«pin_tries»)) (isZero (c .pins .«puk_tries»)) (eqb (length d) 18 && allOf isDigit (drop 12 d))
+    unblock-same = go (isZero (c .pins .«pin_tries»)) (isZero (c .pins .«puk_tries»)) (form d) refl refl refl
       where
         right : Card → Bool
-        right x = sameBytes (take 12 d) (x .pins .puk)
+        right x = rightBy puk (x .pins) d
 
-        w : Bool → Bool → Bool → ℕ
-        w blocked spent form = verdict (must blocked conditionsNotMet ∷ must (not spent) (triesLeft 0) ∷ must form wrongData ∷ [])
-
-        go : (blocked spent form : Bool)
-            → Same
-            (OutAlike (cond (blocked && not spent && form) (some (record { of = comparison-specs.puk; right = right c })) none)
-            (cond (blocked && not spent && form) (some (record { of = comparison-specs.puk; right = right (swap c) })) none))
-            (cond (eqb (w blocked spent form) success)
-            (record { supply = supplyOf command.Unblock; data′ = d; answer = λ s. tell (unblockBy (right c) c (drop 12 d)) })
-            (ends (tell (fails lost (w blocked spent form)))))
-            (cond (eqb (w blocked spent form) success)
-            (record { supply = supplyOf command.Unblock; data′ = d; answer = λ s. tell (unblockBy (right (swap c)) (swap c) (drop 12 d)) })
-            (ends (tell (fails lost′ (w blocked spent form)))))
-        go false spent form = failing conditionsNotMet
-        go true true form = failing (triesLeft 0)
-        go true false false = failing wrongData
-        go true false true = record {
+        go : (b t f : Bool) → isZero (c .pins .«pin_tries») ≡ b → isZero (c .pins .«puk_tries») ≡ t → form d ≡ f
+            → Same (Alike command.Unblock) (step6 tell lost c d command.Unblock) (step6 tell lost′ (swap c) d command.Unblock)
+        go false t f z y e = same-over (at-unblock-open tell lost c d z) (at-unblock-open tell lost′ (swap c) d z) (failing conditionsNotMet)
+        go true true f z y e = same-over (at-unblock-spent tell lost c d z y) (at-unblock-spent tell lost′ (swap c) d z y) (failing (triesLeft 0))
+        go true false false z y e =
+            same-over (at-unblock-malformed tell lost c d z y e) (at-unblock-malformed tell lost′ (swap c) d z y e) (failing wrongData)
+        go true false true z y e = same-over (at-unblock-some tell lost c d z y e) (at-unblock-some tell lost′ (swap c) d z y e) (record {
           supply = refl;
           data′ = refl;
           answer = λ h s. told-same tell blind (unblockBy (right c) c (drop 12 d)) (unblockBy (right (swap c)) (swap c) (drop 12 d))
               (unblock-blind p q c (right c) (drop 12 d)
-              ∙ ap (λ (b : Bool). eraseReply (unblockBy b (swap c) (drop 12 d))) (outcome comparison-specs.puk (right c) (right (swap c)) h));
-        }
+              ∙ ap (λ (b : Bool). eraseReply (unblockBy b (swap c) (drop 12 d)))
+              (h (made puk (c .pins) d) (made puk (swap c .pins) d) (unblock-some (c .pins) d z y e) (unblock-some (swap c .pins) d z y e)));
+        })
 
     pub step6-same : (k : Command) → Same (Alike k) (step6 tell lost c d k) (step6 tell lost′ (swap c) d k)
     unfolding replyOf
