@@ -3,7 +3,7 @@
 use mathlib.Core.Path.{_≡_, refl, sym, ap, ap₂, _∙_, subst}
 use mathlib.Core.Bool.{Bool, true, false, cond}
 use mathlib.Core.List.{List, []}
-use mathlib.Core.Option.{Option, none, some}
+use mathlib.Core.Option.{Option, none}
 use Prim.Native.Nat.{ℕ}
 use lib.Dec.{ltb, eqb}
 use lib.ListN.{length}
@@ -14,10 +14,10 @@ use Rattle.sound.specs.declared.Answer.{Answer}
 use Rattle.sound.specs.Reset.{resetAnswer, done, refused}
 use Rattle.rules.specs.declared.Supply.{Supply}
 use Rattle.rules.specs.Supplies.{suits}
-use Rattle.rules.specs.Engine.{Told, Decision, decide, noRefusal, noRoom, wrongSupply, unsound, askRoom, answerRoom, Asked, askRefused, asked, askOut, Answered, answerRefused, answered, withSupply, answerOut}
-use Rattle.two_runs.specs.Comparison.{on, Comparison, comparison}
-use Rattle.two_runs.specs.Runs.{Call, ask, answer, reset, comparisonAt, comparedAt, Seen, seenAt, written, nextAt, Agree, OutAlike}
-use Rattle.two_runs.proofs.Erasure.{cond-same, erase, eraseTold, erase-agree, agree-swap}
+use Rattle.rules.specs.Engine.{decide, noRefusal, noRoom, wrongSupply, unsound, askRoom, answerRoom, Asked, askRefused, asked, askOut, Answered, answerRefused, answered, withSupply, answerOut}
+use Rattle.two_runs.specs.Comparison.{Comparison, comparison}
+use Rattle.two_runs.specs.Runs.{Call, ask, answer, reset, comparisonAt, comparedAt, seenAt, written, nextAt, Agree, OutAlike}
+use Rattle.two_runs.proofs.Erasure.{cond-same, erase, erase-agree, agree-swap}
 use Rattle.two_runs.proofs.Order.{Same, secretOf, decide-same, compared-same}
 
 -- ---- what ANSWER gives, without PIN and PUK

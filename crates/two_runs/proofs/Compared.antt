@@ -2,21 +2,19 @@
 -- PUK; where one is made, the call is not refused, and its answer is the one that the command's rule has for right or for wrong.
 -- Assumes nothing.
 use mathlib.Core.Path.{_≡_, refl, sym, ap, _∙_, subst}
-use mathlib.Core.Bool.{Bool, true, false, _&&_, not, cond, false≢true}
-use mathlib.Core.List.{List, [], _∷_}
+use mathlib.Core.Bool.{Bool, true, false, cond, false≢true}
+use mathlib.Core.List.{List}
 use mathlib.Core.Option.{Option, none, some}
 use Prim.Native.Nat.{ℕ, _≤_}
 use native.Mathlib.Omega.{arith}
 use borrow.Author.Tests.{le-ltb}
 use lib.Dec.{ltb, eqb}
-use lib.ListN.{length, take, drop}
-use Rattle.octets.specs.Bytes.{sameBytes}
+use lib.ListN.{length, take}
 use Rattle.message.specs.Message.{commandHead, openField}
 use Rattle.card.specs.declared.Pins.{Pins}
 use Rattle.card.specs.declared.Card.{Card}
-use Rattle.card.specs.Slots.{allOf, isZero}
-use Rattle.card.specs.Sound.{isSound, isDigit}
-use Rattle.card.proofs.Tests.{both}
+use Rattle.card.specs.Slots.{isZero}
+use Rattle.card.specs.Sound.{isSound}
 use Rattle.rules.specs.declared.Instruction.{Instruction}
 use Rattle.rules.specs.declared.Instruction.the-variants as ins
 use Rattle.rules.specs.declared.Named.{Named}
@@ -26,10 +24,9 @@ use Rattle.rules.specs.declared.Command.the-variants as command
 use Rattle.rules.specs.Words.{Reply}
 use Rattle.rules.specs.Supplies.{noSupply, suits}
 use Rattle.rules.specs.Steps.{afterStep1, dataOf, headerOf, claOf, insOf, p1Of, p2Of, isInitialised, nameOf, isPlain, inStage, atStake, commandOf}
-use Rattle.rules.specs.Commands.{verifyChecks, verifyBy, verifyReply, unblockChecks, unblockBy, unblockReply, checksOf, supplyOf, replyOf}
-use Rattle.rules.specs.Engine.{sessionOf, withMac, Told, overChannel, Decision, step6, byChoice, step5, byOpening, step4, byName, step3, byForm, step2, decide, noRefusal, noRoom, unsound, answerRoom, answerRefused, answered, withSupply, answerOut}
-use Rattle.two_runs.specs.Comparison.{on, Past, Secret, pin, puk, Comparison, known, instructionOf, openedData, listed, pastSteps, pastDataCheck, compares, comparison}
-use Rattle.two_runs.specs.Runs.{Call, answer, comparisonAt, Agree, OutAlike}
+use Rattle.rules.specs.Engine.{sessionOf, withMac, Told, overChannel, step6, byChoice, step5, step4, step3, step2, decide, answerRoom, answered, answerOut}
+use Rattle.two_runs.specs.Comparison.{on, Secret, pin, puk, Comparison, known, openedData, listed, pastSteps, compares, comparison}
+use Rattle.two_runs.specs.Runs.{Call, answer, comparisonAt, Agree}
 use Rattle.two_runs.proofs.Erasure.{step1-pins}
 use Rattle.two_runs.proofs.Secrets.{rightBy, replyBy, made, deciding, form, verify-none, verify-some, unblock-open, unblock-spent, unblock-malformed, unblock-some, at-verify-some, at-unblock-some}
 use Rattle.two_runs.proofs.Order.{comparedBy, comparison-at}

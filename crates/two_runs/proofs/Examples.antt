@@ -1,22 +1,17 @@
 -- Two cards by name that meet the premise of the two runs: PIN 000000 and PIN 111111 with the wrong entry 222222; and PIN 000000 on both with
 -- two PUKs and the right entry.
 -- Assumes nothing.
-use mathlib.Core.Path.{_≡_, refl}
+use mathlib.Core.Path.{refl}
 use mathlib.Core.Bool.{true, false}
-use mathlib.Core.List.{List, [], _∷_}
-use Prim.Native.Nat.{ℕ, _≤_, _<_}
+use mathlib.Core.List.{List, []}
+use Prim.Native.Nat.{ℕ}
 use native.Mathlib.Omega.{arith}
-use lib.ListN.{length, replicate}
-use Rattle.octets.specs.Bytes.{Bytes, Block}
+use lib.ListN.{replicate}
 use Rattle.octets.proofs.Lists.{bytes-replicate}
-use Rattle.aes.specs.Aes.{Key}
-use Rattle.message.specs.Message.{Keyed}
 use Rattle.card.specs.declared.Card.{Card}
 use Rattle.card.specs.State.{zeros, noPairing, noKeys, withSecrets}
 use Rattle.card.specs.Slots.{allOf}
 use Rattle.card.specs.Sound.{isSound}
-use Rattle.card.specs.Shape.{Shaped}
-use Rattle.rules.specs.Engine.{sessionOf}
 use Rattle.two_runs.specs.Runs.{Call, answer}
 use Rattle.two_runs.proofs.Meets.{Ready, Met, verifyCommand, wrong-meets, right-meets}
 

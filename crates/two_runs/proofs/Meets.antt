@@ -2,12 +2,12 @@
 -- entry under two different PINs, and the right PIN under two different PUKs, are comparisons that both runs make and that come out alike.
 -- The commands are sealed by the terminal's rule; nothing of AES is computed.
 -- Assumes nothing.
-use mathlib.Core.Path.{_≡_, refl, sym, ap, _∙_}
+use mathlib.Core.Path.{_≡_, refl, ap, _∙_}
 use mathlib.Core.Bool.{Bool, true, false, _&&_, not, cond}
 use mathlib.Core.List.{List, [], _∷_}
 use mathlib.Core.Logic.{⊎-elim}
-use mathlib.Core.Option.{Option, none, some}
-use Prim.Native.Nat.{ℕ, _+_, _≤_, _<_}
+use mathlib.Core.Option.{Option, some}
+use Prim.Native.Nat.{ℕ, _+_, _≤_}
 use native.Mathlib.Omega.{arith}
 use borrow.Author.Tests.{leb-true, le-ltb, lt-leb, eq-eqb, ne-eqb}
 use lib.Dec.{leb, eqb}
@@ -37,6 +37,7 @@ use Rattle.rules.specs.Engine.{sessionOf, answerRoom}
 use Rattle.two_runs.specs.Comparison.{on, Past, pin, Comparison, pastSteps, pastStep5, compares, comparison}
 use Rattle.two_runs.specs.Runs.{Call, answer, comparisonAt, Agree, OutAlike, Alike, Premise}
 use Rattle.two_runs.proofs.Erasure.{erase-agree}
+use Rattle.two_runs.proofs.Secrets.{verify-some}
 use Rattle.two_runs.proofs.Compared.{one-at}
 
 -- ---- any digits may stand for PIN and PUK
@@ -161,10 +162,10 @@ module _ (c : Card) (ready : Ready c) (entry : List ℕ) (bytes : Bytes entry) (
 
   -- it compares the entry with the card's PIN
   pub verify-compares : comparison c (verifyCommand c entry) ≡ some (record { of = pin; right = sameBytes entry (c .pins .pin) })
-  unfolding comparison compares
+  unfolding comparison
   verify-compares =
       ap (λ (o : Option Past). on o (λ x. compares (c .pins) (x .command) (x .data′))) (past-stage2 c (verifyCommand c entry) (ready .stage) ∙ verify-past)
-      ∙ ap (λ (b : Bool). cond b none (some (record { of = pin; right = sameBytes entry (c .pins .pin) }))) (ready .tries)
+      ∙ verify-some (c .pins) entry (ready .tries)
 
   pub verify-at : (supply buf : List ℕ) → answerRoom ≤ length buf
       → comparisonAt c (answer (verifyCommand c entry) supply buf) ≡ some (record { of = pin; right = sameBytes entry (c .pins .pin) })

@@ -2,28 +2,26 @@
 -- where the comparison, if one is made, comes out alike.
 -- Assumes nothing.
 use mathlib.Core.Path.{_≡_, refl, sym, ap, _∙_, subst}
-use mathlib.Core.Bool.{Bool, true, false, _&&_, not, cond}
-use mathlib.Core.List.{List, [], _∷_}
+use mathlib.Core.Bool.{Bool, true, false, cond}
+use mathlib.Core.List.{List}
 use mathlib.Core.Option.{Option, none, some}
 use Prim.Native.Nat.{ℕ}
 use lib.Dec.{eqb}
-use lib.ListN.{length, take, drop}
-use Rattle.octets.specs.Bytes.{sameBytes}
+use lib.ListN.{take, drop}
 use Rattle.message.specs.Message.{commandHead, openField}
 use Rattle.card.specs.declared.Pins.{Pins}
 use Rattle.card.specs.declared.Card.{Card}
 use Rattle.card.specs.State.{withSecrets}
-use Rattle.card.specs.Slots.{allOf, isZero}
-use Rattle.card.specs.Sound.{isDigit}
+use Rattle.card.specs.Slots.{isZero}
 use Rattle.rules.specs.declared.Instruction.{Instruction}
 use Rattle.rules.specs.declared.Instruction.the-variants as ins
 use Rattle.rules.specs.declared.Named.{Named}
 use Rattle.rules.specs.declared.Named.the-variants as named
 use Rattle.rules.specs.declared.Command.{Command}
 use Rattle.rules.specs.declared.Command.the-variants as command
-use Rattle.rules.specs.Words.{success, triesLeft, conditionsNotMet, securityNotMet, wrongParameters, wrongLength, wrongData, unknownClass, unknownInstruction, Reply, Check, must, verdict, fails}
-use Rattle.rules.specs.Steps.{closed, forgotten, afterStep1, dataOf, headerOf, claOf, insOf, p1Of, p2Of, isInitialised, nameOf, isPlain, inStage, atStake, commandOf}
-use Rattle.rules.specs.Commands.{unpairChecks, verifyChecks, changeChecks, unblockChecks, loadChecks, deriveChecks, removeChecks, pinlessChecks, signChecks, verifyBy, verifyReply, unblockBy, unblockReply, checksOf, supplyOf, replyOf}
+use Rattle.rules.specs.Words.{success, triesLeft, conditionsNotMet, securityNotMet, wrongParameters, wrongLength, wrongData, unknownClass, unknownInstruction, Reply, verdict, fails}
+use Rattle.rules.specs.Steps.{closed, afterStep1, dataOf, headerOf, claOf, insOf, p1Of, p2Of, isInitialised, nameOf, isPlain, inStage, atStake, commandOf}
+use Rattle.rules.specs.Commands.{unpairChecks, verifyChecks, changeChecks, unblockChecks, loadChecks, deriveChecks, removeChecks, pinlessChecks, signChecks, verifyBy, unblockBy, checksOf, supplyOf, replyOf}
 use Rattle.rules.specs.Engine.{sessionOf, withMac, Told, plainly, overChannel, Decision, ends, step6, byChoice, step5, byOpening, step4, byName, step3, byForm, step2, decide}
 use Rattle.two_runs.specs.Comparison.{on, Past, Secret, pin, puk, Comparison, known, instructionOf, openedData, listed, pastSteps, pastStep5, pastDataCheck, compares, comparison}
 use Rattle.two_runs.specs.Runs.{OutAlike}

@@ -1,8 +1,8 @@
 -- The replies of the commands: none but VERIFY and UNBLOCK looks at PIN or PUK, and those two only to compare.
 -- Assumes nothing.
-use mathlib.Core.Path.{_≡_, refl, ap}
+use mathlib.Core.Path.{_≡_, refl}
 use mathlib.Core.Bool.{Bool, true, false}
-use mathlib.Core.List.{List, []}
+use mathlib.Core.List.{List}
 use mathlib.Core.Option.{Option, none, some}
 use Prim.Native.Nat.{ℕ}
 use Rattle.card.specs.declared.Card.{Card}
@@ -15,7 +15,6 @@ use Rattle.rules.specs.declared.Report.the-variants as report
 use Rattle.rules.specs.declared.Secret.{Secret}
 use Rattle.rules.specs.declared.Secret.the-variants as secret
 use Rattle.rules.specs.declared.KeyForm.{KeyForm}
-use Rattle.rules.specs.Words.{Reply}
 use Rattle.rules.specs.Supplies.{saysYes, initKey}
 use Rattle.rules.specs.Commands.{selectReply, isContent, initContent, initWith, initReply, openReply, mutualReply, pairFirstReply, pairInto, pairFinalReply, unpairReply, statusReply, verifyBy, changeReply, unblockBy, loadReply, deriveReply, removeReply, pinlessReply, signReply}
 use Rattle.two_runs.proofs.Erasure.{cond-same, eraseReply}

@@ -15,7 +15,7 @@ use Rattle.card.proofs.SoundFacts.{reset-sound}
 use Rattle.sound.specs.declared.Answer.{Answer}
 use Rattle.sound.specs.Reset.{resetAnswer, done, refused, unsound}
 use Rattle.rules.specs.Engine.{answerOut}
-use Rattle.two_runs.specs.Runs.{Call, ask, answer, reset, Seen, seenAt, nextAt, runOf, endOf, Alike, Premise, SameRuns}
+use Rattle.two_runs.specs.Runs.{Call, ask, answer, reset, Seen, nextAt, runOf, endOf, Alike, Premise, SameRuns}
 use Rattle.two_runs.proofs.Calls.{StepSame, call-same}
 
 -- ---- RESET keeps the shape
