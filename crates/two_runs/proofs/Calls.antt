@@ -57,7 +57,8 @@ module _ (p q : List ℕ) (c : Card) (sound : isSound c ≡ true) (sound′ : is
   ask-same cmd room =
       ap (λ (b : Bool). out b c) sound
       ∙ cond-same (λ (x : Asked). x) (ltb room askRoom) refl
-      (ap₂ (λ (k : Supply) (d : List ℕ). record { refusal = noRefusal; kind = k .kind; bytes = cond (eqb (k .kind) 0) [] d }) (same .supply) (same .data′))
+      (ap₂ (λ (k : Supply) (d : List ℕ). record { refusal = noRefusal; kind = k .kind; bytes = cond (eqb (k .kind) 0) [] d })
+      (same .supply) (same .data′))
       ∙ sym (ap (λ (b : Bool). out b other) sound′)
     where
       same : Same (OutAlike (comparison c cmd) (comparison other cmd)) (decide c cmd) (decide other cmd)
@@ -89,7 +90,8 @@ module _ (p q : List ℕ) (c : Card) (sound : isSound c ≡ true) (sound′ : is
     refusal-same : answerOut c cmd s (length buf) .refusal ≡ answerOut other cmd s (length buf) .refusal
     refusal-same = rw (out-here, out-there) (refusal-by short (fitsOn cmd s c))
 
-    answer-by-same : (t fits : Bool) → OutAlike (comparedIf cmd s c (answerBy cmd s c t fits)) (comparedIf cmd s other (answerBy cmd s other t fits))
+    answer-by-same : (t fits : Bool)
+        → OutAlike (comparedIf cmd s c (answerBy cmd s c t fits)) (comparedIf cmd s other (answerBy cmd s other t fits))
         → eraseAnswered (answerBy cmd s c t fits) ≡ eraseAnswered (answerBy cmd s other t fits)
     unfolding answerBy comparedIf
     answer-by-same true fits h = refl
@@ -102,7 +104,8 @@ module _ (p q : List ℕ) (c : Card) (sound : isSound c ≡ true) (sound′ : is
     answer-same h =
         ap eraseAnswered out-here
         ∙ answer-by-same short (fitsOn cmd s c)
-        (subst (λ (x : Answered). OutAlike (comparedIf cmd s c (answerBy cmd s c short (fitsOn cmd s c))) (comparedIf cmd s other x)) out-there
+        (subst (λ (x : Answered). OutAlike (comparedIf cmd s c (answerBy cmd s c short (fitsOn cmd s c))) (comparedIf cmd s other x))
+        out-there
         (subst (λ (x : Answered). OutAlike (comparedIf cmd s c x) (comparedIf cmd s other (answerOut other cmd s (length buf)))) out-here h))
         ∙ sym (ap eraseAnswered out-there)
 
@@ -138,7 +141,8 @@ module _ (p q : List ℕ) (c : Card) (sound : isSound c ≡ true) (sound′ : is
       let e = answer-same cmd s buf h in
       record {
         seen = cc (ap (λ (o : Answered). o .refusal) e, ap (λ (o : Answered). o .bytes) e, compared-at-same cmd s buf);
-        next = erase-agree (answerOut c cmd s (length buf) .card) (answerOut other cmd s (length buf) .card) (ap (λ (o : Answered). o .card) e);
+        next = erase-agree (answerOut c cmd s (length buf) .card) (answerOut other cmd s (length buf) .card)
+            (ap (λ (o : Answered). o .card) e);
       }
   call-swap reset h = record {
     seen = ap (λ (n : ℕ). record { refusal = n; kind = 0; count = 0; buffer = []; compared = none })
@@ -165,7 +169,8 @@ refused-passes c (answer cmd s buf) n = go (isSound c) (ltb (length buf) answerR
   where
     out : Bool → Bool → Bool → Answered
     out b t f =
-        cond b (cond t (answerRefused c noRoom) (cond f (answered (decide c cmd .answer s)) (answerRefused c wrongSupply))) (answerRefused c unsound)
+        cond b (cond t (answerRefused c noRoom) (cond f (answered (decide c cmd .answer s)) (answerRefused c wrongSupply)))
+        (answerRefused c unsound)
 
     go : (b t f : Bool) → (out b t f .refusal ≡ noRefusal → ⊥) → out b t f .card ≡ c
     go false t f m = refl
@@ -174,6 +179,7 @@ refused-passes c (answer cmd s buf) n = go (isSound c) (ltb (length buf) answerR
     go true false false m = refl
 refused-passes c reset n = go (isSound c) n
   where
-    go : (b : Bool) → (cond b (done (resetOf c)) (refused unsound c) .refusal ≡ noRefusal → ⊥) → cond b (done (resetOf c)) (refused unsound c) .card ≡ c
+    go : (b : Bool) → (cond b (done (resetOf c)) (refused unsound c) .refusal ≡ noRefusal → ⊥)
+        → cond b (done (resetOf c)) (refused unsound c) .card ≡ c
     go true m = absurd (m refl)
     go false m = refl

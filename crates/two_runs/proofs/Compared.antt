@@ -47,7 +47,8 @@ record At6 (tell : Reply → Told) (lost c : Card) (d : List ℕ) (k : Command) 
 module _ (tell : Reply → Told) (lost c : Card) (d : List ℕ) (x : Comparison) where
   -- a comparison that is made is the one that it must be
   is-made : (s : Secret) (k : Command) → compares (c .pins) k d ≡ some (made s (c .pins) d)
-      → step6 tell lost c d k ≡ deciding d (tell (replyBy s (rightBy s (c .pins) d) c d)) → compares (c .pins) k d ≡ some x → At6 tell lost c d k x
+      → step6 tell lost c d k ≡ deciding d (tell (replyBy s (rightBy s (c .pins) d) c d)) → compares (c .pins) k d ≡ some x
+      → At6 tell lost c d k x
   is-made s k m r e =
       let same : made s (c .pins) d ≡ x = cc in
       subst (λ (y : Comparison). At6 tell lost c d k y) same (record { right = refl; decides = r })
@@ -55,7 +56,8 @@ module _ (tell : Reply → Told) (lost c : Card) (d : List ℕ) (x : Comparison)
   none-there : {A : Type 0} (o : Option Comparison) → o ≡ none → o ≡ some x → A
   none-there o n e = never x (sym n ∙ e)
 
-  verify-compares : (b : Bool) → isZero (c .pins .«pin_tries») ≡ b → compares (c .pins) command.Verify d ≡ some x → At6 tell lost c d command.Verify x
+  verify-compares : (b : Bool) → isZero (c .pins .«pin_tries») ≡ b → compares (c .pins) command.Verify d ≡ some x
+      → At6 tell lost c d command.Verify x
   verify-compares true z e = none-there _ (verify-none (c .pins) d z) e
   verify-compares false z e = is-made pin command.Verify (verify-some (c .pins) d z) (at-verify-some tell lost c d z) e
 
@@ -64,12 +66,14 @@ module _ (tell : Reply → Told) (lost c : Card) (d : List ℕ) (x : Comparison)
   unblock-compares false t f z y m e = none-there _ (unblock-open (c .pins) d z) e
   unblock-compares true true f z y m e = none-there _ (unblock-spent (c .pins) d z y) e
   unblock-compares true false false z y m e = none-there _ (unblock-malformed (c .pins) d z y m) e
-  unblock-compares true false true z y m e = is-made puk command.Unblock (unblock-some (c .pins) d z y m) (at-unblock-some tell lost c d z y m) e
+  unblock-compares true false true z y m e =
+      is-made puk command.Unblock (unblock-some (c .pins) d z y m) (at-unblock-some tell lost c d z y m) e
 
   step6-compares : (k : Command) → compares (c .pins) k d ≡ some x → At6 tell lost c d k x
   unfolding compares
   step6-compares command.Verify e = verify-compares (isZero (c .pins .«pin_tries»)) refl e
-  step6-compares command.Unblock e = unblock-compares (isZero (c .pins .«pin_tries»)) (isZero (c .pins .«puk_tries»)) (form d) refl refl refl e
+  step6-compares command.Unblock e =
+      unblock-compares (isZero (c .pins .«pin_tries»)) (isZero (c .pins .«puk_tries»)) (form d) refl refl refl e
   step6-compares command.Select e = never x e
   step6-compares command.Init e = never x e
   step6-compares (command.Open i) e = never x e
@@ -175,7 +179,8 @@ module _ (x : Comparison) where
     pub decides : step2 cmd c ≡ step4 instruction cmd c field
 
   module _ (cmd : List ℕ) (c : Card) where
-    step2-decides : (field : List ℕ) (i : Instruction) → dataOf cmd ≡ some field → nameOf (isInitialised c) (claOf cmd) (insOf cmd) ≡ named.Known i
+    step2-decides : (field : List ℕ) (i : Instruction) → dataOf cmd ≡ some field
+        → nameOf (isInitialised c) (claOf cmd) (insOf cmd) ≡ named.Known i
         → step2 cmd c ≡ step4 i cmd c field
     unfolding step2 step3
     step2-decides field i f n = rw (f, n)

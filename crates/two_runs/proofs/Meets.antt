@@ -164,7 +164,8 @@ module _ (c : Card) (ready : Ready c) (entry : List ℕ) (bytes : Bytes entry) (
   pub verify-compares : comparison c (verifyCommand c entry) ≡ some (record { of = pin; right = sameBytes entry (c .pins .pin) })
   unfolding comparison
   verify-compares =
-      ap (λ (o : Option Past). on o (λ x. compares (c .pins) (x .command) (x .data′))) (past-stage2 c (verifyCommand c entry) (ready .stage) ∙ verify-past)
+      ap (λ (o : Option Past). on o (λ x. compares (c .pins) (x .command) (x .data′)))
+      (past-stage2 c (verifyCommand c entry) (ready .stage) ∙ verify-past)
       ∙ verify-some (c .pins) entry (ready .tries)
 
   pub verify-at : (supply buf : List ℕ) → answerRoom ≤ length buf
@@ -205,7 +206,8 @@ module _ (c : Card) (ready : Ready c) (p q : List ℕ) (pin-digits : allOf isDig
     entry-meets right e f =
         let here : comparisonAt c call ≡ some (record { of = pin; right = right }) = verify-at c ready entry bytes fits supply buf room
         ∙ ap (λ (b : Bool). some (record { of = pin; right = b })) e in
-        let there : comparisonAt other call ≡ some (record { of = pin; right = right }) = verify-at other ready′ entry bytes fits supply buf room
+        let there : comparisonAt other call ≡ some (record { of = pin; right = right })
+        = verify-at other ready′ entry bytes fits supply buf room
         ∙ ap (λ (b : Bool). some (record { of = pin; right = b })) f in
         record {
           premise = record {
@@ -225,8 +227,8 @@ module _ (c : Card) (ready : Ready c) (p q : List ℕ) (pin-digits : allOf isDig
     wrong-meets e f = entry-meets false e f
 
 -- the right PIN under different PUKs
-pub right-meets : (c : Card) → Ready c → (q : List ℕ) → allOf isDigit q ≡ true → length q ≡ 12 → (supply buf : List ℕ) → answerRoom ≤ length buf
-    → Met c (withSecrets (c .pins .pin) q c) (answer (verifyCommand c (c .pins .pin)) supply buf) true
+pub right-meets : (c : Card) → Ready c → (q : List ℕ) → allOf isDigit q ≡ true → length q ≡ 12 → (supply buf : List ℕ)
+    → answerRoom ≤ length buf → Met c (withSecrets (c .pins .pin) q c) (answer (verifyCommand c (c .pins .pin)) supply buf) true
 right-meets c ready q g j supply buf room =
     entry-meets c ready (c .pins .pin) q digits g (ready .shaped .pin) j (c .pins .pin) supply buf (digits-bytes (c .pins .pin) digits)
     (omega (arith, ready .shaped .pin)) room true (same-refl (c .pins .pin)) (same-refl (c .pins .pin))

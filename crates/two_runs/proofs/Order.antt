@@ -73,7 +73,9 @@ module _ (p q : List ℕ) where
   -- ---- step 6
   module _ (tell : Reply → Told) (blind : Blind tell) (lost lost′ c : Card) (lose : erase lost ≡ erase lost′) (d : List ℕ) where
     failing : {L : Type 0} (w : ℕ) → Same L (ends (tell (fails lost w))) (ends (tell (fails lost′ w)))
-    failing w = ends-same (tell (fails lost w)) (tell (fails lost′ w)) (told-same tell blind (fails lost w) (fails lost′ w) (fails-same lost lost′ w lose))
+    failing w =
+        ends-same (tell (fails lost w)) (tell (fails lost′ w))
+        (told-same tell blind (fails lost w) (fails lost′ w) (fails-same lost lost′ w lose))
 
     -- the checks look at neither
     checks-blind : (k : Command) → checksOf k c d ≡ checksOf k (swap c) d
@@ -143,7 +145,8 @@ module _ (p q : List ℕ) where
         go : (b t f : Bool) → isZero (c .pins .«pin_tries») ≡ b → isZero (c .pins .«puk_tries») ≡ t → form d ≡ f
             → Same (Alike command.Unblock) (step6 tell lost c d command.Unblock) (step6 tell lost′ (swap c) d command.Unblock)
         go false t f z y e = same-over (at-unblock-open tell lost c d z) (at-unblock-open tell lost′ (swap c) d z) (failing conditionsNotMet)
-        go true true f z y e = same-over (at-unblock-spent tell lost c d z y) (at-unblock-spent tell lost′ (swap c) d z y) (failing (triesLeft 0))
+        go true true f z y e =
+            same-over (at-unblock-spent tell lost c d z y) (at-unblock-spent tell lost′ (swap c) d z y) (failing (triesLeft 0))
         go true false false z y e =
             same-over (at-unblock-malformed tell lost c d z y e) (at-unblock-malformed tell lost′ (swap c) d z y e) (failing wrongData)
         go true false true z y e = same-over (at-unblock-some tell lost c d z y e) (at-unblock-some tell lost′ (swap c) d z y e) (record {
@@ -210,7 +213,8 @@ module _ (p q : List ℕ) where
       lost′ = atStake i (p1Of cmd) (swap c)
 
       go : (o : Option Command)
-          → Same (AlikeAt c (on o (λ k. some (record { command = k; data′ = d })))) (byChoice tell lost c d o) (byChoice tell lost′ (swap c) d o)
+          → Same (AlikeAt c (on o (λ k. some (record { command = k; data′ = d }))))
+          (byChoice tell lost c d o) (byChoice tell lost′ (swap c) d o)
       go none = failing tell blind lost lost′ c (stake-blind i (p1Of cmd) c) d wrongParameters
       go (some k) = step6-same tell blind lost lost′ c (stake-blind i (p1Of cmd) c) d k
 
@@ -227,7 +231,8 @@ module _ (p q : List ℕ) where
           (cond staged (byOpening i (p1Of cmd) (p2Of cmd) x field o) (ends (plainly (fails x conditionsNotMet))))
 
       go : (plain staged : Bool) (o : Option (List ℕ))
-          → Same (AlikeAt c (on (cond plain (some field) (cond staged o none)) (λ d. listed i cmd d))) (by c plain staged o) (by (swap c) plain staged o)
+          → Same (AlikeAt c (on (cond plain (some field) (cond staged o none)) (λ d. listed i cmd d)))
+          (by c plain staged o) (by (swap c) plain staged o)
       go true staged o = step5-same plainly plainly-blind i cmd c field
       go false true none = ends-same (plainly (fails (closed c) securityNotMet)) (plainly (fails (closed (swap c)) securityNotMet)) refl
       go false true (some d) = step5-same overChannel channel-blind i cmd (withMac c (take 16 field)) d
@@ -265,7 +270,8 @@ module _ (p q : List ℕ) where
   comparison-other c cmd = comparison-at (swap c) cmd ∙ ap (λ (x : Card). comparedBy (x .pins) (pastSteps x cmd)) (step1-swap p q cmd c)
 
   -- the whole order of checks
-  pub decide-same : (c : Card) (cmd : List ℕ) → Same (OutAlike (comparison c cmd) (comparison (swap c) cmd)) (decide c cmd) (decide (swap c) cmd)
+  pub decide-same : (c : Card) (cmd : List ℕ)
+      → Same (OutAlike (comparison c cmd) (comparison (swap c) cmd)) (decide c cmd) (decide (swap c) cmd)
   unfolding decide
   decide-same c cmd =
       rw (step1-swap p q cmd c)

@@ -58,7 +58,8 @@ module _ (p : Pins) (d : List ℕ) where
   unfolding compares
   unblock-spent z y = rw (z, y)
 
-  pub unblock-malformed : isZero (p .«pin_tries») ≡ true → isZero (p .«puk_tries») ≡ false → form d ≡ false → compares p command.Unblock d ≡ none
+  pub unblock-malformed : isZero (p .«pin_tries») ≡ true → isZero (p .«puk_tries») ≡ false → form d ≡ false
+      → compares p command.Unblock d ≡ none
   unfolding compares
   unblock-malformed z y f = rw (z, y, f)
 
@@ -69,7 +70,8 @@ module _ (p : Pins) (d : List ℕ) where
 
 -- ---- what step 6 decides
 module _ (tell : Reply → Told) (lost c : Card) (d : List ℕ) where
-  step6-fails : (k : Command) (w : ℕ) → verdict (checksOf k c d) ≡ w → eqb w success ≡ false → step6 tell lost c d k ≡ ends (tell (fails lost w))
+  step6-fails : (k : Command) (w : ℕ) → verdict (checksOf k c d) ≡ w → eqb w success ≡ false
+      → step6 tell lost c d k ≡ ends (tell (fails lost w))
   unfolding step6
   step6-fails k w e n = rw (e, n)
 
@@ -87,7 +89,8 @@ module _ (tell : Reply → Told) (lost c : Card) (d : List ℕ) where
   unfolding checksOf verifyChecks supplyOf replyOf verifyReply
   at-verify-some z = step6-replies command.Verify (rw z)
 
-  pub at-unblock-open : isZero (c .pins .«pin_tries») ≡ false → step6 tell lost c d command.Unblock ≡ ends (tell (fails lost conditionsNotMet))
+  pub at-unblock-open : isZero (c .pins .«pin_tries») ≡ false
+      → step6 tell lost c d command.Unblock ≡ ends (tell (fails lost conditionsNotMet))
   unfolding checksOf unblockChecks
   at-unblock-open z = step6-fails command.Unblock conditionsNotMet (rw z) refl
 

@@ -1,6 +1,5 @@
--- Demand 3 (01, The two runs of demand 3): two runs of one list of calls, from sound cards that agree in all but PIN and PUK, whose comparisons
--- come out alike wherever both make one, show the same at every call and end with cards that agree. `Shaped` says of a card what its type
--- says (crate `shape`).
+-- Demand 3 (01, The two runs of demand 3): two runs of one list of calls, from sound cards that agree in all but PIN and PUK, show the same at
+-- every call and end with cards that agree, if their comparisons come out alike wherever both make one.
 -- Assumes what its module's parameters say: ANSWER keeps soundness and shape.
 use mathlib.Core.Path.{_≡_, refl, sym, ap, ap₂, subst}
 use mathlib.Core.Bool.{Bool, true, cond}
