@@ -12,8 +12,10 @@ use Rattle.card.specs.declared.Card.{Card}
 use Rattle.card.specs.State.{zeros, noPairing, noKeys, withSecrets}
 use Rattle.card.specs.Slots.{allOf}
 use Rattle.card.specs.Sound.{isSound}
+use Rattle.two_runs.specs.Comparison.{pin}
 use Rattle.two_runs.specs.Runs.{Call, answer}
-use Rattle.two_runs.proofs.Meets.{Ready, Met, verifyCommand, wrong-meets, right-meets}
+use Rattle.two_runs.proofs.Sealed.{InStage2, sealedFor}
+use Rattle.two_runs.proofs.Meets.{Met, by, wrong-meets, right-meets}
 
 -- n times the same digit
 abbrev pub digits : ℕ → ℕ → List ℕ
@@ -39,11 +41,11 @@ cardOtherPuk = withSecrets (digits 6 0x30) (digits 12 0x31) card000000
 
 -- ANSWER, with no supply and a buffer of 258 bytes
 abbrev pub answering : List ℕ → Call
-answering entry = answer (verifyCommand card000000 entry) [] (zeros 258)
+answering entry = answer (sealedFor card000000 0x20 entry) [] (zeros 258)
 
-ready : Ready card000000
+in-stage2 : InStage2 card000000
 unfolding isSound allOf
-ready = record {
+in-stage2 = record {
   sound = refl;
   shaped = record {
     uid = refl;
@@ -65,15 +67,14 @@ ready = record {
     mac = record { long = refl; bytes = bytes-replicate 32 0 (omega arith) };
     iv = record { long = refl; bytes = bytes-replicate 16 0 (omega arith) };
   };
-  tries = refl;
 }
 
-pub wrong-entry : Met card000000 card111111 (answering (digits 6 0x32)) false
+pub wrong-entry : Met card000000 card111111 (answering (digits 6 0x32)) (by pin false)
 unfolding allOf
 wrong-entry =
-    wrong-meets card000000 ready (digits 6 0x31) (digits 12 0x30) refl refl refl refl (digits 6 0x32) [] (zeros 258)
-    (bytes-replicate 6 0x32 (omega arith)) (omega arith) (omega arith) refl refl
+    wrong-meets card000000 in-stage2 (digits 6 0x31) (digits 12 0x30) refl refl refl refl (digits 6 0x32) [] (zeros 258)
+    (bytes-replicate 6 0x32 (omega arith)) (omega arith) (omega arith) refl refl refl
 
-pub right-entry : Met card000000 cardOtherPuk (answering (digits 6 0x30)) true
+pub right-entry : Met card000000 cardOtherPuk (answering (digits 6 0x30)) (by pin true)
 unfolding allOf
-right-entry = right-meets card000000 ready (digits 12 0x31) refl refl [] (zeros 258) (omega arith)
+right-entry = right-meets card000000 in-stage2 refl (digits 12 0x31) refl refl [] (zeros 258) (omega arith)

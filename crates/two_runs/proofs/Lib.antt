@@ -5,5 +5,6 @@ pub mod Order
 pub mod Calls
 pub mod TwoRuns
 pub mod Compared
+pub mod Sealed
 pub mod Meets
 pub mod Examples
