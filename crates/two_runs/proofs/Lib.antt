@@ -8,3 +8,4 @@ pub mod Compared
 pub mod Sealed
 pub mod Meets
 pub mod Examples
+pub mod WrongEntries
