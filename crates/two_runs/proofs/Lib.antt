@@ -9,3 +9,4 @@ pub mod Sealed
 pub mod Meets
 pub mod Examples
 pub mod WrongEntries
+pub mod Reached

@@ -33,7 +33,7 @@ use Rattle.two_runs.proofs.Secrets.{made, form, verify-some, unblock-so
 use Rattle.two_runs.proofs.Compared.{one-at}
 
 -- ---- a command whose data fill it: Lc and then as many bytes
-data-filled : (a b p1 p2 : ℕ) (f : List ℕ) → 1 ≤ length f → dataOf (a ∷ b ∷ p1 ∷ p2 ∷ length f ∷ f) ≡ some f
+pub data-filled : (a b p1 p2 : ℕ) (f : List ℕ) → 1 ≤ length f → dataOf (a ∷ b ∷ p1 ∷ p2 ∷ length f ∷ f) ≡ some f
 unfolding dataOf
 data-filled a b p1 p2 f h =
     rw (

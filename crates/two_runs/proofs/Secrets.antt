@@ -70,12 +70,12 @@ module _ (p : Pins) (d : List ℕ) where
 
 -- ---- what step 6 decides
 module _ (tell : Reply → Told) (lost c : Card) (d : List ℕ) where
-  step6-fails : (k : Command) (w : ℕ) → verdict (checksOf k c d) ≡ w → eqb w success ≡ false
+  pub step6-fails : (k : Command) (w : ℕ) → verdict (checksOf k c d) ≡ w → eqb w success ≡ false
       → step6 tell lost c d k ≡ ends (tell (fails lost w))
   unfolding step6
   step6-fails k w e n = rw (e, n)
 
-  step6-replies : (k : Command) → verdict (checksOf k c d) ≡ success
+  pub step6-replies : (k : Command) → verdict (checksOf k c d) ≡ success
       → step6 tell lost c d k ≡ record { supply = supplyOf k; data′ = d; answer = λ s. tell (replyOf k c d s) }
   unfolding step6
   step6-replies k e = rw e

@@ -1,0 +1,121 @@
+-- Lists of calls that reach what a run can start from: INIT on FRESH reaches an initialised sound card; PAIR, OPEN and MUTUAL then reach the
+-- stages 1 and 2; VERIFY and LOAD reach the key kinds 1 and 2. Nothing of AES is computed.
+-- Assumes nothing.
+use mathlib.Core.Path.{_≡_, refl, sym, ap, _∙_}
+use mathlib.Core.Bool.{Bool, true, false, _&&_, cond}
+use mathlib.Core.List.{List, [], _∷_, _++_}
+use mathlib.Core.Option.{Option, some}
+use Prim.Native.Nat.{ℕ, _+_, _≤_}
+use native.Mathlib.Omega.{arith}
+use borrow.Author.Tests.{le-ltb}
+use lib.Dec.{ltb, eqb}
+use lib.ListN.{length, take, replicate, length-append}
+use lib.Seq.{take-all}
+use Rattle.octets.specs.Bytes.{Bytes}
+use Rattle.octets.proofs.Lists.{bytes-append, bytes-replicate}
+use Rattle.aes.specs.Aes.{invAes256}
+use Rattle.cbc.specs.Mode.{cbcDecrypt}
+use Rattle.padding.specs.Padding.{paddedBytes, unpad}
+use Rattle.padding.proofs.Laws.{unpad-pad}
+use Rattle.message.specs.declared.Session.{Session}
+use Rattle.message.specs.Message.{Keyed, ciphertext}
+use Rattle.message.proofs.Fields.{length-ciphertext, decrypted}
+use Rattle.card.specs.declared.Card.{Card}
+use Rattle.card.specs.State.{zeros, freshOf, noPairing, noKeys, closedOf}
+use Rattle.card.specs.Slots.{allOf, someOf}
+use Rattle.card.specs.Sound.{isSound}
+use Rattle.rules.specs.declared.Supply.{Supply}
+use Rattle.rules.specs.declared.Command.the-variants as command
+use Rattle.rules.specs.Words.{verdict, success, Reply}
+use Rattle.rules.specs.Supplies.{initSupply, suits}
+use Rattle.rules.specs.Steps.{afterStep1, dataOf, nameOf, isPlain, atStake, commandOf}
+use Rattle.rules.specs.Commands.{initChecks, initContent, initWith, initReply, initialisedWith, checksOf, supplyOf, replyOf}
+use Rattle.rules.specs.Engine.{Told, plainly, Decision, decide, step2, byForm, step3, step4, step5, step6, answerRoom, noRoom, unsound, answerRefused, Answered, answered, withSupply, answerOut}
+use Rattle.two_runs.specs.Runs.{Call, answer, nextAt}
+use Rattle.two_runs.proofs.Secrets.{step6-replies}
+use Rattle.two_runs.proofs.Sealed.{data-filled}
+
+-- ---- ANSWER where the order of checks comes to this decision, and the supply suits
+pub answers : (c : Card) (cmd s : List ℕ) (room : ℕ) (u : Supply) (d : List ℕ) (f : List ℕ → Told) → isSound c ≡ true → answerRoom ≤ room
+    → decide c cmd ≡ record { supply = u; data′ = d; answer = f } → suits u s ≡ true → answerOut c cmd s room ≡ answered (f s)
+unfolding answerOut
+answers c cmd s room u d f e l m z = rw (e, le-ltb room answerRoom l, m, z)
+
+-- ---- INIT on FRESH
+abbrev pub fresh : Card
+fresh = freshOf (zeros 16) (zeros 65)
+
+-- PIN 000000, PUK 000000000000, and a pairing secret of zeros
+abbrev pub content : List ℕ
+content = replicate 18 0x30 ++ zeros 32
+
+-- the key and the IV that the content is enciphered under, both zeros
+abbrev under : Session
+under = record { «enc_key» = zeros 32; «mac_key» = zeros 32; iv = zeros 16 }
+
+pub under-keyed : Keyed under
+under-keyed = record {
+  enc = record { long = refl; bytes = bytes-replicate 32 0 (omega arith) };
+  mac = record { long = refl; bytes = bytes-replicate 32 0 (omega arith) };
+  iv = record { long = refl; bytes = bytes-replicate 16 0 (omega arith) };
+}
+
+abbrev enciphered : List ℕ
+enciphered = ciphertext under content
+
+abbrev pub initData : List ℕ
+initData = 0x41 ∷ 0x04 ∷ (zeros 64 ++ (zeros 16 ++ enciphered))
+
+abbrev pub initCommand : List ℕ
+initCommand = 0x80 ∷ 0xFE ∷ 0 ∷ 0 ∷ 146 ∷ initData
+
+abbrev pub initCall : Call
+initCall = answer initCommand (1 ∷ zeros 32) (zeros 258)
+
+abbrev pub initialisedCard : Card
+initialisedCard = initialisedWith fresh content
+
+content-bytes : Bytes content
+content-bytes = bytes-append (replicate 18 0x30) (zeros 32) (bytes-replicate 18 0x30 (omega arith)) (bytes-replicate 32 0 (omega arith))
+
+long : length enciphered ≡ 64
+unfolding paddedBytes
+long = length-ciphertext under under-keyed content content-bytes
+
+init-long : length initData ≡ 146
+init-long = omega (arith, long)
+
+init-form : dataOf initCommand ≡ some initData
+init-form =
+    ap (λ (n : ℕ). dataOf (0x80 ∷ 0xFE ∷ 0 ∷ 0 ∷ n ∷ initData)) (sym init-long) ∙ data-filled 0x80 0xFE 0 0 initData (omega (arith, init-long))
+
+init-opens : initContent (zeros 32) initData ≡ some content
+unfolding initContent
+init-opens =
+    ap (λ (y : List ℕ). unpad (cbcDecrypt (invAes256 (zeros 32)) (zeros 16) y)) (take-all 64 enciphered (omega (arith, long)))
+    ∙ ap unpad (decrypted under under-keyed content content-bytes)
+    ∙ unpad-pad content
+
+init-replies : initReply fresh initData (1 ∷ zeros 32) ≡ record { status = success; response = []; card = initialisedCard }
+unfolding initReply initWith allOf
+init-replies = ap (λ (o : Option (List ℕ)). initWith fresh o) init-opens
+
+init-checks : verdict (checksOf command.Init fresh initData) ≡ success
+unfolding checksOf initChecks
+init-checks = rw init-long
+
+init-decides : decide fresh initCommand ≡ record { supply = initSupply; data′ = initData; answer = λ s. plainly (initReply fresh initData s) }
+unfolding decide step2 step3 step4 step5 afterStep1 nameOf isPlain atStake commandOf supplyOf replyOf
+init-decides = ap (λ (o : Option (List ℕ)). byForm initCommand fresh o) init-form ∙ step6-replies plainly fresh fresh initData command.Init init-checks
+
+fresh-is-sound : isSound fresh ≡ true
+unfolding isSound allOf
+fresh-is-sound = refl
+
+pub init-reaches : nextAt fresh initCall ≡ initialisedCard
+unfolding nextAt suits
+init-reaches =
+    ap (λ (a : Answered). a .card)
+    (answers fresh initCommand (1 ∷ zeros 32) 258 initSupply initData (λ s. plainly (initReply fresh initData s)) fresh-is-sound (omega arith)
+    init-decides refl)
+    ∙ ap (λ (r : Reply). r .card) init-replies
