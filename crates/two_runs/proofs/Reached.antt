@@ -21,7 +21,7 @@ use Rattle.message.specs.declared.Session.{Session}
 use Rattle.message.specs.Message.{Keyed, ciphertext}
 use Rattle.message.proofs.Fields.{length-ciphertext, decrypted}
 use Rattle.card.specs.declared.Card.{Card}
-use Rattle.card.specs.State.{zeros, freshOf, noPairing, noKeys, closedOf}
+use Rattle.card.specs.State.{zeros, freshOf, noKeys, withPairing, withChannel}
 use Rattle.card.specs.Slots.{allOf, someOf}
 use Rattle.card.specs.Sound.{isSound}
 use Rattle.rules.specs.declared.Supply.{Supply}
@@ -29,9 +29,9 @@ use Rattle.rules.specs.declared.Command.the-variants as command
 use Rattle.rules.specs.Words.{verdict, success, Reply}
 use Rattle.rules.specs.Supplies.{initSupply, suits}
 use Rattle.rules.specs.Steps.{afterStep1, dataOf, nameOf, isPlain, atStake, commandOf}
-use Rattle.rules.specs.Commands.{initChecks, initContent, initWith, initReply, initialisedWith, checksOf, supplyOf, replyOf}
+use Rattle.rules.specs.Commands.{pendingWith, pairFirstChecks, pairFirstReply, withSlot, filledWith, initChecks, initContent, initWith, initReply, initialisedWith, checksOf, supplyOf, replyOf}
 use Rattle.rules.specs.Engine.{Told, plainly, Decision, decide, step2, byForm, step3, step4, step5, step6, answerRoom, noRoom, unsound, answerRefused, Answered, answered, withSupply, answerOut}
-use Rattle.two_runs.specs.Runs.{Call, answer, nextAt}
+use Rattle.two_runs.specs.Runs.{Call, answer, nextAt, endOf}
 use Rattle.two_runs.proofs.Secrets.{step6-replies}
 use Rattle.two_runs.proofs.Sealed.{data-filled}
 
@@ -119,3 +119,53 @@ init-reaches =
     (answers fresh initCommand (1 ∷ zeros 32) 258 initSupply initData (λ s. plainly (initReply fresh initData s)) fresh-is-sound (omega arith)
     init-decides refl)
     ∙ ap (λ (r : Reply). r .card) init-replies
+
+pub initialised-sound : isSound initialisedCard ≡ true
+unfolding isSound allOf someOf
+initialised-sound = refl
+
+-- ---- what a list of calls reaches from FRESH
+pub record Reachable (c : Card) : Type 0 where
+  pub calls : List Call
+  pub ends : endOf fresh calls ≡ c
+
+end-then : (c : Card) (calls : List Call) (k : Call) → endOf c (calls ++ (k ∷ [])) ≡ nextAt (endOf c calls) k
+unfolding endOf
+end-then c [] k = refl
+end-then c (j ∷ more) k = end-then (nextAt c j) more k
+
+step : {d : Card} (c : Card) → Reachable c → (k : Call) → nextAt c k ≡ d → Reachable d
+step c r k e = record {
+  calls = r .calls ++ (k ∷ []);
+  ends = end-then fresh (r .calls) k ∙ ap (λ (x : Card). nextAt x k) (r .ends) ∙ e;
+}
+
+pub fresh-reached : Reachable fresh
+unfolding endOf
+fresh-reached = record { calls = []; ends = refl }
+
+pub initialised-reached : Reachable initialisedCard
+initialised-reached = step fresh fresh-reached initCall init-reaches
+
+-- ---- PAIR and OPEN, by computation
+abbrev pairFirstCall : Call
+pairFirstCall = answer (0x80 ∷ 0x12 ∷ 0 ∷ 0 ∷ 32 ∷ zeros 32) (zeros 96) (zeros 258)
+
+abbrev pairFinalCall : Call
+pairFinalCall = answer (0x80 ∷ 0x12 ∷ 1 ∷ 0 ∷ 32 ∷ zeros 32) (zeros 64) (zeros 258)
+
+abbrev openCall : Call
+openCall = answer (0x80 ∷ 0x10 ∷ 0 ∷ 0 ∷ 65 ∷ 0x04 ∷ zeros 64) (1 ∷ zeros 112) (zeros 258)
+
+abbrev pendingCard : Card
+pendingCard = withPairing initialisedCard (pendingWith (initialisedCard .pairing) (zeros 32))
+
+abbrev pairedCard : Card
+pairedCard = withPairing initialisedCard (withSlot (initialisedCard .pairing) 0 (filledWith (zeros 32)))
+
+abbrev stage1Card : Card
+stage1Card = withChannel pairedCard (record { stage = 1; «enc_key» = zeros 32; «mac_key» = zeros 32; iv = zeros 16 })
+
+pair-first-next : nextAt initialisedCard pairFirstCall ≡ pendingCard
+unfolding nextAt answerOut isSound allOf someOf decide afterStep1 step2 dataOf step3 nameOf step4 isPlain step5 commandOf atStake step6 checksOf pairFirstChecks supplyOf suits replyOf pairFirstReply
+pair-first-next = refl

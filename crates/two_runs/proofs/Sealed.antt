@@ -97,8 +97,20 @@ unblock-named : Names 0x22 ins.Unblock command.Unblock
 unfolding nameOf isPlain inStage commandOf
 unblock-named = record { byte = omega arith; name = refl; plain = refl; staged = refl; listed = refl }
 
-pub header-is : (b : ℕ) → b < 256 → Header (headerWith b)
-header-is b l = record { long = refl; bytes = (omega arith, (l, (omega arith, (omega arith, tt)))) }
+pub header-is : (b p1 : ℕ) → b < 256 → p1 < 256 → Header (0x80 ∷ b ∷ p1 ∷ 0 ∷ [])
+header-is b p1 l m = record { long = refl; bytes = (omega arith, (l, (m, (omega arith, tt)))) }
+
+-- the data of a sealed command are its field
+pub sealed-data : (s : Session) → Keyed s → (b p1 : ℕ) → b < 256 → p1 < 256 → (d : List ℕ) → Bytes d → length d ≤ 223
+    → dataOf (sealedCommand s (0x80 ∷ b ∷ p1 ∷ 0 ∷ []) d) ≡ some (sealField s (commandHead (0x80 ∷ b ∷ p1 ∷ 0 ∷ [])) d)
+sealed-data s k b p1 l m d bytes fits =
+    ap (λ (n : ℕ). dataOf (0x80 ∷ b ∷ p1 ∷ 0 ∷ n ∷ field)) counts ∙ data-filled 0x80 b p1 0 field (omega (arith, counts))
+  where
+    field : List ℕ
+    field = sealField s (commandHead (0x80 ∷ b ∷ p1 ∷ 0 ∷ [])) d
+
+    counts : lc (length (ciphertext s d)) ≡ length field
+    counts = lc-counts s k (0x80 ∷ b ∷ p1 ∷ 0 ∷ []) d (header-is b p1 l m) bytes fits
 
 module _ (c : Card) (in2 : InStage2 c) (d : List ℕ) (bytes : Bytes d) (fits : length d ≤ 223) where
   abbrev s : Session
@@ -109,10 +121,7 @@ module _ (c : Card) (in2 : InStage2 c) (d : List ℕ) (bytes : Bytes d) (fits : 
     field = sealField s (commandHead (headerWith b)) d
 
     sealed-form : dataOf (sealedFor c b d) ≡ some field
-    sealed-form = ap (λ (n : ℕ). dataOf (0x80 ∷ b ∷ 0 ∷ 0 ∷ n ∷ field)) counts ∙ data-filled 0x80 b 0 0 field (omega (arith, counts))
-      where
-        counts : lc (length (ciphertext s d)) ≡ length field
-        counts = lc-counts s (in2 .keyed) (headerWith b) d (header-is b (names .byte)) bytes fits
+    sealed-form = sealed-data s (in2 .keyed) b 0 (names .byte) (omega arith) d bytes fits
 
     sealed-past : pastStep5 c (sealedFor c b d) ≡ some (record { command = k; data′ = d })
     sealed-past =
@@ -121,7 +130,7 @@ module _ (c : Card) (in2 : InStage2 c) (d : List ℕ) (bytes : Bytes d) (fits : 
         (ap (λ (n : ℕ). nameOf (not (isZero n)) 0x80 b) (in2 .initialised) ∙ names .name)
         (names .plain)
         (ap (λ (n : ℕ). inStage i n) (in2 .stage) ∙ names .staged)
-        (command-opens s (in2 .keyed) (headerWith b) d (header-is b (names .byte)) bytes fits)
+        (command-opens s (in2 .keyed) (headerWith b) d (header-is b 0 (names .byte) (omega arith)) bytes fits)
         (names .listed)
 
     sealed-compares : comparison c (sealedFor c b d) ≡ compares (c .pins) k d

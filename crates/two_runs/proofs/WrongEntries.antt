@@ -107,8 +107,8 @@ module _ (c : Card) (in2 : InStage2 c) (e : List ℕ) (bytes : Bytes e) (fits : 
 
   opened-keyed : Keyed (sessionOf (opened .channel))
   opened-keyed =
-      subst (λ (x : Session). Keyed x) (sym (command-sessions s (in2 .keyed) (headerWith 0x20) e (header-is 0x20 (omega arith)) bytes fits))
-      (command-keyed s (in2 .keyed) (headerWith 0x20) e (header-is 0x20 (omega arith)) bytes fits)
+      subst (λ (x : Session). Keyed x) (sym (command-sessions s (in2 .keyed) (headerWith 0x20) e (header-is 0x20 0 (omega arith) (omega arith)) bytes fits))
+      (command-keyed s (in2 .keyed) (headerWith 0x20) e (header-is 0x20 0 (omega arith) (omega arith)) bytes fits)
 
   sealed-is : overChannel (verifyBy false opened) ≡ sealed (verifyBy false opened)
   unfolding overChannel verifyBy
