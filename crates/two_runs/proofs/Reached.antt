@@ -18,19 +18,25 @@ use Rattle.cbc.specs.Mode.{cbcDecrypt}
 use Rattle.padding.specs.Padding.{paddedBytes, unpad}
 use Rattle.padding.proofs.Laws.{unpad-pad}
 use Rattle.message.specs.declared.Session.{Session}
-use Rattle.message.specs.Message.{Keyed, ciphertext}
+use Rattle.message.specs.Message.{Keyed, commandHead, ciphertext, openField}
 use Rattle.message.proofs.Fields.{length-ciphertext, decrypted}
+use Rattle.card.specs.declared.Keys.{Keys}
 use Rattle.card.specs.declared.Card.{Card}
 use Rattle.card.specs.State.{zeros, freshOf, noKeys, withPairing, withChannel}
 use Rattle.card.specs.Slots.{allOf, someOf}
 use Rattle.card.specs.Sound.{isSound}
+use Rattle.slots.specs.Free.{firstFree}
 use Rattle.rules.specs.declared.Supply.{Supply}
+use Rattle.rules.specs.declared.Instruction.{Instruction}
+use Rattle.rules.specs.declared.Instruction.the-variants as ins
+use Rattle.rules.specs.declared.Named.the-variants as named
+use Rattle.rules.specs.declared.Command.{Command}
 use Rattle.rules.specs.declared.Command.the-variants as command
 use Rattle.rules.specs.Words.{verdict, success, Reply}
 use Rattle.rules.specs.Supplies.{initSupply, suits}
-use Rattle.rules.specs.Steps.{afterStep1, dataOf, nameOf, isPlain, atStake, commandOf}
-use Rattle.rules.specs.Commands.{pendingWith, pairFirstChecks, pairFirstReply, withSlot, filledWith, initChecks, initContent, initWith, initReply, initialisedWith, checksOf, supplyOf, replyOf}
-use Rattle.rules.specs.Engine.{Told, plainly, Decision, decide, step2, byForm, step3, step4, step5, step6, answerRoom, noRoom, unsound, answerRefused, Answered, answered, withSupply, answerOut}
+use Rattle.rules.specs.Steps.{afterStep1, dataOf, headerOf, claOf, insOf, p1Of, p2Of, isInitialised, nameOf, isPlain, inStage, atStake, commandOf}
+use Rattle.rules.specs.Commands.{openChecks, openReply, pairFinalChecks, pairInto, pairFinalReply, pendingWith, pairFirstChecks, pairFirstReply, withSlot, filledWith, initChecks, initContent, initWith, initReply, initialisedWith, checksOf, supplyOf, replyOf}
+use Rattle.rules.specs.Engine.{sessionOf, withMac, Told, plainly, overChannel, Decision, decide, step2, byForm, step3, step4, step5, step6, answerRoom, noRoom, unsound, answerRefused, Answered, answered, withSupply, answerOut}
 use Rattle.two_runs.specs.Runs.{Call, answer, nextAt, endOf}
 use Rattle.two_runs.proofs.Secrets.{step6-replies}
 use Rattle.two_runs.proofs.Sealed.{data-filled}
@@ -169,3 +175,42 @@ stage1Card = withChannel pairedCard (record { stage = 1; «enc_key» = zeros 32;
 pair-first-next : nextAt initialisedCard pairFirstCall ≡ pendingCard
 unfolding nextAt answerOut isSound allOf someOf decide afterStep1 step2 dataOf step3 nameOf step4 isPlain step5 commandOf atStake step6 checksOf pairFirstChecks supplyOf suits replyOf pairFirstReply
 pair-first-next = refl
+
+pair-final-next : nextAt pendingCard pairFinalCall ≡ pairedCard
+unfolding nextAt answerOut isSound allOf someOf decide afterStep1 step2 dataOf step3 nameOf step4 isPlain step5 commandOf atStake step6 checksOf pairFinalChecks supplyOf suits replyOf pairFinalReply pairInto firstFree
+pair-final-next = refl
+
+open-next : nextAt pairedCard openCall ≡ stage1Card
+unfolding nextAt answerOut isSound allOf someOf decide afterStep1 step2 dataOf step3 nameOf step4 isPlain step5 commandOf atStake step6 checksOf openChecks supplyOf suits replyOf openReply
+open-next = refl
+
+pub stage1-reached : Reachable stage1Card
+stage1-reached =
+    step pairedCard (step pendingCard (step initialisedCard initialised-reached pairFirstCall pair-first-next) pairFinalCall pair-final-next)
+    openCall open-next
+
+-- ---- sealed commands
+-- the whole order of checks on a command that opens to d, in the stage that it goes in
+decide-sealed : (c x : Card) (cmd field d : List ℕ) (i : Instruction) (k : Command) → afterStep1 cmd c ≡ x → dataOf cmd ≡ some field
+    → nameOf (isInitialised x) (claOf cmd) (insOf cmd) ≡ named.Known i → isPlain i ≡ false → inStage i (x .channel .stage) ≡ true
+    → openField (sessionOf (x .channel)) (commandHead (headerOf cmd)) field ≡ some d → commandOf i (p1Of cmd) (p2Of cmd) ≡ some k
+    → verdict (checksOf k (withMac x (take 16 field)) d) ≡ success
+    → decide c cmd ≡ record { supply = supplyOf k; data′ = d; answer = λ s. overChannel (replyOf k (withMac x (take 16 field)) d s) }
+unfolding decide step2 step3 step4 step5
+decide-sealed c x cmd field d i k a f n p t o l v =
+    ap (λ (y : Card). step2 cmd y) a
+    ∙ rw (f, n, p, t, o, l) (step6-replies overChannel (atStake i (p1Of cmd) (withMac x (take 16 field))) (withMac x (take 16 field)) d k v)
+
+-- the paired card in stage n with this IV; its session has keys of zeros
+abbrev pub inChannel : ℕ → List ℕ → ℕ → Keys → Card
+inChannel n iv verified keys = record {
+  initialised = 1;
+  identity = pairedCard .identity;
+  pins = record { pin = replicate 6 0x30; puk = replicate 12 0x30; «pin_tries» = 3; «puk_tries» = 5; verified = verified };
+  pairing = pairedCard .pairing;
+  keys = keys;
+  channel = record { stage = n; «enc_key» = zeros 32; «mac_key» = zeros 32; iv = iv };
+}
+
+stage1-is : stage1Card ≡ inChannel 1 (zeros 16) 0 noKeys
+stage1-is = refl
