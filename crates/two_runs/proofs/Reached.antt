@@ -1,25 +1,27 @@
 -- Lists of calls that reach what a run can start from: INIT on FRESH reaches an initialised sound card; PAIR, OPEN and MUTUAL then reach the
 -- stages 1 and 2; VERIFY and LOAD reach the key kinds 1 and 2. Nothing of AES is computed.
 -- Assumes nothing.
-use mathlib.Core.Path.{_≡_, refl, sym, ap, _∙_}
+use mathlib.Core.Path.{_≡_, refl, sym, ap, _∙_, subst}
 use mathlib.Core.Bool.{Bool, true, false, _&&_, cond}
 use mathlib.Core.List.{List, [], _∷_, _++_}
 use mathlib.Core.Option.{Option, some}
-use Prim.Native.Nat.{ℕ, _+_, _≤_}
+use Prim.Native.Nat.{ℕ, _+_, _≤_, _<_}
 use native.Mathlib.Omega.{arith}
 use borrow.Author.Tests.{le-ltb}
 use lib.Dec.{ltb, eqb}
 use lib.ListN.{length, take, replicate, length-append}
 use lib.Seq.{take-all}
-use Rattle.octets.specs.Bytes.{Bytes}
+use Rattle.octets.specs.Bytes.{Bytes, Block}
 use Rattle.octets.proofs.Lists.{bytes-append, bytes-replicate}
 use Rattle.aes.specs.Aes.{invAes256}
 use Rattle.cbc.specs.Mode.{cbcDecrypt}
 use Rattle.padding.specs.Padding.{paddedBytes, unpad}
 use Rattle.padding.proofs.Laws.{unpad-pad}
 use Rattle.message.specs.declared.Session.{Session}
-use Rattle.message.specs.Message.{Keyed, commandHead, ciphertext, openField}
+use Rattle.message.specs.Message.{Keyed, lc, commandHead, responseHead, ciphertext, fieldMac, sealField, openField}
+use Rattle.message.specs.Terminal.{sealedCommand}
 use Rattle.message.proofs.Fields.{length-ciphertext, decrypted}
+use Rattle.message.proofs.Trips.{command-opens, command-sessions, command-keyed, response-keyed}
 use Rattle.card.specs.declared.Keys.{Keys}
 use Rattle.card.specs.declared.Card.{Card}
 use Rattle.card.specs.State.{zeros, freshOf, noKeys, withPairing, withChannel}
@@ -32,14 +34,14 @@ use Rattle.rules.specs.declared.Instruction.the-variants as ins
 use Rattle.rules.specs.declared.Named.the-variants as named
 use Rattle.rules.specs.declared.Command.{Command}
 use Rattle.rules.specs.declared.Command.the-variants as command
-use Rattle.rules.specs.Words.{verdict, success, Reply}
+use Rattle.rules.specs.Words.{verdict, success, word, Reply, succeeds}
 use Rattle.rules.specs.Supplies.{initSupply, suits}
 use Rattle.rules.specs.Steps.{afterStep1, dataOf, headerOf, claOf, insOf, p1Of, p2Of, isInitialised, nameOf, isPlain, inStage, atStake, commandOf}
 use Rattle.rules.specs.Commands.{openChecks, openReply, pairFinalChecks, pairInto, pairFinalReply, pendingWith, pairFirstChecks, pairFirstReply, withSlot, filledWith, initChecks, initContent, initWith, initReply, initialisedWith, checksOf, supplyOf, replyOf}
 use Rattle.rules.specs.Engine.{sessionOf, withMac, Told, plainly, overChannel, Decision, decide, step2, byForm, step3, step4, step5, step6, answerRoom, noRoom, unsound, answerRefused, Answered, answered, withSupply, answerOut}
 use Rattle.two_runs.specs.Runs.{Call, answer, nextAt, endOf}
 use Rattle.two_runs.proofs.Secrets.{step6-replies}
-use Rattle.two_runs.proofs.Sealed.{data-filled}
+use Rattle.two_runs.proofs.Sealed.{data-filled, header-is, sealed-data}
 
 -- ---- ANSWER where the order of checks comes to this decision, and the supply suits
 pub answers : (c : Card) (cmd s : List ℕ) (room : ℕ) (u : Supply) (d : List ℕ) (f : List ℕ → Told) → isSound c ≡ true → answerRoom ≤ room
@@ -214,3 +216,87 @@ inChannel n iv verified keys = record {
 
 stage1-is : stage1Card ≡ inChannel 1 (zeros 16) 0 noKeys
 stage1-is = refl
+
+-- a card with this IV that a list of calls reaches
+pub record Reaching (n verified : ℕ) (keys : Keys) : Type 0 where
+  pub iv : List ℕ
+  pub block : Block iv
+  pub reached : Reachable (inChannel n iv verified keys)
+
+abbrev sessionWith : List ℕ → Session
+sessionWith iv = record { «enc_key» = zeros 32; «mac_key» = zeros 32; iv = iv }
+
+session-keyed : (iv : List ℕ) → Block iv → Keyed (sessionWith iv)
+session-keyed iv h = record { enc = under-keyed .enc; mac = under-keyed .mac; iv = h }
+
+-- one sealed command, from a card in stage n to one in stage 2: 80 b p1 00 with the data d and the supply u
+module _ (n verified : ℕ) (keys : Keys) (b p1 : ℕ) (b-byte : b < 256) (p1-byte : p1 < 256) (d u : List ℕ) (bytes : Bytes d) (fits : length d ≤ 223)
+    (i : Instruction) (k : Command) (name : nameOf true 0x80 b ≡ named.Known i) (plain : isPlain i ≡ false) (staged : inStage i n ≡ true)
+    (listed : commandOf i p1 0 ≡ some k) (suited : suits (supplyOf k) u ≡ true)
+    (sound : (iv : List ℕ) → isSound (inChannel n iv verified keys) ≡ true)
+    (step1 : (iv more : List ℕ) → afterStep1 (0x80 ∷ b ∷ more) (inChannel n iv verified keys) ≡ inChannel n iv verified keys)
+    (checks : (iv : List ℕ) → verdict (checksOf k (inChannel n iv verified keys) d) ≡ success)
+    (verified′ : ℕ) (keys′ : Keys) (response : List ℕ) (answer-bytes : Bytes response) (answer-fits : length response ≤ 221)
+    (replies : (iv : List ℕ) → replyOf k (inChannel n iv verified keys) d u ≡ succeeds (inChannel 2 iv verified′ keys′) response) where
+  module _ (iv : List ℕ) (block : Block iv) where
+    abbrev header : List ℕ
+    header = 0x80 ∷ b ∷ p1 ∷ 0 ∷ []
+
+    abbrev s : Session
+    s = sessionWith iv
+
+    abbrev c : Card
+    c = inChannel n iv verified keys
+
+    abbrev cmd : List ℕ
+    cmd = sealedCommand s header d
+
+    abbrev field : List ℕ
+    field = sealField s (commandHead header) d
+
+    keyed : Keyed s
+    keyed = session-keyed iv block
+
+    decides : decide c cmd
+        ≡ record { supply = supplyOf k; data′ = d; answer = λ y. overChannel (replyOf k (inChannel n (take 16 field) verified keys) d y) }
+    decides =
+        decide-sealed c c cmd field d i k (step1 iv (p1 ∷ 0 ∷ lc (length (ciphertext s d)) ∷ field))
+        (sealed-data s keyed b p1 b-byte p1-byte d bytes fits) name plain staged
+        (command-opens s keyed header d (header-is b p1 b-byte p1-byte) bytes fits) listed (checks (take 16 field))
+
+    opened-keyed : Keyed (sessionWith (take 16 field))
+    opened-keyed =
+        subst (λ (x : Session). Keyed x) (sym (command-sessions s keyed header d (header-is b p1 b-byte p1-byte) bytes fits))
+        (command-keyed s keyed header d (header-is b p1 b-byte p1-byte) bytes fits)
+
+    abbrev plaintext : List ℕ
+    plaintext = response ++ word success
+
+    abbrev mac : List ℕ
+    mac = fieldMac (sessionWith (take 16 field)) responseHead plaintext
+
+    mac-block : Block mac
+    mac-block =
+        response-keyed (sessionWith (take 16 field)) opened-keyed plaintext
+        (bytes-append response (word success) answer-bytes (omega arith, (omega arith, tt)))
+        (omega (arith, length-append response (word success), answer-fits)) .iv
+
+    told : overChannel (succeeds (inChannel 2 (take 16 field) verified′ keys′) response) .card ≡ inChannel 2 mac verified′ keys′
+    unfolding overChannel
+    told = refl
+
+    next : nextAt c (answer cmd u (zeros 258)) ≡ inChannel 2 mac verified′ keys′
+    unfolding nextAt
+    next =
+        ap (λ (a : Answered). a .card)
+        (answers c cmd u 258 (supplyOf k) d (λ y. overChannel (replyOf k (inChannel n (take 16 field) verified keys) d y)) (sound iv) (omega arith)
+        decides suited)
+        ∙ ap (λ (r : Reply). overChannel r .card) (replies (take 16 field))
+        ∙ told
+
+  sealed-step : Reaching n verified keys → Reaching 2 verified′ keys′
+  sealed-step r = record {
+    iv = mac (r .iv) (r .block);
+    block = mac-block (r .iv) (r .block);
+    reached = step (c (r .iv) (r .block)) (r .reached) (answer (cmd (r .iv) (r .block)) u (zeros 258)) (next (r .iv) (r .block));
+  }
