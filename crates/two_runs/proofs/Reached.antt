@@ -29,6 +29,7 @@ use Rattle.card.specs.Slots.{allOf, someOf}
 use Rattle.card.specs.Sound.{isSound}
 use Rattle.slots.specs.Free.{firstFree}
 use Rattle.rules.specs.declared.Supply.{Supply}
+use Rattle.rules.specs.declared.KeyForm.the-variants as key
 use Rattle.rules.specs.declared.Instruction.{Instruction}
 use Rattle.rules.specs.declared.Instruction.the-variants as ins
 use Rattle.rules.specs.declared.Named.the-variants as named
@@ -37,7 +38,7 @@ use Rattle.rules.specs.declared.Command.the-variants as command
 use Rattle.rules.specs.Words.{verdict, success, word, Reply, succeeds}
 use Rattle.rules.specs.Supplies.{initSupply, suits}
 use Rattle.rules.specs.Steps.{afterStep1, dataOf, headerOf, claOf, insOf, p1Of, p2Of, isInitialised, nameOf, isPlain, inStage, atStake, commandOf}
-use Rattle.rules.specs.Commands.{openChecks, openReply, pairFinalChecks, pairInto, pairFinalReply, pendingWith, pairFirstChecks, pairFirstReply, withSlot, filledWith, initChecks, initContent, initWith, initReply, initialisedWith, checksOf, supplyOf, replyOf}
+use Rattle.rules.specs.Commands.{mutualChecks, mutualReply, verifyChecks, verifyBy, verifyReply, loadChecks, loadReply, keyWith, openChecks, openReply, pairFinalChecks, pairInto, pairFinalReply, pendingWith, pairFirstChecks, pairFirstReply, withSlot, filledWith, initChecks, initContent, initWith, initReply, initialisedWith, checksOf, supplyOf, replyOf}
 use Rattle.rules.specs.Engine.{sessionOf, withMac, Told, plainly, overChannel, Decision, decide, step2, byForm, step3, step4, step5, step6, answerRoom, noRoom, unsound, answerRefused, Answered, answered, withSupply, answerOut}
 use Rattle.two_runs.specs.Runs.{Call, answer, nextAt, endOf}
 use Rattle.two_runs.proofs.Secrets.{step6-replies}
@@ -300,3 +301,48 @@ module _ (n verified : ℕ) (keys : Keys) (b p1 : ℕ) (b-byte : b < 256) (p1-by
     block = mac-block (r .iv) (r .block);
     reached = step (c (r .iv) (r .block)) (r .reached) (answer (cmd (r .iv) (r .block)) u (zeros 258)) (next (r .iv) (r .block));
   }
+
+-- ---- MUTUAL: stage 2
+pub stage2-reached : Reaching 2 0 noKeys
+unfolding nameOf isPlain inStage commandOf supplyOf suits isSound allOf someOf afterStep1 checksOf mutualChecks replyOf mutualReply
+stage2-reached =
+    sealed-step 1 0 noKeys 0x11 0 (omega arith) (omega arith) (zeros 32) (zeros 32) (bytes-replicate 32 0 (omega arith)) (omega arith) ins.Mutual
+    command.Mutual refl refl refl refl refl (λ iv. refl) (λ iv more. refl) (λ iv. refl) 0 noKeys (zeros 32) (bytes-replicate 32 0 (omega arith))
+    (omega arith) (λ iv. refl)
+    (record { iv = zeros 16; block = under-keyed .iv; reached = stage1-reached })
+
+-- VERIFY with the right PIN
+pub verified-reached : Reaching 2 1 noKeys
+unfolding nameOf isPlain inStage commandOf supplyOf suits isSound allOf someOf afterStep1 checksOf verifyChecks replyOf verifyReply verifyBy
+verified-reached =
+    sealed-step 2 0 noKeys 0x20 0 (omega arith) (omega arith) (replicate 6 0x30) [] (bytes-replicate 6 0x30 (omega arith)) (omega arith) ins.Verify
+    command.Verify refl refl refl refl refl (λ iv. refl) (λ iv more. refl) (λ iv. refl) 1 noKeys [] tt (omega arith) (λ iv. refl) stage2-reached
+
+-- ---- LOAD: a keypair template with a private key of zeros, kind 1; a seed of zeros, kind 2
+abbrev keypairData : List ℕ
+keypairData = 0xA1 ∷ 0x22 ∷ 0x81 ∷ 0x20 ∷ zeros 32
+
+keypair-bytes : Bytes keypairData
+keypair-bytes = (omega arith, (omega arith, (omega arith, (omega arith, bytes-replicate 32 0 (omega arith)))))
+
+pub kind1-reached : Reaching 2 1 (keyWith 1 (zeros 32))
+unfolding nameOf isPlain inStage commandOf supplyOf suits isSound allOf someOf afterStep1 checksOf loadChecks replyOf loadReply
+kind1-reached =
+    sealed-step 2 1 noKeys 0xD0 1 (omega arith) (omega arith) keypairData (1 ∷ zeros 32) keypair-bytes (omega arith) ins.Load
+    (command.Load key.Keypair) refl refl refl refl refl (λ iv. refl) (λ iv more. refl) (λ iv. refl) 1 (keyWith 1 (zeros 32)) (zeros 32)
+    (bytes-replicate 32 0 (omega arith)) (omega arith) (λ iv. refl) verified-reached
+
+pub kind2-reached : Reaching 2 1 (keyWith 2 (zeros 32))
+unfolding nameOf isPlain inStage commandOf supplyOf suits isSound allOf someOf afterStep1 checksOf loadChecks replyOf loadReply
+kind2-reached =
+    sealed-step 2 1 noKeys 0xD0 3 (omega arith) (omega arith) (zeros 64) (1 ∷ zeros 32) (bytes-replicate 64 0 (omega arith)) (omega arith) ins.Load
+    (command.Load key.Seed) refl refl refl refl refl (λ iv. refl) (λ iv more. refl) (λ iv. refl) 1 (keyWith 2 (zeros 32)) (zeros 32)
+    (bytes-replicate 32 0 (omega arith)) (omega arith) (λ iv. refl) verified-reached
+
+-- each of these cards is sound, whatever its IV
+pub reached-sound : (iv : List ℕ)
+    → (isSound (inChannel 2 iv 0 noKeys) ≡ true)
+    × (isSound (inChannel 2 iv 1 (keyWith 1 (zeros 32))) ≡ true)
+    × (isSound (inChannel 2 iv 1 (keyWith 2 (zeros 32))) ≡ true)
+unfolding isSound allOf someOf
+reached-sound iv = (refl, refl, refl)
