@@ -7,6 +7,6 @@ pub mod TwoRuns
 pub mod Compared
 pub mod Sealed
 pub mod Meets
-pub mod Examples
 pub mod WrongEntries
 pub mod Reached
+pub mod Examples

@@ -224,10 +224,10 @@ pub record Reaching (n verified : ℕ) (keys : Keys) : Type 0 where
   pub block : Block iv
   pub reached : Reachable (inChannel n iv verified keys)
 
-abbrev sessionWith : List ℕ → Session
+abbrev pub sessionWith : List ℕ → Session
 sessionWith iv = record { «enc_key» = zeros 32; «mac_key» = zeros 32; iv = iv }
 
-session-keyed : (iv : List ℕ) → Block iv → Keyed (sessionWith iv)
+pub session-keyed : (iv : List ℕ) → Block iv → Keyed (sessionWith iv)
 session-keyed iv h = record { enc = under-keyed .enc; mac = under-keyed .mac; iv = h }
 
 -- one sealed command, from a card in stage n to one in stage 2: 80 b p1 00 with the data d and the supply u
