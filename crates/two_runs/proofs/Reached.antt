@@ -2,13 +2,12 @@
 -- stages 1 and 2; VERIFY and LOAD reach the key kinds 1 and 2. Nothing of AES is computed.
 -- Assumes nothing.
 use mathlib.Core.Path.{_≡_, refl, sym, ap, _∙_, subst}
-use mathlib.Core.Bool.{Bool, true, false, _&&_, cond}
+use mathlib.Core.Bool.{true, false}
 use mathlib.Core.List.{List, [], _∷_, _++_}
 use mathlib.Core.Option.{Option, some}
-use Prim.Native.Nat.{ℕ, _+_, _≤_, _<_}
+use Prim.Native.Nat.{ℕ, _≤_, _<_}
 use native.Mathlib.Omega.{arith}
 use borrow.Author.Tests.{le-ltb}
-use lib.Dec.{ltb, eqb}
 use lib.ListN.{length, take, replicate, length-append}
 use lib.Seq.{take-all}
 use Rattle.octets.specs.Bytes.{Bytes, Block}
@@ -39,7 +38,7 @@ use Rattle.rules.specs.Words.{verdict, success, word, Reply, succeeds}
 use Rattle.rules.specs.Supplies.{initSupply, suits}
 use Rattle.rules.specs.Steps.{afterStep1, dataOf, headerOf, claOf, insOf, p1Of, p2Of, isInitialised, nameOf, isPlain, inStage, atStake, commandOf}
 use Rattle.rules.specs.Commands.{mutualChecks, mutualReply, verifyChecks, verifyBy, verifyReply, loadChecks, loadReply, keyWith, openChecks, openReply, pairFinalChecks, pairInto, pairFinalReply, pendingWith, pairFirstChecks, pairFirstReply, withSlot, filledWith, initChecks, initContent, initWith, initReply, initialisedWith, checksOf, supplyOf, replyOf}
-use Rattle.rules.specs.Engine.{sessionOf, withMac, Told, plainly, overChannel, Decision, decide, step2, byForm, step3, step4, step5, step6, answerRoom, noRoom, unsound, answerRefused, Answered, answered, withSupply, answerOut}
+use Rattle.rules.specs.Engine.{sessionOf, withMac, Told, plainly, overChannel, decide, step2, byForm, step3, step4, step5, step6, answerRoom, Answered, answered, answerOut}
 use Rattle.two_runs.specs.Runs.{Call, answer, nextAt, endOf}
 use Rattle.two_runs.proofs.Secrets.{step6-replies}
 use Rattle.two_runs.proofs.Sealed.{data-filled, header-is, sealed-data}

@@ -27,8 +27,8 @@ use Rattle.rules.specs.declared.Command.{Command}
 use Rattle.rules.specs.declared.Command.the-variants as command
 use Rattle.rules.specs.Steps.{closed, forgotten, begins, kept, afterStep1, dataOf, headerOf, claOf, insOf, p1Of, p2Of, isInitialised, nameOf, isPlain, inStage, commandOf}
 use Rattle.rules.specs.Engine.{sessionOf, answerRoom}
-use Rattle.two_runs.specs.Comparison.{on, Past, pin, puk, Comparison, pastSteps, pastStep5, compares, comparison}
-use Rattle.two_runs.specs.Runs.{Call, answer, comparisonAt}
+use Rattle.two_runs.specs.Comparison.{on, Past, pin, puk, pastSteps, pastStep5, compares, comparison}
+use Rattle.two_runs.specs.Runs.{answer, comparisonAt}
 use Rattle.two_runs.proofs.Secrets.{made, form, verify-some, unblock-some}
 use Rattle.two_runs.proofs.Compared.{one-at}
 

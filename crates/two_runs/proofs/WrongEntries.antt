@@ -5,15 +5,15 @@ use mathlib.Core.Path.{_≡_, refl, sym, ap, _∙_, subst}
 use mathlib.Core.Bool.{Bool, true, false, cond}
 use mathlib.Core.List.{List, [], _∷_}
 use mathlib.Core.Logic.{⊎-elim}
-use mathlib.Core.Option.{Option, some}
-use Prim.Native.Nat.{ℕ, _+_, _-_, _/_, _%_, _≤_, _<_}
+use mathlib.Core.Option.{some}
+use Prim.Native.Nat.{ℕ, _-_, _≤_}
 use native.Mathlib.Omega.{arith}
 use borrow.Author.Tests.{ne-eqb, leb-true}
 use lib.Dec.{eqb}
 use lib.ListN.{length, take}
 use Rattle.octets.specs.Bytes.{Bytes, sameBytes}
 use Rattle.message.specs.declared.Session.{Session}
-use Rattle.message.specs.Message.{Keyed, withIv, commandHead, responseHead, fieldMac, sealField}
+use Rattle.message.specs.Message.{Keyed, commandHead, sealField}
 use Rattle.message.specs.Terminal.{sealedCommand}
 use Rattle.message.proofs.Trips.{command-sessions, command-keyed, response-keyed}
 use Rattle.card.specs.declared.Channel.{Channel}
@@ -23,11 +23,11 @@ use Rattle.card.specs.Slots.{isZero}
 use Rattle.card.specs.Sound.{isSound}
 use Rattle.card.specs.Shape.{Shaped}
 use Rattle.card.proofs.Rules.{pins-rules, parts-rules, sound-cases}
-use Rattle.rules.specs.Words.{triesLeft, word, Reply}
-use Rattle.rules.specs.Steps.{forgotten, afterStep1, dataOf}
+use Rattle.rules.specs.Words.{triesLeft, word}
+use Rattle.rules.specs.Steps.{forgotten, afterStep1}
 use Rattle.rules.specs.Commands.{verifyBy}
-use Rattle.rules.specs.Engine.{sessionOf, withMac, Told, plainText, plainly, sealed, overChannel, Answered, answered, answerOut}
-use Rattle.two_runs.specs.Comparison.{pin, Comparison}
+use Rattle.rules.specs.Engine.{sessionOf, withMac, plainly, sealed, overChannel, Answered, answered, answerOut}
+use Rattle.two_runs.specs.Comparison.{pin}
 use Rattle.two_runs.specs.Runs.{Call, answer, comparisonAt, nextAt, Agree, OutAlike, Alike, Premise}
 use Rattle.two_runs.proofs.Calls.{StepSame, call-same}
 use Rattle.two_runs.proofs.Secrets.{made}
