@@ -1,6 +1,6 @@
 -- Cards by name that meet the premise of the two runs. One of the two is reached from FRESH by INIT, PAIR, OPEN and MUTUAL and has the PIN
 -- 000000; the other has the PIN 111111, with the wrong entry 222222 once and three times; or another PUK, with the right entry.
--- Assumes nothing; the list of three assumes what its module's parameters say: ANSWER keeps soundness and shape.
+-- Assumes nothing; the list of three assumes what its module's parameter says: ANSWER keeps soundness.
 use mathlib.Core.Path.{_≡_, refl}
 use mathlib.Core.Bool.{true, false}
 use mathlib.Core.List.{List, [], _∷_}
@@ -12,7 +12,6 @@ use Rattle.card.specs.declared.Card.{Card}
 use Rattle.card.specs.State.{zeros, noKeys, withSecrets}
 use Rattle.card.specs.Slots.{allOf, someOf}
 use Rattle.card.specs.Sound.{isSound}
-use Rattle.card.specs.Shape.{Shaped}
 use Rattle.rules.specs.Engine.{answerOut}
 use Rattle.two_runs.specs.Comparison.{pin}
 use Rattle.two_runs.specs.Runs.{Agree, Premise}
@@ -39,19 +38,6 @@ in-stage2 : InStage2 card000000
 unfolding isSound allOf someOf
 in-stage2 = record {
   sound = refl;
-  shaped = record {
-    uid = refl;
-    «public_key» = refl;
-    pin = refl;
-    puk = refl;
-    secret = refl;
-    slots = refl;
-    keys = (refl, (refl, (refl, (refl, (refl, tt)))));
-    expected = refl;
-    keyuid = refl;
-    current = refl;
-    pinless = refl;
-  };
   initialised = refl;
   stage = refl;
   keyed = session-keyed (stage2-reached .iv) (stage2-reached .block);
@@ -59,17 +45,17 @@ in-stage2 = record {
 
 in-stage2′ : InStage2 card111111
 unfolding allOf
-in-stage2′ = other-in2 card000000 in-stage2 (digits 6 0x31) (digits 12 0x30) refl refl refl refl
+in-stage2′ = other-in2 card000000 in-stage2 (digits 6 0x31) (digits 12 0x30) refl refl
 
 pub wrong-entry : Met card000000 card111111 (verifyCall card000000 (digits 6 0x32)) (by pin false)
 unfolding allOf
 wrong-entry =
-    wrong-meets card000000 in-stage2 (digits 6 0x31) (digits 12 0x30) refl refl refl refl (digits 6 0x32) [] (zeros 258)
+    wrong-meets card000000 in-stage2 (digits 6 0x31) (digits 12 0x30) refl refl (digits 6 0x32) [] (zeros 258)
     (bytes-replicate 6 0x32 (omega arith)) (omega arith) (omega arith) refl refl refl
 
 pub right-entry : Met card000000 cardOtherPuk (verifyCall card000000 (digits 6 0x30)) (by pin true)
 unfolding allOf
-right-entry = right-meets card000000 in-stage2 refl (digits 12 0x31) refl refl [] (zeros 258) (omega arith)
+right-entry = right-meets card000000 in-stage2 refl refl (digits 12 0x31) refl [] (zeros 258) (omega arith)
 
 -- ---- three wrong entries in a row
 abbrev pub threeTimes : List (List ℕ)
@@ -82,12 +68,11 @@ all-wrong : AllWrong (digits 6 0x30) (digits 6 0x31) threeTimes
 unfolding AllWrong
 all-wrong = (wrong, (wrong, (wrong, tt)))
 
-module _ (answer-sound : (c : Card) (cmd s : List ℕ) (room : ℕ) → isSound c ≡ true → Shaped c → isSound (answerOut c cmd s room .card) ≡ true)
-    (answer-shaped : (c : Card) (cmd s : List ℕ) (room : ℕ) → isSound c ≡ true → Shaped c → Shaped (answerOut c cmd s room .card)) where
+module _ (answer-sound : (c : Card) (cmd s : List ℕ) (room : ℕ) → isSound c ≡ true → isSound (answerOut c cmd s room .card) ≡ true) where
   pub three-wrong : Premise card000000 card111111 (verifyCalls card000000 threeTimes) × AllCompare card000000 (verifyCalls card000000 threeTimes)
   three-wrong = (
-    wrong-entries-meet answer-sound answer-shaped threeTimes card000000 card111111 in-stage2 in-stage2′ agree all-wrong (omega arith),
-    wrong-entries answer-sound answer-shaped threeTimes card000000 card111111 in-stage2 in-stage2′ agree all-wrong (omega arith) .1,
+    wrong-entries-meet answer-sound threeTimes card000000 card111111 in-stage2 in-stage2′ agree all-wrong (omega arith),
+    wrong-entries answer-sound threeTimes card000000 card111111 in-stage2 in-stage2′ agree all-wrong (omega arith) .1,
   )
     where
       agree : Agree card000000 card111111

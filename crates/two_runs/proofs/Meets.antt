@@ -18,7 +18,6 @@ use Rattle.card.specs.declared.Card.{Card}
 use Rattle.card.specs.State.{withSecrets}
 use Rattle.card.specs.Slots.{allOf, isZero}
 use Rattle.card.specs.Sound.{isSound, isDigit}
-use Rattle.card.specs.Shape.{Shaped}
 use Rattle.card.proofs.Tests.{both}
 use Rattle.card.proofs.Rules.{pins-rules, parts-rules, sound-cases}
 use Rattle.card.proofs.SoundFacts.{secrets-sound}
@@ -37,21 +36,6 @@ module _ (c : Card) (p q : List ℕ) where
   pub secrets-meet : allOf isDigit p ≡ true → allOf isDigit q ≡ true → isSound c ≡ true → c .initialised ≡ 1
       → (isSound (withSecrets p q c) ≡ true) × Agree c (withSecrets p q c)
   secrets-meet d g e i = (secrets-sound c p q d g e i, secrets-agree)
-
-  pub secrets-shaped : length p ≡ 6 → length q ≡ 12 → Shaped c → Shaped (withSecrets p q c)
-  secrets-shaped i j h = record {
-    uid = h .uid;
-    «public_key» = h .«public_key»;
-    pin = i;
-    puk = j;
-    secret = h .secret;
-    slots = h .slots;
-    keys = h .keys;
-    expected = h .expected;
-    keyuid = h .keyuid;
-    current = h .current;
-    pinless = h .pinless;
-  }
 
 -- ---- digits are bytes, and a sound card's PIN is digits
 digits-bytes : (x : List ℕ) → allOf isDigit x ≡ true → Bytes x
@@ -88,8 +72,6 @@ met c d k s right h h′ a b b′ e f i j =
       premise = record {
         sound = h .sound;
         sound′ = h′ .sound;
-        shaped = h .shaped;
-        shaped′ = h′ .shaped;
         agree = a;
         alike = (outcomes (by s right) (by s right) here there refl, tt);
       };
@@ -98,15 +80,13 @@ met c d k s right h h′ a b b′ e f i j =
     }
 
 -- ---- a card in stage 2, and the same with other digits for PIN and PUK
-module _ (c : Card) (in2 : InStage2 c) (p q : List ℕ) (pin-digits : allOf isDigit p ≡ true) (puk-digits : allOf isDigit q ≡ true)
-    (pin-long : length p ≡ 6) (puk-long : length q ≡ 12) where
+module _ (c : Card) (in2 : InStage2 c) (p q : List ℕ) (pin-digits : allOf isDigit p ≡ true) (puk-digits : allOf isDigit q ≡ true) where
   abbrev other : Card
   other = withSecrets p q c
 
   pub other-in2 : InStage2 other
   other-in2 = record {
     sound = secrets-sound c p q pin-digits puk-digits (in2 .sound) (in2 .initialised);
-    shaped = secrets-shaped c p q pin-long puk-long (in2 .shaped);
     initialised = in2 .initialised;
     stage = in2 .stage;
     keyed = in2 .keyed;
@@ -141,13 +121,13 @@ module _ (c : Card) (in2 : InStage2 c) (p q : List ℕ) (pin-digits : allOf isDi
         → Met c other (answer (sealedFor c 0x20 d) supply buf) (by pin false)
     wrong-meets z i j = verify-meets z false i j
 
--- the right PIN under different PUKs
-pub right-meets : (c : Card) → InStage2 c → isZero (c .pins .«pin_tries») ≡ false → (q : List ℕ) → allOf isDigit q ≡ true → length q ≡ 12
-    → (supply buf : List ℕ) → answerRoom ≤ length buf
+-- the right PIN, 6 bytes, under different PUKs
+pub right-meets : (c : Card) → InStage2 c → isZero (c .pins .«pin_tries») ≡ false → length (c .pins .pin) ≡ 6
+    → (q : List ℕ) → allOf isDigit q ≡ true → (supply buf : List ℕ) → answerRoom ≤ length buf
     → Met c (withSecrets (c .pins .pin) q c) (answer (sealedFor c 0x20 (c .pins .pin)) supply buf) (by pin true)
-right-meets c in2 z q g j supply buf room =
-    verify-meets c in2 (c .pins .pin) q digits g (in2 .shaped .pin) j (c .pins .pin) supply buf (digits-bytes (c .pins .pin) digits)
-    (omega (arith, in2 .shaped .pin)) room z true (same-refl (c .pins .pin)) (same-refl (c .pins .pin))
+right-meets c in2 z six q g supply buf room =
+    verify-meets c in2 (c .pins .pin) q digits g (c .pins .pin) supply buf (digits-bytes (c .pins .pin) digits) (omega (arith, six)) room z true
+    (same-refl (c .pins .pin)) (same-refl (c .pins .pin))
   where
     digits : allOf isDigit (c .pins .pin) ≡ true
     digits = pin-digits-of c (in2 .sound) (in2 .initialised)

@@ -19,7 +19,6 @@ use Rattle.message.proofs.Trips.{Header, lc-counts, command-opens}
 use Rattle.card.specs.declared.Card.{Card}
 use Rattle.card.specs.Slots.{isZero}
 use Rattle.card.specs.Sound.{isSound}
-use Rattle.card.specs.Shape.{Shaped}
 use Rattle.rules.specs.declared.Instruction.{Instruction}
 use Rattle.rules.specs.declared.Instruction.the-variants as ins
 use Rattle.rules.specs.declared.Named.the-variants as named
@@ -69,7 +68,6 @@ past-stage2 c cmd e = ap (λ (x : Card). pastSteps x cmd) (step1-stage2 c cmd e)
 -- ---- a card in stage 2
 pub record InStage2 (c : Card) : Type 0 where
   pub sound : isSound c ≡ true
-  pub shaped : Shaped c
   pub initialised : c .initialised ≡ 1
   pub stage : c .channel .stage ≡ 2
   pub keyed : Keyed (sessionOf (c .channel))

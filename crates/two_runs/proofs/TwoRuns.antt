@@ -1,6 +1,6 @@
 -- Demand 3 (01, The two runs of demand 3): two runs of one list of calls, from sound cards that agree in all but PIN and PUK, show the same at
 -- every call and end with cards that agree, if their comparisons come out alike wherever both make one.
--- Assumes what its module's parameters say: ANSWER keeps soundness and shape.
+-- Assumes what its module's parameter says: ANSWER keeps soundness.
 use mathlib.Core.Path.{_≡_, refl, sym, ap, ap₂, subst}
 use mathlib.Core.Bool.{Bool, true, cond}
 use mathlib.Core.List.{List, [], _∷_}
@@ -9,7 +9,6 @@ use lib.ListN.{length}
 use Rattle.card.specs.declared.Card.{Card}
 use Rattle.card.specs.State.{resetOf}
 use Rattle.card.specs.Sound.{isSound}
-use Rattle.card.specs.Shape.{Shaped}
 use Rattle.card.proofs.SoundFacts.{reset-sound}
 use Rattle.sound.specs.declared.Answer.{Answer}
 use Rattle.sound.specs.Reset.{resetAnswer, done, refused, unsound}
@@ -17,40 +16,18 @@ use Rattle.rules.specs.Engine.{answerOut}
 use Rattle.two_runs.specs.Runs.{Call, ask, answer, reset, Seen, nextAt, runOf, endOf, Alike, Premise, SameRuns}
 use Rattle.two_runs.proofs.Calls.{StepSame, call-same}
 
--- ---- RESET keeps the shape
-shaped-reset : (c : Card) → Shaped c → Shaped (resetOf c)
-shaped-reset c h = record {
-  uid = h .uid;
-  «public_key» = h .«public_key»;
-  pin = h .pin;
-  puk = h .puk;
-  secret = h .secret;
-  slots = h .slots;
-  keys = h .keys;
-  expected = refl;
-  keyuid = h .keyuid;
-  current = h .current;
-  pinless = h .pinless;
-}
-
+-- ---- RESET on a sound card
 reset-is : (c : Card) → isSound c ≡ true → resetAnswer c ≡ done (resetOf c)
 unfolding resetAnswer
 reset-is c e = ap (λ (b : Bool). cond b (done (resetOf c)) (refused unsound c)) e
 
-module _ (answer-sound : (c : Card) (cmd s : List ℕ) (room : ℕ) → isSound c ≡ true → Shaped c → isSound (answerOut c cmd s room .card) ≡ true)
-    (answer-shaped : (c : Card) (cmd s : List ℕ) (room : ℕ) → isSound c ≡ true → Shaped c → Shaped (answerOut c cmd s room .card)) where
-  -- ---- every card of a run is sound, and has its shape
-  pub next-sound : (c : Card) (k : Call) → isSound c ≡ true → Shaped c → isSound (nextAt c k) ≡ true
+module _ (answer-sound : (c : Card) (cmd s : List ℕ) (room : ℕ) → isSound c ≡ true → isSound (answerOut c cmd s room .card) ≡ true) where
+  -- ---- every card of a run is sound
+  pub next-sound : (c : Card) (k : Call) → isSound c ≡ true → isSound (nextAt c k) ≡ true
   unfolding nextAt
-  next-sound c (ask cmd buf) e h = e
-  next-sound c (answer cmd s buf) e h = answer-sound c cmd s (length buf) e h
-  next-sound c reset e h = subst (λ (a : Answer). isSound (a .card) ≡ true) (sym (reset-is c e)) (reset-sound c e)
-
-  pub next-shaped : (c : Card) (k : Call) → isSound c ≡ true → Shaped c → Shaped (nextAt c k)
-  unfolding nextAt
-  next-shaped c (ask cmd buf) e h = h
-  next-shaped c (answer cmd s buf) e h = answer-shaped c cmd s (length buf) e h
-  next-shaped c reset e h = subst (λ (a : Answer). Shaped (a .card)) (sym (reset-is c e)) (shaped-reset c h)
+  next-sound c (ask cmd buf) e = e
+  next-sound c (answer cmd s buf) e = answer-sound c cmd s (length buf) e
+  next-sound c reset e = subst (λ (a : Answer). isSound (a .card) ≡ true) (sym (reset-is c e)) (reset-sound c e)
 
   -- ---- the claim
   pub two-runs : (calls : List Call) (c d : Card) → Premise c d calls → SameRuns c d calls
@@ -59,10 +36,8 @@ module _ (answer-sound : (c : Card) (cmd s : List ℕ) (room : ℕ) → isSound 
   two-runs (k ∷ more) c d h =
       let t : StepSame c d k = call-same c d k (h .sound) (h .sound′) (h .agree) (h .alike .0) in
       let r : SameRuns (nextAt c k) (nextAt d k) more = two-runs more (nextAt c k) (nextAt d k) (record {
-        sound = next-sound c k (h .sound) (h .shaped);
-        sound′ = next-sound d k (h .sound′) (h .shaped′);
-        shaped = next-shaped c k (h .sound) (h .shaped);
-        shaped′ = next-shaped d k (h .sound′) (h .shaped′);
+        sound = next-sound c k (h .sound);
+        sound′ = next-sound d k (h .sound′);
         agree = t .next;
         alike = h .alike .1;
       }) in

@@ -1,6 +1,6 @@
 -- A list of wrong entries, as many as PIN tries are left, each sealed for the card as it then is, under two different PINs: both runs compare
 -- at every call, and the premise of the two runs is met.
--- Assumes what its module's parameters say: ANSWER keeps soundness and shape.
+-- Assumes what its module's parameter says: ANSWER keeps soundness.
 use mathlib.Core.Path.{_≡_, refl, sym, ap, _∙_, subst}
 use mathlib.Core.Bool.{Bool, true, false, cond}
 use mathlib.Core.List.{List, [], _∷_}
@@ -21,7 +21,6 @@ use Rattle.card.specs.declared.Card.{Card}
 use Rattle.card.specs.State.{zeros}
 use Rattle.card.specs.Slots.{isZero}
 use Rattle.card.specs.Sound.{isSound}
-use Rattle.card.specs.Shape.{Shaped}
 use Rattle.card.proofs.Rules.{pins-rules, parts-rules, sound-cases}
 use Rattle.rules.specs.Words.{triesLeft, word}
 use Rattle.rules.specs.Steps.{forgotten, afterStep1}
@@ -133,13 +132,11 @@ module _ (c : Card) (in2 : InStage2 c) (e : List ℕ) (bytes : Bytes e) (fits : 
       sealed-leaves
 
 -- ---- the whole list
-module _ (answer-sound : (c : Card) (cmd s : List ℕ) (room : ℕ) → isSound c ≡ true → Shaped c → isSound (answerOut c cmd s room .card) ≡ true)
-    (answer-shaped : (c : Card) (cmd s : List ℕ) (room : ℕ) → isSound c ≡ true → Shaped c → Shaped (answerOut c cmd s room .card)) where
+module _ (answer-sound : (c : Card) (cmd s : List ℕ) (room : ℕ) → isSound c ≡ true → isSound (answerOut c cmd s room .card) ≡ true) where
   next-in2 : (c : Card) (e : List ℕ) → InStage2 c → Leaves c (nextAt c (verifyCall c e)) → InStage2 (nextAt c (verifyCall c e))
   unfolding nextAt
   next-in2 c e h l = record {
-    sound = answer-sound c (sealedFor c 0x20 e) [] 258 (h .sound) (h .shaped);
-    shaped = answer-shaped c (sealedFor c 0x20 e) [] 258 (h .sound) (h .shaped);
+    sound = answer-sound c (sealedFor c 0x20 e) [] 258 (h .sound);
     initialised = l .initialised;
     stage = l .stage;
     keyed = l .keyed;
@@ -176,8 +173,6 @@ module _ (answer-sound : (c : Card) (cmd s : List ℕ) (room : ℕ) → isSound 
   wrong-entries-meet es c d h h′ a w l = record {
     sound = h .sound;
     sound′ = h′ .sound;
-    shaped = h .shaped;
-    shaped′ = h′ .shaped;
     agree = a;
     alike = wrong-entries es c d h h′ a w l .0;
   }

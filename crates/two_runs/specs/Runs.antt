@@ -8,7 +8,6 @@ use mathlib.Core.Option.{Option, none, some}
 use lib.Dec.{eqb}
 use lib.ListN.{length, drop}
 use Rattle.card.specs.declared.Card.{Card}
-use Rattle.card.specs.Shape.{Shaped}
 use Rattle.card.specs.Sound.{isSound}
 use Rattle.sound.specs.Reset.{resetAnswer}
 use Rattle.rules.specs.Engine.{noRefusal, askOut, answerOut}
@@ -100,12 +99,10 @@ unfoldable pub Alike : Card → Card → List Call → Type 0
 Alike c d [] = Unit {0}
 Alike c d (k ∷ more) = OutAlike (comparisonAt c k) (comparisonAt d k) × Alike (nextAt c k) (nextAt d k) more
 
--- ---- what the claim asks of two cards and a list. `Shaped` is what a card's type says of it
+-- ---- what the claim asks of two cards and a list: both cards are sound and agree, and the comparisons come out alike
 pub record Premise (c d : Card) (calls : List Call) : Type 0 where
   pub sound : isSound c ≡ true
   pub sound′ : isSound d ≡ true
-  pub shaped : Shaped c
-  pub shaped′ : Shaped d
   pub agree : Agree c d
   pub alike : Alike c d calls
 
