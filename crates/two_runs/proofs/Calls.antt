@@ -47,6 +47,11 @@ module _ (cmd s : List ℕ) where
   comparedIf : Card → Answered → Option Comparison
   comparedIf c a = cond (eqb (a .refusal) noRefusal) (comparison c cmd) none
 
+-- RESET powers a sound card up
+pub reset-is : (c : Card) → isSound c ≡ true → resetAnswer c ≡ done (resetOf c)
+unfolding resetAnswer
+reset-is c e = ap (λ (b : Bool). cond b (done (resetOf c)) (refused unsound c)) e
+
 module _ (p q : List ℕ) (c : Card) (sound : isSound c ≡ true) (sound′ : isSound (withSecrets p q c) ≡ true) where
   abbrev other : Card
   other = withSecrets p q c
@@ -115,15 +120,6 @@ module _ (p q : List ℕ) (c : Card) (sound : isSound c ≡ true) (sound′ : is
         ap (λ (n : ℕ). secretOf (cond (eqb n noRefusal) (comparison c cmd) none)) refusal-same
         ∙ cond-same secretOf (eqb (answerOut other cmd s (length buf) .refusal) noRefusal) (compared-same p q c cmd) refl
 
-  -- ---- RESET
-  reset-here : resetAnswer c ≡ done (resetOf c)
-  unfolding resetAnswer
-  reset-here = ap (λ (b : Bool). cond b (done (resetOf c)) (refused unsound c)) sound
-
-  reset-there : resetAnswer other ≡ done (resetOf other)
-  unfolding resetAnswer
-  reset-there = ap (λ (b : Bool). cond b (done (resetOf other)) (refused unsound other)) sound′
-
   -- ---- a call
   call-swap : (k : Call) → OutAlike (comparisonAt c k) (comparisonAt other k) → StepSame c other k
   unfolding seenAt nextAt comparisonAt
@@ -146,9 +142,9 @@ module _ (p q : List ℕ) (c : Card) (sound : isSound c ≡ true) (sound′ : is
       }
   call-swap reset h = record {
     seen = ap (λ (n : ℕ). record { refusal = n; kind = 0; count = 0; buffer = []; compared = none })
-        (ap (λ (a : Answer). a .refusal) reset-here ∙ sym (ap (λ (a : Answer). a .refusal) reset-there));
+        (ap (λ (a : Answer). a .refusal) (reset-is c sound) ∙ sym (ap (λ (a : Answer). a .refusal) (reset-is other sound′)));
     next = erase-agree (resetAnswer c .card) (resetAnswer other .card)
-        (ap (λ (a : Answer). erase (a .card)) reset-here ∙ sym (ap (λ (a : Answer). erase (a .card)) reset-there));
+        (ap (λ (a : Answer). erase (a .card)) (reset-is c sound) ∙ sym (ap (λ (a : Answer). erase (a .card)) (reset-is other sound′)));
   }
 
 pub call-same : (c d : Card) (k : Call) → isSound c ≡ true → isSound d ≡ true → Agree c d → OutAlike (comparisonAt c k) (comparisonAt d k)

@@ -1,25 +1,18 @@
 -- Demand 3 (01, The two runs of demand 3): two runs of one list of calls, from sound cards that agree in all but PIN and PUK, show the same at
 -- every call and end with cards that agree, if their comparisons come out alike wherever both make one.
 -- Assumes what its module's parameter says: ANSWER keeps soundness.
-use mathlib.Core.Path.{_≡_, refl, sym, ap, ap₂, subst}
-use mathlib.Core.Bool.{Bool, true, cond}
+use mathlib.Core.Path.{_≡_, refl, sym, ap₂, subst}
+use mathlib.Core.Bool.{true}
 use mathlib.Core.List.{List, [], _∷_}
 use Prim.Native.Nat.{ℕ}
 use lib.ListN.{length}
 use Rattle.card.specs.declared.Card.{Card}
-use Rattle.card.specs.State.{resetOf}
 use Rattle.card.specs.Sound.{isSound}
 use Rattle.card.proofs.SoundFacts.{reset-sound}
 use Rattle.sound.specs.declared.Answer.{Answer}
-use Rattle.sound.specs.Reset.{resetAnswer, done, refused, unsound}
 use Rattle.rules.specs.Engine.{answerOut}
 use Rattle.two_runs.specs.Runs.{Call, ask, answer, reset, Seen, nextAt, runOf, endOf, Alike, Premise, SameRuns}
-use Rattle.two_runs.proofs.Calls.{StepSame, call-same}
-
--- ---- RESET on a sound card
-reset-is : (c : Card) → isSound c ≡ true → resetAnswer c ≡ done (resetOf c)
-unfolding resetAnswer
-reset-is c e = ap (λ (b : Bool). cond b (done (resetOf c)) (refused unsound c)) e
+use Rattle.two_runs.proofs.Calls.{reset-is, StepSame, call-same}
 
 module _ (answer-sound : (c : Card) (cmd s : List ℕ) (room : ℕ) → isSound c ≡ true → isSound (answerOut c cmd s room .card) ≡ true) where
   -- ---- every card of a run is sound
