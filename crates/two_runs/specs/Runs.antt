@@ -1,0 +1,112 @@
+-- The two runs of demand 3 (01, The two runs of demand 3): lists of calls, what a run shows at each call and the card that it ends with; when
+-- two cards agree in all but PIN and PUK; and when the comparisons of two runs come out alike. Every length and count is in bytes.
+use Prim.Native.Nat.{ℕ}
+use mathlib.Core.Path.{_≡_}
+use mathlib.Core.Bool.{true, cond}
+use mathlib.Core.List.{List, [], _∷_, _++_}
+use mathlib.Core.Option.{Option, none, some}
+use lib.Dec.{eqb}
+use lib.ListN.{length, drop}
+use Rattle.card.specs.declared.Card.{Card}
+use Rattle.card.specs.Sound.{isSound}
+use Rattle.sound.specs.Reset.{resetAnswer}
+use Rattle.rules.specs.Engine.{noRefusal, askOut, answerOut}
+use Rattle.two_runs.specs.Comparison.{on, Secret, Comparison, comparison}
+
+-- ---- a call: ASK brings its command and its buffer, ANSWER its command, its supply and its buffer, RESET nothing
+pub data Call : Type 0 where
+  ask : List ℕ → List ℕ → Call
+  answer : List ℕ → List ℕ → List ℕ → Call
+  reset : Call
+
+-- the comparison that a call makes, if any: only ANSWER makes them, and a numbered refusal makes none
+unfoldable pub comparisonAt : Card → Call → Option Comparison
+comparisonAt c (ask cmd buf) = none
+comparisonAt c (answer cmd s buf) = cond (eqb (answerOut c cmd s (length buf) .refusal) noRefusal) (comparison c cmd) none
+comparisonAt c reset = none
+
+-- which of PIN and PUK is compared, if any
+abbrev pub comparedAt : Card → Call → Option Secret
+comparedAt c k = on (comparisonAt c k) (λ x. some (x .of))
+
+-- ---- what a call shows: the refusal's number or 0, the kind, the count, the whole buffer, and what it compared. ANSWER and RESET report no
+-- kind, here 0; RESET has no buffer
+pub record Seen : Type 0 where
+  pub refusal : ℕ
+  pub kind : ℕ
+  pub count : ℕ
+  pub buffer : List ℕ
+  pub compared : Option Secret
+
+-- the buffer with these bytes written from its start, the rest as it was
+abbrev pub written : List ℕ → List ℕ → List ℕ
+written bytes buf = bytes ++ drop (length bytes) buf
+
+unfoldable pub seenAt : Card → Call → Seen
+seenAt c (ask cmd buf) = record {
+  refusal = askOut c cmd (length buf) .refusal;
+  kind = askOut c cmd (length buf) .kind;
+  count = length (askOut c cmd (length buf) .bytes);
+  buffer = written (askOut c cmd (length buf) .bytes) buf;
+  compared = comparedAt c (ask cmd buf);
+}
+seenAt c (answer cmd s buf) = record {
+  refusal = answerOut c cmd s (length buf) .refusal;
+  kind = 0;
+  count = length (answerOut c cmd s (length buf) .bytes);
+  buffer = written (answerOut c cmd s (length buf) .bytes) buf;
+  compared = comparedAt c (answer cmd s buf);
+}
+seenAt c reset = record {
+  refusal = resetAnswer c .refusal;
+  kind = 0;
+  count = 0;
+  buffer = [];
+  compared = comparedAt c reset;
+}
+
+-- ---- the card that a call passes on: ASK the one it was given, ANSWER and RESET their next card, which is the one given where they refuse
+unfoldable pub nextAt : Card → Call → Card
+nextAt c (ask cmd buf) = c
+nextAt c (answer cmd s buf) = answerOut c cmd s (length buf) .card
+nextAt c reset = resetAnswer c .card
+
+-- ---- a run: what it shows, call by call, and the card at its end
+unfoldable pub runOf : Card → List Call → List Seen
+runOf c [] = []
+runOf c (k ∷ more) = seenAt c k ∷ runOf (nextAt c k) more
+
+unfoldable pub endOf : Card → List Call → Card
+endOf c [] = c
+endOf c (k ∷ more) = endOf (nextAt c k) more
+
+-- ---- two cards agree in all but PIN and PUK
+pub record Agree (c d : Card) : Type 0 where
+  pub initialised : c .initialised ≡ d .initialised
+  pub identity : c .identity ≡ d .identity
+  pub pintries : c .pins .«pin_tries» ≡ d .pins .«pin_tries»
+  pub puktries : c .pins .«puk_tries» ≡ d .pins .«puk_tries»
+  pub verified : c .pins .verified ≡ d .pins .verified
+  pub pairing : c .pairing ≡ d .pairing
+  pub keys : c .keys ≡ d .keys
+  pub channel : c .channel ≡ d .channel
+
+-- ---- wherever both runs make a comparison at the same call, it comes out right in both or wrong in both
+abbrev pub OutAlike : Option Comparison → Option Comparison → Type 0
+OutAlike m n = (x y : Comparison) → m ≡ some x → n ≡ some y → x .right ≡ y .right
+
+unfoldable pub Alike : Card → Card → List Call → Type 0
+Alike c d [] = Unit {0}
+Alike c d (k ∷ more) = OutAlike (comparisonAt c k) (comparisonAt d k) × Alike (nextAt c k) (nextAt d k) more
+
+-- ---- what the claim asks of two cards and a list: both cards are sound and agree, and the comparisons come out alike
+pub record Premise (c d : Card) (calls : List Call) : Type 0 where
+  pub sound : isSound c ≡ true
+  pub sound′ : isSound d ≡ true
+  pub agree : Agree c d
+  pub alike : Alike c d calls
+
+-- ---- the claim: the two runs show the same at every call, and end with cards that agree
+pub record SameRuns (c d : Card) (calls : List Call) : Type 0 where
+  pub shown : runOf c calls ≡ runOf d calls
+  pub ends : Agree (endOf c calls) (endOf d calls)
