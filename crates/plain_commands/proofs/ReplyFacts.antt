@@ -23,7 +23,8 @@ use Rattle.slots.proofs.FreeFacts.{first-free-least}
 use Rattle.rules.specs.declared.Replied.{Replied}
 use Rattle.rules.specs.Words.{success, wrongData, noSpace, Reply, succeeds, fails, reportOf, Replies}
 use Rattle.rules.specs.Supplies.{flagOf, openSalt, openIv, pairCryptogram, pairChallenge, pairExpected, pairSalt, pairKey}
-use Rattle.rules.specs.Commands.{selected, selectReply, openedWith, openReply, pendingWith, pairFirstReply, withSlot, filledWith, pairInto, pairFinalReply}
+use Rattle.rules.specs.Commands.{selected, selectReply, openedWith, openReply}
+use Rattle.rules.specs.Commands.{pendingWith, pairFirstReply, withSlot, filledWith, pairInto, pairFinalReply}
 
 -- ---- success with what was written, and failure with nothing written
 abbrev said : ℕ → ℕ → Card → Replied
