@@ -1,12 +1,12 @@
 -- INIT: what its check says of the data, what was opened, and the reply.
 -- Assumes nothing.
-use mathlib.Core.Path.{_≡_, refl, sym, ap, ap₂, _∙_, subst}
+use mathlib.Core.Path.{_≡_, refl, sym, ap, ap₂, _∙_}
 use mathlib.Core.Bool.{Bool, true, false, cond, false≢true}
 use mathlib.Core.List.{List, []}
 use mathlib.Core.Option.{Option, none, some}
 use Prim.Native.Nat.{ℕ, _≤_}
 use native.Mathlib.Omega.{arith}
-use lib.ListN.{length, take, drop}
+use lib.ListN.{length, take}
 use borrow.Author.Tests.{eq-eqb, ne-eqb, eqb-true}
 use Rattle.octets.specs.Bytes.{overwrite}
 use Rattle.aes.specs.Aes.{invAes256}
@@ -22,7 +22,7 @@ use Rattle.rules.specs.declared.Replied.{Replied}
 use Rattle.rules.specs.Words.{success, wrongData, verdict, succeeds, fails, reportOf}
 use Rattle.rules.specs.Supplies.{flagOf, saysYes, part, initKey}
 use Rattle.rules.specs.Commands.{initChecks, initContent, isContent, initialisedWith, initWith, initReply}
-use Rattle.plain_commands.specs.Content.{isFormed, offered, isRight, Found, pinsWith}
+use Rattle.plain_commands.specs.Content.{isFormed, offered, Found, pinsWith}
 use Rattle.plain_commands.proofs.SupplyFacts.{part-copied}
 
 -- ---- initChecks
