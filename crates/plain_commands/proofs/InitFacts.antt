@@ -1,12 +1,12 @@
 -- INIT: what its check says of the data, what was opened, and the reply.
 -- Assumes nothing.
-use mathlib.Core.Path.{_≡_, refl, sym, ap, ap₂, _∙_, subst}
+use mathlib.Core.Path.{_≡_, refl, sym, ap, ap₂, _∙_}
 use mathlib.Core.Bool.{Bool, true, false, cond, false≢true}
 use mathlib.Core.List.{List, []}
 use mathlib.Core.Option.{Option, none, some}
 use Prim.Native.Nat.{ℕ, _≤_}
 use native.Mathlib.Omega.{arith}
-use lib.ListN.{length, take, drop}
+use lib.ListN.{length, take}
 use borrow.Author.Tests.{eq-eqb, ne-eqb, eqb-true}
 use Rattle.octets.specs.Bytes.{overwrite}
 use Rattle.aes.specs.Aes.{invAes256}
@@ -22,7 +22,7 @@ use Rattle.rules.specs.declared.Replied.{Replied}
 use Rattle.rules.specs.Words.{success, wrongData, verdict, succeeds, fails, reportOf}
 use Rattle.rules.specs.Supplies.{flagOf, saysYes, part, initKey}
 use Rattle.rules.specs.Commands.{initChecks, initContent, isContent, initialisedWith, initWith, initReply}
-use Rattle.plain_commands.specs.Content.{isFormed, offered, isRight, Found, pinsWith}
+use Rattle.plain_commands.specs.Content.{isFormed, offered, Found, pinsWith}
 use Rattle.plain_commands.proofs.SupplyFacts.{part-copied}
 
 -- ---- initChecks
@@ -46,8 +46,8 @@ data-within p n e = by-option (unpad p) refl e
     by-option none q f = let z : _≡_ {A = ℕ} 0 1 = cc in absurd (omega arith)
     by-option (some x) q f = let l : n ≡ length x = cc in omega (arith, unpad-shorter x p q, padded-larger (length x))
 
-pub found-content : (p : List ℕ) (n m : ℕ) (r : Bool) → unpadded.Bytes n ≡ answer (unpad p) → r ≡ isContent (take m p) → m ≡ n → length p ≡ 64
-    → Found (unpad p) r p
+pub found-content : (p : List ℕ) (n m : ℕ) (r : Bool) → unpadded.Bytes n ≡ answer (unpad p) → r ≡ isContent (take m p) → m ≡ n
+    → length p ≡ 64 → Found (unpad p) r p
 found-content p n m r e er em l = by-option (unpad p) refl e
   where
     by-option : (o : Option (List ℕ)) → unpad p ≡ o → unpadded.Bytes n ≡ answer o → Found o r p
@@ -69,8 +69,9 @@ found-same e f = rw e at f
 
 -- ---- offered: what was put into the buffer is the ciphertext
 module _ (d s : List ℕ) {r : Bool} {p : List ℕ} where
-  pub offered-yes : (key iv before′ b : List ℕ) → flagOf s ≡ 1 → key ≡ initKey s → iv ≡ part 66 16 d → b ≡ overwrite before′ 0 (part 82 64 d)
-      → length before′ ≡ 64 → length d ≡ 146 → Found (unpad (cbcDecrypt (invAes256 key) iv b)) r p → Found (offered d s) r p
+  pub offered-yes : (key iv before′ b : List ℕ) → flagOf s ≡ 1 → key ≡ initKey s → iv ≡ part 66 16 d
+      → b ≡ overwrite before′ 0 (part 82 64 d) → length before′ ≡ 64 → length d ≡ 146
+      → Found (unpad (cbcDecrypt (invAes256 key) iv b)) r p → Found (offered d s) r p
   unfolding offered initContent
   offered-yes key iv before′ b f ek ei eb l ld h =
       rw (eq-eqb (flagOf s) 1 f)
@@ -112,7 +113,8 @@ right-with c none r p f e = absurd (false≢true (sym (f .told) ∙ e))
 right-with c (some x) r p f e =
     let t : isContent x ≡ true = sym (f .told) ∙ e in
     let l : length x ≡ 50 = eqb-true (length x) 50 (both _ _ t .0) in
-    ap (λ (y : List ℕ). said success (initialisedWith c y)) (ap (λ (k : ℕ). take k p) (sym l) ∙ sym (f .left x refl)) ∙ sym (by-content c x true t)
+    ap (λ (y : List ℕ). said success (initialisedWith c y)) (ap (λ (k : ℕ). take k p) (sym l) ∙ sym (f .left x refl))
+    ∙ sym (by-content c x true t)
 
 wrong-with : (c : Card) (o : Option (List ℕ)) (r : Bool) (p : List ℕ) → Found o r p → r ≡ false → said wrongData c ≡ reportOf (initWith c o)
 unfolding initWith

@@ -1,7 +1,7 @@
 -- From what a writer left in the buffer to what a command replies.
 -- Assumes nothing.
 use mathlib.Core.Path.{_≡_, refl, ap, ap₂, _∙_}
-use mathlib.Core.List.{List, [], _∷_, _++_}
+use mathlib.Core.List.{List, _∷_, _++_}
 use Prim.Native.Nat.{ℕ, _+_, _≤_, _<_}
 use native.Mathlib.Nat.{zero-add}
 use native.Mathlib.Omega.{arith}
@@ -21,9 +21,10 @@ use Rattle.slots.specs.declared.Free.the-variants as free
 use Rattle.slots.specs.Free.{firstFree, Says}
 use Rattle.slots.proofs.FreeFacts.{first-free-least}
 use Rattle.rules.specs.declared.Replied.{Replied}
-use Rattle.rules.specs.Words.{success, wrongData, noSpace, Reply, succeeds, fails, reportOf, Replies}
-use Rattle.rules.specs.Supplies.{flagOf, openSalt, openIv, pairCryptogram, pairChallenge, pairExpected, pairSalt, pairKey}
-use Rattle.rules.specs.Commands.{selected, selectReply, openedWith, openReply, pendingWith, pairFirstReply, withSlot, filledWith, pairInto, pairFinalReply}
+use Rattle.rules.specs.Words.{success, wrongData, noSpace, Reply, succeeds, fails, Replies}
+use Rattle.rules.specs.Supplies.{flagOf, openEncKey, openMacKey, openSalt, openIv, pairCryptogram, pairChallenge, pairExpected, pairSalt, pairKey}
+use Rattle.rules.specs.Commands.{selected, selectReply, openedWith, openReply}
+use Rattle.rules.specs.Commands.{pendingWith, pairFirstReply, withSlot, filledWith, pairInto, pairFinalReply}
 
 -- ---- success with what was written, and failure with nothing written
 abbrev said : ℕ → ℕ → Card → Replied
@@ -61,6 +62,12 @@ module _ {n : ℕ} {a b : List ℕ} (c : Card) (k : Channel) where
   select-replied e w = replied _ _ (ap (λ (x : Channel). withPins (withChannel c x) (unverified (c .pins))) e) w
 
 -- ---- OPEN
+pub opened-is : (s enc mac iv : List ℕ) → enc ≡ openEncKey s → mac ≡ openMacKey s → iv ≡ openIv s
+    → _≡_ {A = Channel} (record { stage = 1; «enc_key» = enc; «mac_key» = mac; iv = iv }) (openedWith s)
+opened-is s enc mac iv e m v =
+    ap₂ {C = Channel} (λ x y. record { stage = 1; «enc_key» = x; «mac_key» = y; iv = iv }) e m
+    ∙ ap {B = Channel} (λ z. record { stage = 1; «enc_key» = openEncKey s; «mac_key» = openMacKey s; iv = z }) v
+
 module _ (c : Card) (s : List ℕ) (k : Channel) where
   pub open-replied : {n : ℕ} {a b : List ℕ} → flagOf s ≡ 1 → k ≡ openedWith s → Wrote (openSalt s ++ openIv s) 0 n a b
       → Replies (openReply c s) (said success n (withChannel c k)) a b

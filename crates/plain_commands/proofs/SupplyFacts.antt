@@ -29,6 +29,10 @@ pub init-long : (s : List ℕ) → suits initSupply s ≡ true → length s ≡ 
 unfolding suits
 init-long s e = eqb-true (length s) 33 (both _ _ e .0)
 
+-- a part ends within a list of that length
+pub within : {k m n : ℕ} → m ≡ n → k ≤ n → k ≤ m
+within e h = omega arith
+
 -- ---- part: what was copied out of a list is a part of it
 module _ (at n m : ℕ) (s : List ℕ) {y : List ℕ} where
   pub part-is : y ≡ take m (drop at s) → m ≡ n → y ≡ part at n s

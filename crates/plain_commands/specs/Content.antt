@@ -1,7 +1,7 @@
 -- INIT's data and content: the form of the data, the content that data and supply hold, and what a function that opens them promises.
 -- Every length is in bytes.
 use Prim.Native.Nat.{ℕ}
-use mathlib.Core.Bool.{Bool, true, false, _&&_, cond}
+use mathlib.Core.Bool.{Bool, false, _&&_, cond}
 use mathlib.Core.List.{List}
 use mathlib.Core.Option.{Option, none, some}
 use mathlib.Core.Path.{_≡_}

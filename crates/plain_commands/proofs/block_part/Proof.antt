@@ -23,7 +23,9 @@ block-requires : tie.Need-block-requires
 block-requires c κs = search needs
 
 returns : tie.Need-returns
-returns c = part-is (c .before .before .before .args .at) 16 (c .before .before .before .args .at + 16 - c .before .before .before .args .at) (c .before .before .before .args .s .now) (c .block .ensures) (omega arith)
+returns c =
+    let b3 = c .before .before .before in
+    part-is (b3 .args .at) 16 (b3 .args .at + 16 - b3 .args .at) (b3 .args .s .now) (c .block .ensures) (omega arith)
 
 pub block-part-spec : {M : Type 1} → statement M
 block-part-spec =

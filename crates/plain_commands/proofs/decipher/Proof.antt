@@ -26,7 +26,11 @@ part-is-content-start : tie.Need-part-is-content-start
 part-is-content-start c = search needs
 
 part-is-content-end : tie.Need-part-is-content-end
-part-is-content-end c = data-within (c .before .before .before .before .before .before .before .before .cbc-decrypt .last .1 .1 .0) (c .before .before .n .given .0 .0) (sym (c .before .before .n .given .1) ∙ c .before .before .before .before .find-data .ensures)
+part-is-content-end c =
+    let b2 = c .before .before in
+    let b4 = b2 .before .before in
+    let b8 = b4 .before .before .before .before in
+    data-within (b8 .cbc-decrypt .last .1 .1 .0) (b2 .n .given .0 .0) (sym (b2 .n .given .1) ∙ b4 .find-data .ensures)
 
 is-content-requires : tie.Need-is-content-requires
 is-content-requires c κs = search needs
@@ -38,18 +42,29 @@ same-length : tie.Need-same-length
 same-length c = search needs
 
 returns : tie.Need-returns
-returns c = let p : List ℕ = c .before .before .before .before .before .before .before .before .before .before .cbc-decrypt .last .1 .1 .0 in let n : ℕ = c .before .before .before .before .n .given .0 .0 in
-    found-same (ap unpad (c .before .before .before .before .before .before .before .before .before .before .cbc-decrypt .ensures))
-    (found-content p n (n - 0) (c .is-content .result) (sym (c .before .before .before .before .n .given .1) ∙ c .before .before .before .before .before .before .find-data .ensures) (c .is-content .ensures) (omega arith)
-    (c .before .before .before .before .before .before .before .before .before .before .cbc-decrypt .kept .1 .1 .0 ∙ c .before .before .before .before .before .before .before .before .before .before .before .before .before .before .pre))
+returns c =
+    let b4 = c .before .before .before .before in
+    let b6 = b4 .before .before in
+    let b10 = b6 .before .before .before .before in
+    let b14 = b10 .before .before .before .before in
+    let p : List ℕ = b10 .cbc-decrypt .last .1 .1 .0 in
+    let n : ℕ = b4 .n .given .0 .0 in
+    found-same (ap unpad (b10 .cbc-decrypt .ensures))
+    (found-content p n (n - 0) (c .is-content .result) (sym (b4 .n .given .1) ∙ b6 .find-data .ensures) (c .is-content .ensures)
+    (omega arith) (b10 .cbc-decrypt .kept .1 .1 .0 ∙ b14 .pre))
 
 same-length-2 : tie.Need-same-length-2
 same-length-2 c = search needs
 
 returns-2 : tie.Need-returns-2
-returns-2 c = let p : List ℕ = c .before .before .before .before .before .before .cbc-decrypt .last .1 .1 .0 in
-    found-nothing _ p (sym (c .enum-told .given .1) ∙ c .before .before .find-data .ensures ∙ ap (λ (x : List ℕ). answer (unpad x)) (c .before .before .before .before .before .before .cbc-decrypt .ensures))
-    (c .before .before .before .before .before .before .cbc-decrypt .kept .1 .1 .0 ∙ c .before .before .before .before .before .before .before .before .before .before .pre)
+returns-2 c =
+    let b2 = c .before .before in
+    let b6 = b2 .before .before .before .before in
+    let b10 = b6 .before .before .before .before in
+    let p : List ℕ = b6 .cbc-decrypt .last .1 .1 .0 in
+    found-nothing _ p
+    (sym (c .enum-told .given .1) ∙ b2 .find-data .ensures ∙ ap (λ (x : List ℕ). answer (unpad x)) (b6 .cbc-decrypt .ensures))
+    (b6 .cbc-decrypt .kept .1 .1 .0 ∙ b10 .pre)
 
 pub decipher-spec : {M : Type 1} → statement M
 decipher-spec =

@@ -13,7 +13,8 @@ use Rattle.plain_commands.proofs.free_slots.Statement.{statement}
 use Rattle.plain_commands.proofs.free_slots.Tie as tie
 
 abbrev Inv-loop : tie.InvT-loop
-Inv-loop slots free₀ i₀ free i = (i ≤ slotCount) × (free ≤ i) × (length slots ≡ slotCount) × (free + freeSlots (drop i slots) ≡ freeSlots slots)
+Inv-loop slots free₀ i₀ free i =
+    (i ≤ slotCount) × (free ≤ i) × (length slots ≡ slotCount) × (free + freeSlots (drop i slots) ≡ freeSlots slots)
 
 abbrev μ-loop : tie.MeasureT-loop
 μ-loop slots free₀ i₀ free i = slotCount - i

@@ -11,7 +11,9 @@ slice-aggregate-open-init : tie.Need-slice-aggregate-open-init
 slice-aggregate-open-init c = search needs
 
 open-init-requires : tie.Need-open-init-requires
-open-init-requires c κs = (formed-long (c .before .before .before .args .«data» .now) (c .before .before .before .pre .0), init-long (c .before .before .before .args .supply .now) (c .before .before .before .pre .1), refl)
+open-init-requires c κs =
+    let b3 = c .before .before .before in
+    (formed-long (b3 .args .«data» .now) (b3 .pre .0), init-long (b3 .args .supply .now) (b3 .pre .1), refl)
 
 sub-initialised-with : tie.Need-sub-initialised-with
 sub-initialised-with c = search needs
@@ -26,10 +28,19 @@ initialised-with-requires : tie.Need-initialised-with-requires
 initialised-with-requires c κs = search needs
 
 returns : tie.Need-returns
-returns c = init-replied (c .before .before .before .before .before .before .before .before .before .args .card) (c .before .before .before .before .before .before .before .before .before .args .«data» .now) (c .before .before .before .before .before .before .before .before .before .args .supply .now) (c .before .before .before .before .before .open-init .result) _ (c .before .before .before .before .before .open-init .ensures) (c .initialised-with .result) (c .before .before .before .if1 .taken) (c .initialised-with .ensures)
+returns c =
+    let b3 = c .before .before .before in
+    let b5 = b3 .before .before in
+    let b9 = b5 .before .before .before .before in
+    init-replied (b9 .args .card) (b9 .args .«data» .now) (b9 .args .supply .now) (b5 .open-init .result) _ (b5 .open-init .ensures)
+    (c .initialised-with .result) (b3 .if1 .taken) (c .initialised-with .ensures)
 
 returns-2 : tie.Need-returns-2
-returns-2 c = init-refused (c .before .before .before .before .before .before .args .card) (c .before .before .before .before .before .before .args .«data» .now) (c .before .before .before .before .before .before .args .supply .now) (c .before .before .open-init .result) _ (c .before .before .open-init .ensures) (c .if1 .left)
+returns-2 c =
+    let b2 = c .before .before in
+    let b6 = b2 .before .before .before .before in
+    init-refused (b6 .args .card) (b6 .args .«data» .now) (b6 .args .supply .now) (b2 .open-init .result) _ (b2 .open-init .ensures)
+    (c .if1 .left)
 
 pub init-spec : {M : Type 1} → statement M
 init-spec =

@@ -12,7 +12,10 @@ must-requires : tie.Need-must-requires
 must-requires c κs = search needs
 
 returns : tie.Need-returns
-returns c = formed-verdict (c .before .before .before .args .«data» .now) (c .before .is-formed .result) (c .must .result) (c .before .is-formed .ensures) (c .must .ensures)
+returns c =
+    let b3 = c .before .before .before in
+    formed-verdict (b3 .args .«data» .now) (c .before .is-formed .result) (c .must .result) (c .before .is-formed .ensures)
+    (c .must .ensures)
 
 pub init-verdict-spec : {M : Type 1} → statement M
 init-verdict-spec = tie.close (tie.spec is-formed-requires must-requires returns)

@@ -36,7 +36,11 @@ digits-requires-2 : tie.Need-digits-requires-2
 digits-requires-2 c κs = search needs
 
 returns-2 : tie.Need-returns-2
-returns-2 c = rw (eq-eqb (length (c .before .before .before .before .before .before .args .content .now)) 50 (c .before .before .before .before .if1 .left)) (ap₂ _&&_ (c .before .before .digits .ensures) (c .digits2 .ensures))
+returns-2 c =
+    let b2 = c .before .before in
+    let b4 = b2 .before .before in
+    let b6 = b4 .before .before in
+    rw (eq-eqb (length (b6 .args .content .now)) 50 (b4 .if1 .left)) (ap₂ _&&_ (b2 .digits .ensures) (c .digits2 .ensures))
 
 pub is-content-spec : {M : Type 1} → statement M
 is-content-spec =

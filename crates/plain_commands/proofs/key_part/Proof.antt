@@ -27,7 +27,10 @@ put-requires : tie.Need-put-requires
 put-requires c κs = search needs
 
 returns : tie.Need-returns
-returns c = part-copied (c .before .before .before .before .before .args .at) 32 (c .before .before .before .before .before .args .at + 32 - c .before .before .before .before .before .args .at) (c .before .before .before .before .before .args .s .now) _ (c .before .put .ensures) refl (omega arith) (c .before .before .before .before .before .pre)
+returns c =
+    let b5 = c .before .before .before .before .before in
+    part-copied (b5 .args .at) 32 (b5 .args .at + 32 - b5 .args .at) (b5 .args .s .now) _ (c .before .put .ensures) refl (omega arith)
+    (b5 .pre)
 
 pub key-part-spec : {M : Type 1} → statement M
 key-part-spec =

@@ -11,10 +11,14 @@ shared-slice-read-if1 : tie.Need-shared-slice-read-if1
 shared-slice-read-if1 c = omega (arith, open-long (c .before .before .before .args .supply .now) (c .before .before .before .pre .0))
 
 put-salt-iv-requires : tie.Need-put-salt-iv-requires
-put-salt-iv-requires c κs = (open-long (c .before .before .before .before .before .args .supply .now) (c .before .before .before .before .before .pre .0), c .before .before .before .before .before .pre .1)
+put-salt-iv-requires c κs =
+    let b5 = c .before .before .before .before .before in
+    (open-long (b5 .args .supply .now) (b5 .pre .0), b5 .pre .1)
 
 opened-channel-requires : tie.Need-opened-channel-requires
-opened-channel-requires c κs = open-long (c .before .before .before .before .before .before .before .before .args .supply .now) (c .before .before .before .before .before .before .before .before .pre .0)
+opened-channel-requires c κs =
+    let b8 = c .before .before .before .before .before .before .before .before in
+    open-long (b8 .args .supply .now) (b8 .pre .0)
 
 closed-requires : tie.Need-closed-requires
 closed-requires c κs = search needs
@@ -23,10 +27,17 @@ same-length : tie.Need-same-length
 same-length c = search needs
 
 returns : tie.Need-returns
-returns c = open-replied (c .before .before .before .before .before .before .before .before .before .args .card) (c .before .before .before .before .before .before .before .before .before .args .supply .now) (c .opened-channel .result) (c .before .before .before .before .before .if1 .taken) (c .opened-channel .ensures) (c .before .before .before .put-salt-iv .ensures)
+returns c =
+    let b3 = c .before .before .before in
+    let b5 = b3 .before .before in
+    let b9 = b5 .before .before .before .before in
+    open-replied (b9 .args .card) (b9 .args .supply .now) (c .opened-channel .result) (b5 .if1 .taken) (c .opened-channel .ensures)
+    (b3 .put-salt-iv .ensures)
 
 returns-2 : tie.Need-returns-2
-returns-2 c = open-refused (c .before .before .before .before .before .args .card) (c .before .before .before .before .before .args .supply .now) (c .closed .result) (c .before .if1 .left) (c .closed .ensures)
+returns-2 c =
+    let b5 = c .before .before .before .before .before in
+    open-refused (b5 .args .card) (b5 .args .supply .now) (c .closed .result) (c .before .if1 .left) (c .closed .ensures)
 
 pub open-spec : {M : Type 1} → statement M
 open-spec =

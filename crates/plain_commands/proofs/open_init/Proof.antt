@@ -33,10 +33,21 @@ same-length : tie.Need-same-length
 same-length c = search needs
 
 returns : tie.Need-returns
-returns c = offered-yes (c .before .before .before .before .before .before .before .before .before .before .before .before .before .before .before .before .args .«data» .now) (c .before .before .before .before .before .before .before .before .before .before .before .before .before .before .before .before .args .supply .now) (c .before .before .before .before .before .before .before .before .before .before .key-part .result) (c .before .before .before .before .before .before .before .before .before .block-part .result) (c .before .before .before .before .before .before .before .before .before .before .before .before .before .before .before .before .args .plain .now) (c .before .before .before .before .before .before .put .last .0) (c .before .before .before .before .before .before .before .before .before .before .before .if1 .taken) (c .before .before .before .before .before .before .before .before .before .before .key-part .ensures) (c .before .before .before .before .before .before .before .before .before .block-part .ensures) (c .before .before .before .before .before .before .put .ensures) (c .before .before .before .before .before .before .before .before .before .before .before .before .before .before .before .before .pre .2) (c .before .before .before .before .before .before .before .before .before .before .before .before .before .before .before .before .pre .0) (c .before .before .decipher .ensures)
+returns c =
+    let b2 = c .before .before in
+    let b6 = b2 .before .before .before .before in
+    let b9 = b6 .before .before .before in
+    let b10 = b9 .before in
+    let b11 = b10 .before in
+    let b16 = b11 .before .before .before .before .before in
+    offered-yes (b16 .args .«data» .now) (b16 .args .supply .now) (b10 .key-part .result) (b9 .block-part .result) (b16 .args .plain .now)
+    (b6 .put .last .0) (b11 .if1 .taken) (b10 .key-part .ensures) (b9 .block-part .ensures) (b6 .put .ensures) (b16 .pre .2) (b16 .pre .0)
+    (b2 .decipher .ensures)
 
 returns-2 : tie.Need-returns-2
-returns-2 c = offered-no (c .before .before .before .before .before .args .«data» .now) (c .before .before .before .before .before .args .supply .now) (c .before .before .before .before .before .args .plain .now) (c .if1 .left) (c .before .before .before .before .before .pre .2)
+returns-2 c =
+    let b5 = c .before .before .before .before .before in
+    offered-no (b5 .args .«data» .now) (b5 .args .supply .now) (b5 .args .plain .now) (c .if1 .left) (b5 .pre .2)
 
 pub open-init-spec : {M : Type 1} → statement M
 open-init-spec =

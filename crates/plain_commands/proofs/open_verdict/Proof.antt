@@ -28,8 +28,14 @@ must-requires-2 : tie.Need-must-requires-2
 must-requires-2 c κs = search needs
 
 returns : tie.Need-returns
-returns c = let l : length (c .before .before .before .before .before .before .before .args .t1) ≡ slotCount = search needs in
-    open-checks (c .before .before .before .before .before .before .before .args .t1) (c .before .before .before .before .before .before .before .args .slot) (c .before .before .before .before .before .before .before .args .«data» .now) (c .before .before .before .before .before .wide .result) _ (c .before .before .is-point .result) (c .before .must .result) (c .must2 .result) (c .must2 .ensures) (c .before .must .ensures) (c .before .before .is-point .ensures) (c .before .before .before .before .before .wide .ensures) (omega (arith, c .before .before .before .before .before .before .before .pre))
+returns c =
+    let b2 = c .before .before in
+    let b5 = b2 .before .before .before in
+    let b7 = b5 .before .before in
+    let l : length (b7 .args .t1) ≡ slotCount = search needs in
+    open-checks (b7 .args .t1) (b7 .args .slot) (b7 .args .«data» .now) (b5 .wide .result) _ (b2 .is-point .result)
+    (c .before .must .result) (c .must2 .result) (c .must2 .ensures) (c .before .must .ensures) (b2 .is-point .ensures)
+    (b5 .wide .ensures) (omega (arith, b7 .pre))
 
 pub open-verdict-spec : {M : Type 1} → statement M
 open-verdict-spec =

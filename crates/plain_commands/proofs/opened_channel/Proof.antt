@@ -1,6 +1,7 @@
 -- Each part of the supply stands in its field.
 -- Assumes nothing.
 use borrow.Author.Needs.{needs}
+use Rattle.plain_commands.proofs.ReplyFacts.{opened-is}
 use Rattle.plain_commands.proofs.opened_channel.Statement.{statement}
 use Rattle.plain_commands.proofs.opened_channel.Tie as tie
 
@@ -14,7 +15,9 @@ block-part-requires : tie.Need-block-part-requires
 block-part-requires c κs = search needs
 
 returns : tie.Need-returns
-returns c = rw (c .before .before .key-part .ensures, c .before .key-part2 .ensures, c .block-part .ensures)
+returns c = let b2 = c .before .before in let s = b2 .before .before .args .supply .now in
+    opened-is s (b2 .key-part .result) (c .before .key-part2 .result) (c .block-part .result)
+    (b2 .key-part .ensures) (c .before .key-part2 .ensures) (c .block-part .ensures)
 
 pub opened-channel-spec : {M : Type 1} → statement M
 opened-channel-spec =

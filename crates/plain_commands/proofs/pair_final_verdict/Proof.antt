@@ -24,7 +24,14 @@ must-requires-4 : tie.Need-must-requires-4
 must-requires-4 c κs = search needs
 
 returns : tie.Need-returns
-returns c = final-checks (c .before .before .before .before .before .before .before .before .before .args .pairing) (c .before .before .before .before .before .before .before .before .before .args .stage) (c .before .before .before .before .before .before .before .before .before .args .«data» .now) (c .before .before .before .before .same .result) (c .before .before .before .must .result) (c .before .before .must2 .result) (c .before .must3 .result) (c .must4 .result) (c .before .before .before .before .same .ensures) (c .before .before .before .must .ensures) (c .before .before .must2 .ensures) (c .before .must3 .ensures) (c .must4 .ensures)
+returns c =
+    let b2 = c .before .before in
+    let b3 = b2 .before in
+    let b4 = b3 .before in
+    let b9 = b4 .before .before .before .before .before in
+    final-checks (b9 .args .pairing) (b9 .args .stage) (b9 .args .«data» .now) (b4 .same .result) (b3 .must .result) (b2 .must2 .result)
+    (c .before .must3 .result) (c .must4 .result) (b4 .same .ensures) (b3 .must .ensures) (b2 .must2 .ensures) (c .before .must3 .ensures)
+    (c .must4 .ensures)
 
 pub pair-final-verdict-spec : {M : Type 1} → statement M
 pair-final-verdict-spec =

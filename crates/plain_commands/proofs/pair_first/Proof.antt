@@ -1,22 +1,24 @@
 -- What was written and the card with the pending pairing are the reply of PAIR's first step.
 -- Assumes nothing.
-use Prim.Native.Nat.{_≤_}
 use native.Mathlib.Omega.{arith}
-use lib.ListN.{length}
 use borrow.Author.Needs.{needs}
 use Rattle.plain_commands.proofs.ReplyFacts.{first-replied}
-use Rattle.plain_commands.proofs.SupplyFacts.{first-long}
+use Rattle.plain_commands.proofs.SupplyFacts.{first-long, within}
 use Rattle.plain_commands.proofs.pair_first.Statement.{statement}
 use Rattle.plain_commands.proofs.pair_first.Tie as tie
 
 key-part-requires : tie.Need-key-part-requires
-key-part-requires c κs = let h : 32 ≤ length (c .before .before .args .supply .now) = omega (arith, first-long (c .before .before .args .supply .now) (c .before .before .pre .0)) in h
+key-part-requires c κs = within (first-long (c .before .before .args .supply .now) (c .before .before .pre .0)) (omega arith)
 
 key-part-requires-2 : tie.Need-key-part-requires-2
-key-part-requires-2 c κs = let h : 64 ≤ length (c .before .before .before .args .supply .now) = omega (arith, first-long (c .before .before .before .args .supply .now) (c .before .before .before .pre .0)) in h
+key-part-requires-2 c κs =
+    let b3 = c .before .before .before in
+    within (first-long (b3 .args .supply .now) (b3 .pre .0)) (omega arith)
 
 key-part-requires-3 : tie.Need-key-part-requires-3
-key-part-requires-3 c κs = let h : 96 ≤ length (c .before .before .before .before .args .supply .now) = omega (arith, first-long (c .before .before .before .before .args .supply .now) (c .before .before .before .before .pre .0)) in h
+key-part-requires-3 c κs =
+    let b4 = c .before .before .before .before in
+    within (first-long (b4 .args .supply .now) (b4 .pre .0)) (omega arith)
 
 slice-aggregate-put-both : tie.Need-slice-aggregate-put-both
 slice-aggregate-put-both c = search needs
@@ -34,7 +36,15 @@ same-length : tie.Need-same-length
 same-length c = search needs
 
 returns : tie.Need-returns
-returns c = first-replied (c .before .before .before .before .before .before .before .before .before .before .before .before .before .args .card) (c .before .before .before .before .before .before .before .before .before .before .before .before .before .args .supply .now) (c .before .before .before .before .before .before .before .before .before .before .key-part .result) (c .before .before .before .before .before .before .before .before .before .key-part2 .result) (c .before .before .before .before .before .before .before .before .key-part3 .result) (c .pending-with .result) (c .before .before .before .before .before .before .before .before .before .before .key-part .ensures) (c .before .before .before .before .before .before .before .before .before .key-part2 .ensures) (c .before .before .before .before .before .before .before .before .key-part3 .ensures) (c .pending-with .ensures) (c .before .before .before .before .put-both .ensures)
+returns c =
+    let b4 = c .before .before .before .before in
+    let b8 = b4 .before .before .before .before in
+    let b9 = b8 .before in
+    let b10 = b9 .before in
+    let b13 = b10 .before .before .before in
+    first-replied (b13 .args .card) (b13 .args .supply .now) (b10 .key-part .result) (b9 .key-part2 .result) (b8 .key-part3 .result)
+    (c .pending-with .result) (b10 .key-part .ensures) (b9 .key-part2 .ensures) (b8 .key-part3 .ensures) (c .pending-with .ensures)
+    (b4 .put-both .ensures)
 
 pub pair-first-spec : {M : Type 1} → statement M
 pair-first-spec =

@@ -18,7 +18,13 @@ must-requires-3 : tie.Need-must-requires-3
 must-requires-3 c κs = search needs
 
 returns : tie.Need-returns
-returns c = first-checks (c .before .before .before .before .before .before .args .pairing) (c .before .before .before .before .before .before .args .stage) (c .before .before .before .before .before .before .args .«data» .now) (c .before .before .before .has-free .result) (c .before .before .must .result) (c .before .must2 .result) (c .must3 .result) (c .before .before .before .has-free .ensures) (c .before .before .must .ensures) (c .before .must2 .ensures) (c .must3 .ensures)
+returns c =
+    let b2 = c .before .before in
+    let b3 = b2 .before in
+    let b6 = b3 .before .before .before in
+    first-checks (b6 .args .pairing) (b6 .args .stage) (b6 .args .«data» .now) (b3 .has-free .result) (b2 .must .result)
+    (c .before .must2 .result) (c .must3 .result) (b3 .has-free .ensures) (b2 .must .ensures) (c .before .must2 .ensures)
+    (c .must3 .ensures)
 
 pub pair-first-verdict-spec : {M : Type 1} → statement M
 pair-first-verdict-spec =

@@ -39,10 +39,12 @@ put-requires-2 : tie.Need-put-requires-2
 put-requires-2 c κs = search needs
 
 returns : tie.Need-returns
-returns c = let x = c .before .before .before .before .before .before .before .before .before .args .content .now in
-    pins-are x _ _
-    (part-copied 0 6 6 x _ (c .before .before .before .before .before .put .ensures) refl refl (omega (arith, c .before .before .before .before .before .before .before .before .before .pre)))
-    (part-copied 6 12 12 x _ (c .before .put2 .ensures) refl refl (omega (arith, c .before .before .before .before .before .before .before .before .before .pre)))
+returns c =
+    let b5 = c .before .before .before .before .before in
+    let b9 = b5 .before .before .before .before in
+    let x = b9 .args .content .now in
+    pins-are x _ _ (part-copied 0 6 6 x _ (b5 .put .ensures) refl refl (omega (arith, b9 .pre)))
+    (part-copied 6 12 12 x _ (c .before .put2 .ensures) refl refl (omega (arith, b9 .pre)))
 
 pub pins-with-spec : {M : Type 1} → statement M
 pins-with-spec =

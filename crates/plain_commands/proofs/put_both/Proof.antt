@@ -18,7 +18,11 @@ same-length : tie.Need-same-length
 same-length c = search needs
 
 returns : tie.Need-returns
-returns c = wrote-two (c .before .before .before .before .before .before .before .before .before .before .before .args .out .now) (c .before .before .before .before .before .before .before .before .before .before .before .args .first .now) (c .before .before .before .before .before .before .before .before .before .before .before .args .second .now) (c .before .before .before .before .before .before .before .before .before .before .before .pre) (c .before .before .before .before .before .before .put .ensures) (c .before .before .put2 .ensures)
+returns c =
+    let b2 = c .before .before in
+    let b6 = b2 .before .before .before .before in
+    let b11 = b6 .before .before .before .before .before in
+    wrote-two (b11 .args .out .now) (b11 .args .first .now) (b11 .args .second .now) (b11 .pre) (b6 .put .ensures) (b2 .put2 .ensures)
 
 pub put-both-spec : {M : Type 1} → statement M
 put-both-spec = tie.close (tie.spec put-requires put-requires-2 add-result same-length returns)

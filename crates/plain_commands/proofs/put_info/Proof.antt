@@ -33,33 +33,44 @@ part-put-application-info-start : tie.Need-part-put-application-info-start
 part-put-application-info-start c = search needs
 
 part-put-application-info-end : tie.Need-part-put-application-info-end
-part-put-application-info-end c = let l : length (c .before .before .before .before .before .before .before .before .before .before .args .keys .uid) ≡ 32 = search needs in
-    let e : c .before .before .before .before .key-uid-bytes .result ≡ keyUidBytes (c .before .before .before .before .before .before .before .before .before .before .args .keys .kind) = c .before .before .before .before .key-uid-bytes .ensures in
-    let h : c .before .before .before .before .key-uid-bytes .result ≤ length (c .before .before .before .before .before .before .before .before .before .before .args .keys .uid) = omega (arith, key-uid-short (c .before .before .before .before .before .before .before .before .before .before .args .keys .kind)) in h
+part-put-application-info-end c =
+    let b4 = c .before .before .before .before in
+    let b10 = b4 .before .before .before .before .before .before in
+    let l : length (b10 .args .keys .uid) ≡ 32 = search needs in
+    let e : b4 .key-uid-bytes .result ≡ keyUidBytes (b10 .args .keys .kind) = b4 .key-uid-bytes .ensures in
+    let h : b4 .key-uid-bytes .result ≤ length (b10 .args .keys .uid) = omega (arith, key-uid-short (b10 .args .keys .kind)) in
+    h
 
 put-application-info-requires : tie.Need-put-application-info-requires
-put-application-info-requires c κs = let a = c .before .before .before .before .before .before .before .before .before .before .before .args in
+put-application-info-requires c κs =
+    let b5 = c .before .before .before .before .before in
+    let b11 = b5 .before .before .before .before .before .before in
+    let a = b11 .args in
     let u : length (a .identity .uid) ≡ 16 = search needs in
     let p : length (a .identity .«public_key») ≡ 65 = search needs in
     let l : length (a .keys .uid) ≡ 32 = search needs in
-    let n : ℕ = c .before .before .before .before .before .key-uid-bytes .result in
-    let e : n ≡ keyUidBytes (a .keys .kind) = c .before .before .before .before .before .key-uid-bytes .ensures in
+    let n : ℕ = b5 .key-uid-bytes .result in
+    let e : n ≡ keyUidBytes (a .keys .kind) = b5 .key-uid-bytes .ensures in
     let k = key-uid-short (a .keys .kind) in
-    let room : 129 ≤ length (a .out .now) = omega (arith, c .before .before .before .before .before .before .before .before .before .before .before .pre) in
+    let room : 129 ≤ length (a .out .now) = omega (arith, b11 .pre) in
     (omega arith, omega arith, omega (arith, length-take-le (n - 0) (a .keys .uid) (omega arith)), room)
 
 same-length : tie.Need-same-length
 same-length c = search needs
 
 returns : tie.Need-returns
-returns c = let a = c .before .before .before .before .before .before .before .before .before .before .before .before .before .before .args in
+returns c =
+    let a = c .before .before .before .before .before .before .before .before .before .before .before .before .before .before .args in
     let l : length (a .keys .uid) ≡ 32 = search needs in
-    let n : ℕ = c .before .before .before .before .before .before .before .before .key-uid-bytes .result in
-    let e : n ≡ keyUidBytes (a .keys .kind) = c .before .before .before .before .before .before .before .before .key-uid-bytes .ensures in
+    let b2 = c .before .before in
+    let b8 = b2 .before .before .before .before .before .before in
+    let b10 = b8 .before .before in
+    let n : ℕ = b8 .key-uid-bytes .result in
+    let e : n ≡ keyUidBytes (a .keys .kind) = b8 .key-uid-bytes .ensures in
     wrote-same
     (ap₂ (λ (f : ℕ) (k : List ℕ). applicationInfo (a .identity .uid) (a .identity .«public_key») f k)
-    (c .before .before .before .before .before .before .before .before .before .before .free-slots .ensures) (key-uid-is (a .keys) (n - 0) l (omega arith)))
-    (c .before .before .put-application-info .ensures)
+    (b10 .free-slots .ensures) (key-uid-is (a .keys) (n - 0) l (omega arith)))
+    (b2 .put-application-info .ensures)
 
 pub put-info-spec : {M : Type 1} → statement M
 put-info-spec =

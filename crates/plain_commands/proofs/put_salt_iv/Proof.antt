@@ -27,7 +27,11 @@ same-length : tie.Need-same-length
 same-length c = search needs
 
 returns : tie.Need-returns
-returns c = wrote-same (ap₂ (λ (l r : List ℕ). l ++ r) (c .before .before .before .before .before .before .before .key-part .ensures) (c .before .before .before .before .before .before .block-part .ensures)) (c .before .before .put-both .ensures)
+returns c =
+    let b2 = c .before .before in
+    let b6 = b2 .before .before .before .before in
+    let b7 = b6 .before in
+    wrote-same (ap₂ (λ (l r : List ℕ). l ++ r) (b7 .key-part .ensures) (b6 .block-part .ensures)) (b2 .put-both .ensures)
 
 pub put-salt-iv-spec : {M : Type 1} → statement M
 put-salt-iv-spec =

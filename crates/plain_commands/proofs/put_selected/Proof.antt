@@ -15,13 +15,21 @@ same-length : tie.Need-same-length
 same-length c = search needs
 
 returns : tie.Need-returns
-returns c = rw (eq-eqb (c .before .before .before .before .before .before .args .initialised) 0 (c .before .before .before .before .if1 .taken)) (c .before .before .put-key .ensures)
+returns c =
+    let b2 = c .before .before in
+    let b4 = b2 .before .before in
+    let b6 = b4 .before .before in
+    rw (eq-eqb (b6 .args .initialised) 0 (b4 .if1 .taken)) (b2 .put-key .ensures)
 
 same-length-2 : tie.Need-same-length-2
 same-length-2 c = search needs
 
 returns-2 : tie.Need-returns-2
-returns-2 c = rw (ne-eqb (c .before .before .before .before .before .before .args .initialised) 0 (c .before .before .before .before .if1 .left)) (c .before .before .put-info .ensures)
+returns-2 c =
+    let b2 = c .before .before in
+    let b4 = b2 .before .before in
+    let b6 = b4 .before .before in
+    rw (ne-eqb (b6 .args .initialised) 0 (b4 .if1 .left)) (b2 .put-info .ensures)
 
 pub put-selected-spec : {M : Type 1} → statement M
 put-selected-spec =

@@ -15,7 +15,10 @@ same-length : tie.Need-same-length
 same-length c = search needs
 
 returns : tie.Need-returns
-returns c = select-replied (c .before .before .before .before .before .before .before .before .before .before .args .card) (c .closed .result) (c .closed .ensures) (c .before .before .before .before .put-selected .ensures)
+returns c =
+    let b4 = c .before .before .before .before in
+    let b10 = b4 .before .before .before .before .before .before in
+    select-replied (b10 .args .card) (c .closed .result) (c .closed .ensures) (b4 .put-selected .ensures)
 
 pub select-spec : {M : Type 1} → statement M
 select-spec = tie.close (tie.spec put-selected-requires closed-requires same-length returns)

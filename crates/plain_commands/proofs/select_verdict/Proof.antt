@@ -15,7 +15,9 @@ must-requires : tie.Need-must-requires
 must-requires c κs = search needs
 
 returns : tie.Need-returns
-returns c = select-checks (c .before .before .before .before .args .«data» .now) (c .before .same .result) (c .must .result) (c .before .same .ensures) (c .must .ensures)
+returns c =
+    let b4 = c .before .before .before .before in
+    select-checks (b4 .args .«data» .now) (c .before .same .result) (c .must .result) (c .before .same .ensures) (c .must .ensures)
 
 pub select-verdict-spec : {M : Type 1} → statement M
 select-verdict-spec = tie.close (tie.spec slice-aggregate-same same-requires must-requires returns)
