@@ -1,7 +1,7 @@
 -- Cards by name that meet the premise of the two runs. One of the two is reached from FRESH by INIT, PAIR, OPEN and MUTUAL and has the PIN
 -- 000000; the other has the PIN 111111, with the wrong entry 222222 once and three times; or another PUK, with the right entry.
--- Assumes nothing; the list of three assumes what its module's parameter says: ANSWER keeps soundness.
-use mathlib.Core.Path.{_≡_, refl}
+-- Assumes nothing.
+use mathlib.Core.Path.{refl}
 use mathlib.Core.Bool.{true, false}
 use mathlib.Core.List.{List, [], _∷_}
 use Prim.Native.Nat.{ℕ}
@@ -12,7 +12,6 @@ use Rattle.card.specs.declared.Card.{Card}
 use Rattle.card.specs.State.{zeros, noKeys, withSecrets}
 use Rattle.card.specs.Slots.{allOf, someOf}
 use Rattle.card.specs.Sound.{isSound}
-use Rattle.rules.specs.Engine.{answerOut}
 use Rattle.two_runs.specs.Comparison.{pin}
 use Rattle.two_runs.specs.Runs.{Agree, Premise}
 use Rattle.two_runs.proofs.Sealed.{InStage2}
@@ -68,12 +67,11 @@ all-wrong : AllWrong (digits 6 0x30) (digits 6 0x31) threeTimes
 unfolding AllWrong
 all-wrong = (wrong, (wrong, (wrong, tt)))
 
-module _ (answer-sound : (c : Card) (cmd s : List ℕ) (room : ℕ) → isSound c ≡ true → isSound (answerOut c cmd s room .card) ≡ true) where
-  pub three-wrong : Premise card000000 card111111 (verifyCalls card000000 threeTimes) × AllCompare card000000 (verifyCalls card000000 threeTimes)
-  three-wrong = (
-    wrong-entries-meet answer-sound threeTimes card000000 card111111 in-stage2 in-stage2′ agree all-wrong (omega arith),
-    wrong-entries answer-sound threeTimes card000000 card111111 in-stage2 in-stage2′ agree all-wrong (omega arith) .1,
-  )
-    where
-      agree : Agree card000000 card111111
-      agree = secrets-agree card000000 (digits 6 0x31) (digits 12 0x30)
+pub three-wrong : Premise card000000 card111111 (verifyCalls card000000 threeTimes) × AllCompare card000000 (verifyCalls card000000 threeTimes)
+three-wrong = (
+  wrong-entries-meet threeTimes card000000 card111111 in-stage2 in-stage2′ agree all-wrong (omega arith),
+  wrong-entries threeTimes card000000 card111111 in-stage2 in-stage2′ agree all-wrong (omega arith) .1,
+)
+  where
+    agree : Agree card000000 card111111
+    agree = secrets-agree card000000 (digits 6 0x31) (digits 12 0x30)

@@ -1,6 +1,6 @@
 -- A list of wrong entries, as many as PIN tries are left, each sealed for the card as it then is, under two different PINs: both runs compare
 -- at every call, and the premise of the two runs is met.
--- Assumes what its module's parameter says: ANSWER keeps soundness.
+-- Assumes nothing.
 use mathlib.Core.Path.{_≡_, refl, sym, ap, _∙_, subst}
 use mathlib.Core.Bool.{Bool, true, false, cond}
 use mathlib.Core.List.{List, [], _∷_}
@@ -25,7 +25,8 @@ use Rattle.card.proofs.Rules.{pins-rules, parts-rules, sound-cases}
 use Rattle.rules.specs.Words.{triesLeft, word}
 use Rattle.rules.specs.Steps.{forgotten, afterStep1}
 use Rattle.rules.specs.Commands.{verifyBy}
-use Rattle.rules.specs.Engine.{sessionOf, withMac, plainly, sealed, overChannel, Answered, answered, answerOut}
+use Rattle.rules.specs.Engine.{sessionOf, withMac, plainly, sealed, overChannel, Answered, answered}
+use Rattle.engine_laws.proofs.Sound.{answer-sound}
 use Rattle.two_runs.specs.Comparison.{pin}
 use Rattle.two_runs.specs.Runs.{Call, answer, comparisonAt, nextAt, Agree, OutAlike, Alike, Premise}
 use Rattle.two_runs.proofs.Calls.{StepSame, call-same}
@@ -132,47 +133,46 @@ module _ (c : Card) (in2 : InStage2 c) (e : List ℕ) (bytes : Bytes e) (fits : 
       sealed-leaves
 
 -- ---- the whole list
-module _ (answer-sound : (c : Card) (cmd s : List ℕ) (room : ℕ) → isSound c ≡ true → isSound (answerOut c cmd s room .card) ≡ true) where
-  next-in2 : (c : Card) (e : List ℕ) → InStage2 c → Leaves c (nextAt c (verifyCall c e)) → InStage2 (nextAt c (verifyCall c e))
-  unfolding nextAt
-  next-in2 c e h l = record {
-    sound = answer-sound c (sealedFor c 0x20 e) [] 258 (h .sound);
-    initialised = l .initialised;
-    stage = l .stage;
-    keyed = l .keyed;
-  }
+next-in2 : (c : Card) (e : List ℕ) → InStage2 c → Leaves c (nextAt c (verifyCall c e)) → InStage2 (nextAt c (verifyCall c e))
+unfolding nextAt
+next-in2 c e h l = record {
+  sound = answer-sound c (sealedFor c 0x20 e) [] 258 (h .sound);
+  initialised = l .initialised;
+  stage = l .stage;
+  keyed = l .keyed;
+}
 
-  pub wrong-entries : (es : List (List ℕ)) (c d : Card) → InStage2 c → InStage2 d → Agree c d → AllWrong (c .pins .pin) (d .pins .pin) es
-      → length es ≤ c .pins .«pin_tries» → Alike c d (verifyCalls c es) × AllCompare c (verifyCalls c es)
-  unfolding verifyCalls AllWrong AllCompare Alike
-  wrong-entries [] c d h h′ a w l = (tt, tt)
-  wrong-entries (e ∷ more) c d h h′ a w l =
-      let k : Call = verifyCall c e in
-      let same : verifyCall d e ≡ k = ap (λ (x : Channel). answer (sealedBy x) [] (zeros 258)) (sym (a .channel)) in
-      let z : isZero (c .pins .«pin_tries») ≡ false = ne-eqb (c .pins .«pin_tries») 0 (λ i. omega arith) in
-      let z′ : isZero (d .pins .«pin_tries») ≡ false = ne-eqb (d .pins .«pin_tries») 0 (λ i. omega (arith, a .pintries)) in
-      let here : comparisonAt c k ≡ some (by pin false) = verify-at c h e (w .0 .bytes) (w .0 .fits) [] (zeros 258) (omega arith) z
-      ∙ ap (λ (b : Bool). some (by pin b)) (w .0 .here) in
-      let there : comparisonAt d k ≡ some (by pin false) = ap (λ (x : Call). comparisonAt d x) (sym same)
-      ∙ verify-at d h′ e (w .0 .bytes) (w .0 .fits) [] (zeros 258) (omega arith) z′ ∙ ap (λ (b : Bool). some (by pin b)) (w .0 .there) in
-      let alike : OutAlike (comparisonAt c k) (comparisonAt d k) = outcomes (by pin false) (by pin false) here there refl in
-      let n : Leaves c (nextAt c k) = wrong-leaves c h e (w .0 .bytes) (w .0 .fits) z (w .0 .here) in
-      let n′ : Leaves d (nextAt d (verifyCall d e)) = wrong-leaves d h′ e (w .0 .bytes) (w .0 .fits) z′ (w .0 .there) in
-      let m′ : InStage2 (nextAt d k) = subst (λ (x : Call). InStage2 (nextAt d x)) same (next-in2 d e h′ n′) in
-      let p′ : nextAt d k .pins .pin ≡ d .pins .pin = ap (λ (x : Call). nextAt d x .pins .pin) (sym same) ∙ n′ .pin in
-      let t : StepSame c d k = call-same c d k (h .sound) (h′ .sound) a alike in
-      let ws : AllWrong (nextAt c k .pins .pin) (nextAt d k .pins .pin) more = rw (n .pin, p′) (w .1) in
-      let rest = wrong-entries more (nextAt c k) (nextAt d k) (next-in2 c e h n) m′ (t .next) ws (omega (arith, n .tries)) in
-      ((alike, rest .0), (here, rest .1))
-    where
-      sealedBy : Channel → List ℕ
-      sealedBy x = sealedCommand (sessionOf x) (headerWith 0x20) e
+pub wrong-entries : (es : List (List ℕ)) (c d : Card) → InStage2 c → InStage2 d → Agree c d → AllWrong (c .pins .pin) (d .pins .pin) es
+    → length es ≤ c .pins .«pin_tries» → Alike c d (verifyCalls c es) × AllCompare c (verifyCalls c es)
+unfolding verifyCalls AllWrong AllCompare Alike
+wrong-entries [] c d h h′ a w l = (tt, tt)
+wrong-entries (e ∷ more) c d h h′ a w l =
+    let k : Call = verifyCall c e in
+    let same : verifyCall d e ≡ k = ap (λ (x : Channel). answer (sealedBy x) [] (zeros 258)) (sym (a .channel)) in
+    let z : isZero (c .pins .«pin_tries») ≡ false = ne-eqb (c .pins .«pin_tries») 0 (λ i. omega arith) in
+    let z′ : isZero (d .pins .«pin_tries») ≡ false = ne-eqb (d .pins .«pin_tries») 0 (λ i. omega (arith, a .pintries)) in
+    let here : comparisonAt c k ≡ some (by pin false) = verify-at c h e (w .0 .bytes) (w .0 .fits) [] (zeros 258) (omega arith) z
+    ∙ ap (λ (b : Bool). some (by pin b)) (w .0 .here) in
+    let there : comparisonAt d k ≡ some (by pin false) = ap (λ (x : Call). comparisonAt d x) (sym same)
+    ∙ verify-at d h′ e (w .0 .bytes) (w .0 .fits) [] (zeros 258) (omega arith) z′ ∙ ap (λ (b : Bool). some (by pin b)) (w .0 .there) in
+    let alike : OutAlike (comparisonAt c k) (comparisonAt d k) = outcomes (by pin false) (by pin false) here there refl in
+    let n : Leaves c (nextAt c k) = wrong-leaves c h e (w .0 .bytes) (w .0 .fits) z (w .0 .here) in
+    let n′ : Leaves d (nextAt d (verifyCall d e)) = wrong-leaves d h′ e (w .0 .bytes) (w .0 .fits) z′ (w .0 .there) in
+    let m′ : InStage2 (nextAt d k) = subst (λ (x : Call). InStage2 (nextAt d x)) same (next-in2 d e h′ n′) in
+    let p′ : nextAt d k .pins .pin ≡ d .pins .pin = ap (λ (x : Call). nextAt d x .pins .pin) (sym same) ∙ n′ .pin in
+    let t : StepSame c d k = call-same c d k (h .sound) (h′ .sound) a alike in
+    let ws : AllWrong (nextAt c k .pins .pin) (nextAt d k .pins .pin) more = rw (n .pin, p′) (w .1) in
+    let rest = wrong-entries more (nextAt c k) (nextAt d k) (next-in2 c e h n) m′ (t .next) ws (omega (arith, n .tries)) in
+    ((alike, rest .0), (here, rest .1))
+  where
+    sealedBy : Channel → List ℕ
+    sealedBy x = sealedCommand (sessionOf x) (headerWith 0x20) e
 
-  pub wrong-entries-meet : (es : List (List ℕ)) (c d : Card) → InStage2 c → InStage2 d → Agree c d → AllWrong (c .pins .pin) (d .pins .pin) es
-      → length es ≤ c .pins .«pin_tries» → Premise c d (verifyCalls c es)
-  wrong-entries-meet es c d h h′ a w l = record {
-    sound = h .sound;
-    sound′ = h′ .sound;
-    agree = a;
-    alike = wrong-entries es c d h h′ a w l .0;
-  }
+pub wrong-entries-meet : (es : List (List ℕ)) (c d : Card) → InStage2 c → InStage2 d → Agree c d → AllWrong (c .pins .pin) (d .pins .pin) es
+    → length es ≤ c .pins .«pin_tries» → Premise c d (verifyCalls c es)
+wrong-entries-meet es c d h h′ a w l = record {
+  sound = h .sound;
+  sound′ = h′ .sound;
+  agree = a;
+  alike = wrong-entries es c d h h′ a w l .0;
+}
