@@ -8,7 +8,7 @@ use Prim.Native.Nat.{ℕ, _+_, _-_, _≤_, _<_}
 use native.Mathlib.Omega.{arith}
 use borrow.Author.Tests.{eq-eqb, ne-eqb, ltb-true}
 use lib.Dec.{eqb, ltb}
-use lib.ListN.{length, take, drop, getD}
+use lib.ListN.{length, take, drop, getD, length-take}
 use Rattle.octets.specs.Bytes.{overwrite}
 use Rattle.octets.proofs.Lists.{overwritten}
 use Rattle.message.specs.declared.Session.{Session}
@@ -27,17 +27,40 @@ use Rattle.rules.specs.declared.Command.{Command}
 use Rattle.rules.specs.declared.Command.the-variants as command
 use Rattle.rules.specs.declared.Choice.{Choice}
 use Rattle.rules.specs.declared.Choice.the-variants as choice
-use Rattle.rules.specs.Words.{success, wrongParameters, verdict, Reply, fails}
-use Rattle.rules.specs.Steps.{closed, forgotten, begins, dropped, kept, afterStep1, headerOf, atStake, commandOf, byP1, choiceOf}
+use Rattle.rules.specs.Words.{success, wrongLength, conditionsNotMet, securityNotMet, wrongParameters, verdict, Reply, fails}
+use Rattle.rules.specs.Steps.{closed, forgotten, begins, dropped, afterStep1, dataOf, headerOf, claOf, insOf, p1Of, p2Of, isInitialised, nameOf, isPlain, inStage, atStake, commandOf, byP1, choiceOf}
 use Rattle.rules.specs.Commands.{checksOf, supplyOf, replyOf}
-use Rattle.rules.specs.Engine.{Told, Decision, ends, step5, step6, byChoice}
+use Rattle.rules.specs.Engine.{sessionOf, withMac, Told, plainly, overChannel, Decision, ends, step6, byChoice, step5, byOpening, step4, byName, step3, byForm, step2, decide}
 use Rattle.commands.specs.Fits.{InRange, PathsFit}
+use Rattle.decode.specs.declared.Form.{Form}
+use Rattle.decode.specs.declared.Form.the-variants as form
+use Rattle.decode.specs.Form.{DataAt, FormSays}
 use Rattle.decode.specs.Stakes.{stakeOf, without}
 use Rattle.decode.specs.declared.Stake.{Stake}
 use Rattle.decode.specs.declared.Stake.the-variants as stake
 use Rattle.decode.proofs.Decoding.{stake-is}
 use Rattle.route.specs.declared.Way.{Way}
 use Rattle.route.specs.Routes.{tellBy, endsWith, decisionOf, Ready, Routes}
+use Rattle.route.specs.Routes.{opening as way}
+
+-- ---- what an opening's answer says of the option that it stands for
+refused-none : (o : Option (List ℕ)) → opening.Refused ≡ openingOf o → o ≡ none
+refused-none none e = refl
+refused-none (some x) e = let z : _≡_ {A = ℕ} 0 1 = cc in absurd (omega arith)
+
+record Holds (o : Option (List ℕ)) (n : ℕ) : Type 0 where
+  pub plain : List ℕ
+  pub is : o ≡ some plain
+  pub long : length plain ≡ n
+
+holds : (o : Option (List ℕ)) (n : ℕ) → opening.Bytes n ≡ openingOf o → Holds o n
+holds none n e = let z : _≡_ {A = ℕ} 0 1 = cc in absurd (omega arith)
+holds (some x) n e = record { plain = x; is = refl; long = cc }
+
+opens-long : (s : Session) (head : ℕ → List ℕ) (field x : List ℕ) → openField s head field ≡ some x → 32 ≤ length field
+unfolding openField
+opens-long s head field x e =
+    form-is (length field) (provided-some (fieldForm (length field)) (opened s (head (length field - 16)) field) x e) .low
 
 -- ---- the keys are the card's own through steps 1 to 5
 without-keys : (s : Stake) (c : Card) → without s c .keys ≡ c .keys
@@ -170,3 +193,80 @@ module _ (want : Decision) (r : Way) (d plain : List ℕ) (h : Routes want r d) 
 
 pub at-start : (plain d : List ℕ) → length d ≤ length plain → take (length d) (overwrite plain 0 d) ≡ d
 at-start plain d h = overwritten plain 0 d (omega (arith, h))
+
+-- ---- step 4
+pub header-is : (cmd : List ℕ) → 4 ≤ length cmd → (getD cmd 0 0 ∷ getD cmd 1 0 ∷ getD cmd 2 0 ∷ getD cmd 3 0 ∷ []) ≡ headerOf cmd
+header-is [] h = absurd (omega (arith, h))
+header-is (a ∷ []) h = absurd (omega (arith, h))
+header-is (a ∷ (b ∷ [])) h = absurd (omega (arith, h))
+header-is (a ∷ (b ∷ (x ∷ []))) h = absurd (omega (arith, h))
+header-is (a ∷ (b ∷ (x ∷ (y ∷ more)))) h = refl
+
+module _ (i : Instruction) (cmd : List ℕ) (c : Card) (field : List ℕ) where
+  pub step4-plain : isPlain i ≡ true → step4 i cmd c field ≡ step5 plainly i (p1Of cmd) (p2Of cmd) c field
+  unfolding step4
+  step4-plain e = rw (e)
+
+  pub step4-open : isPlain i ≡ false → inStage i (c .channel .stage) ≡ true → step4 i cmd c field ≡ way i cmd c field
+  unfolding step4
+  step4-open e f = rw (e, f)
+
+  pub step4-stage : isPlain i ≡ false → inStage i (c .channel .stage) ≡ false → step4 i cmd c field ≡ ends (plainly (fails c conditionsNotMet))
+  unfolding step4
+  step4-stage e f = rw (e, f)
+
+  -- the opening's answer r, which left the data at the start of `opened-at`
+  module _ (r : Opening) (opened-at : List ℕ) (p : Opens (openField (sessionOf (c .channel)) (commandHead (headerOf cmd)) field) r opened-at) where
+    pub open-none : r ≡ opening.Refused → way i cmd c field ≡ ends (plainly (fails (closed c) securityNotMet))
+    open-none e = ap (byOpening i (p1Of cmd) (p2Of cmd) c field) (refused-none (openField (sessionOf (c .channel)) (commandHead (headerOf cmd)) field) (sym e ∙ p .told))
+
+    module _ (n : ℕ) (e : r ≡ opening.Bytes n) where
+      held : Holds (openField (sessionOf (c .channel)) (commandHead (headerOf cmd)) field) n
+      held = holds _ n (sym e ∙ p .told)
+
+      -- m is the data's length as the code counts the part
+      pub open-some : (m : ℕ) → m ≡ n → way i cmd c field ≡ step5 overChannel i (p1Of cmd) (p2Of cmd) (withMac c (take 16 field)) (take m opened-at)
+      open-some m f =
+          ap (byOpening i (p1Of cmd) (p2Of cmd) c field) (held .is)
+          ∙ ap (step5 overChannel i (p1Of cmd) (p2Of cmd) (withMac c (take 16 field)))
+          (p .left (held .plain) (held .is) ∙ ap (λ (k : ℕ). take k opened-at) (held .long ∙ sym f))
+
+      pub open-short : n ≤ 223
+      open-short = omega (arith, held .long, p .short (held .plain) (held .is))
+
+      pub open-long : 32 ≤ length field
+      open-long = opens-long _ (commandHead (headerOf cmd)) field (held .plain) (held .is)
+
+-- ---- step 3
+module _ (cmd : List ℕ) (c : Card) (field : List ℕ) where
+  pub step3-as : (n : Named) → n ≡ nameOf (isInitialised c) (claOf cmd) (insOf cmd) → step3 cmd c field ≡ byName cmd c field n
+  unfolding step3
+  step3-as n e = ap (byName cmd c field) (sym e)
+
+-- ---- step 2
+module _ (cmd : List ℕ) (c : Card) where
+  pub decide-data : (field : List ℕ) → dataOf cmd ≡ some field → decide c cmd ≡ step3 cmd (afterStep1 cmd c) field
+  unfolding decide step2
+  decide-data field e = ap (byForm cmd (afterStep1 cmd c)) e
+
+  pub decide-wrong : dataOf cmd ≡ none → decide c cmd ≡ ends (plainly (fails (afterStep1 cmd c) wrongLength))
+  unfolding decide step2
+  decide-wrong e = ap (byForm cmd (afterStep1 cmd c)) e
+
+-- what the search for the data found
+pub found : (cmd : List ℕ) (r : Form) (start stop : ℕ) → FormSays cmd r → r ≡ form.Data start stop → DataAt cmd start stop
+found cmd r start stop h e = subst (FormSays cmd) e h
+
+pub lost : (cmd : List ℕ) (r : Form) → FormSays cmd r → r ≡ form.Wrong → dataOf cmd ≡ none
+lost cmd r h e = subst (FormSays cmd) e h
+
+-- the opening as the code asks for it, byte by byte of the header
+pub opens-as : (cmd : List ℕ) (c : Card) (field : List ℕ) (s : Session) → s ≡ sessionOf (c .channel) → 4 ≤ length cmd → (r : Opening) (at : List ℕ)
+    → Opens (openField s (commandHead (getD cmd 0 0 ∷ getD cmd 1 0 ∷ getD cmd 2 0 ∷ getD cmd 3 0 ∷ [])) field) r at
+    → Opens (openField (sessionOf (c .channel)) (commandHead (headerOf cmd)) field) r at
+opens-as cmd c field s e h r at p =
+    subst (λ (x : Session). Opens (openField x (commandHead (headerOf cmd)) field) r at) e
+    (subst (λ (x : List ℕ). Opens (openField s (commandHead x) field) r at) (header-is cmd h) p)
+
+pub part-short : {n : ℕ} (s : List ℕ) → n ≤ 255 → length (take n s) ≤ 255
+part-short {n = n} s h = omega (arith, h, length-take n s)

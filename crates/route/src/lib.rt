@@ -80,7 +80,7 @@ fn step_5(over: bool, i: Instruction, p1: u8, p2: u8, card: Card, data: &[u8]) -
 }
 
 // The card's end of the channel.
-fn session_of(channel: Channel) -> Session
+pub fn session_of(channel: Channel) -> Session
     ensures { λ r. ⌜ r ≡ sessionOf channel ⌝ }
 {
     let enc_key = channel.enc_key;

@@ -1,85 +1,86 @@
+-- The field opens, or the route ends with 6982.
+-- Assumes nothing.
+use Rattle.route.proofs.Routing.{opens-as}
+use lib.ListN.{length-take}
+use native.Mathlib.Omega.{arith}
+use Prim.Native.Nat.{ℕ, _-_}
+use Rattle.rules.specs.Steps.{closed}
+use Rattle.rules.specs.Words.{securityNotMet}
+use mathlib.Core.Bool.{false}
+use Rattle.route.proofs.Routing.{ends-route, open-none, open-some, open-short, open-long, routes-as}
 use borrow.Author.Needs.{needs}
 use Rattle.route.proofs.open.Statement.{statement}
 use Rattle.route.proofs.open.Tie as tie
-use Rattle.route.proofs.open.Reads as reads
-use Rattle.route.proofs.open.Lts as lts
-use Rattle.decode.proofs.close.Reads as close-reads
-use Rattle.route.proofs.ends.Reads as ends-reads
-use Rattle.route.proofs.opened_way.Reads as opened-way-reads
-use Rattle.route.proofs.session_of.Reads as session-of-reads
-use Rattle.sealing.proofs.open_command.Reads as open-command-reads
 
--- src/lib.rt:129:14
 shared-slice-read-p1 : tie.Need-shared-slice-read-p1
 shared-slice-read-p1 c = search needs
 
--- src/lib.rt:130:14
 shared-slice-read-p2 : tie.Need-shared-slice-read-p2
 shared-slice-read-p2 c = search needs
 
--- src/lib.rt:131:9
 session-of-requires : tie.Need-session-of-requires
 session-of-requires c κs = search needs
 
--- src/lib.rt:135:10
 shared-slice-read-t12 : tie.Need-shared-slice-read-t12
 shared-slice-read-t12 c = search needs
 
--- src/lib.rt:135:18
 shared-slice-read-t17 : tie.Need-shared-slice-read-t17
 shared-slice-read-t17 c = search needs
 
--- src/lib.rt:137:9
 slice-aggregate-open-command : tie.Need-slice-aggregate-open-command
 slice-aggregate-open-command c = search needs
 
--- src/lib.rt:133:29
 open-command-requires : tie.Need-open-command-requires
 open-command-requires c κs = search needs
 
--- src/lib.rt:133:24
 enum-known-n : tie.Need-enum-known-n
 enum-known-n c = search needs
 
--- src/lib.rt:139:28
 enum-told : tie.Need-enum-told
 enum-told c = search needs
 
--- src/lib.rt:139:28
 close-requires : tie.Need-close-requires
 close-requires c κs = search needs
 
--- src/lib.rt:139:9
 ends-requires : tie.Need-ends-requires
 ends-requires c κs = search needs
 
--- src/lib.rt:139:9
 returns : tie.Need-returns
-returns c = ?
+returns c = let g = c .before .before .before .before .before .before .before .before .before .before .before .before .before .before .before .args in
+    let o = c .before .before .before .before .before .open-command in
+    let q = opens-as (g .cmd .now) (g .card) (g .field .now) (c .before .before .before .before .before .before .before .before .before .session-of .result) (c .before .before .before .before .before .before .before .before .before .session-of .ensures) (c .before .before .before .before .before .before .before .before .before .before .before .before .before .before .before .pre .0) (o .result) (o .last .1 .1 .1 .0) (o .ensures) in
+    rw (c .ends .ensures, c .before .close .ensures) (ends-route false (closed (g .card)) securityNotMet _ _ (open-none (g .i) (g .cmd .now) (g .card) (g .field .now) (o .result) (o .last .1 .1 .1 .0) q (c .before .before .enum-told .given .1)) (c .before .before .before .before .before .before .before .before .before .before .before .before .before .before .before .pre .2))
 
--- src/lib.rt:141:40
 sub-opened-way : tie.Need-sub-opened-way
 sub-opened-way c = search needs
 
--- src/lib.rt:141:40
 part-opened-way-start : tie.Need-part-opened-way-start
 part-opened-way-start c = search needs
 
--- src/lib.rt:141:40
 part-opened-way-end : tie.Need-part-opened-way-end
-part-opened-way-end c = ?
+part-opened-way-end c = let g = c .before .before .before .before .before .before .before .before .before .before .before .before .before .before .before .args in
+    let o = c .before .before .before .before .before .open-command in
+    let q = opens-as (g .cmd .now) (g .card) (g .field .now) (c .before .before .before .before .before .before .before .before .before .session-of .result) (c .before .before .before .before .before .before .before .before .before .session-of .ensures) (c .before .before .before .before .before .before .before .before .before .before .before .before .before .before .before .pre .0) (o .result) (o .last .1 .1 .1 .0) (o .ensures) in
+    omega (arith, open-short (g .i) (g .cmd .now) (g .card) (g .field .now) (o .result) (o .last .1 .1 .1 .0) q (c .before .before .n .given .0 .0) (c .before .before .n .given .1), o .kept .1 .1 .1 .0)
 
--- src/lib.rt:141:5
 opened-way-requires : tie.Need-opened-way-requires
-opened-way-requires c κs = ?
+opened-way-requires c κs = let g = c .before .before .before .before .before .before .before .before .before .before .before .before .before .before .before .before .before .args in
+    let o = c .before .before .before .before .before .before .before .open-command in
+    let q = opens-as (g .cmd .now) (g .card) (g .field .now) (c .before .before .before .before .before .before .before .before .before .before .before .session-of .result) (c .before .before .before .before .before .before .before .before .before .before .before .session-of .ensures) (c .before .before .before .before .before .before .before .before .before .before .before .before .before .before .before .before .before .pre .0) (o .result) (o .last .1 .1 .1 .0) (o .ensures) in
+    let n : ℕ = c .before .before .before .before .n .given .0 .0 in
+    let e = c .before .before .before .before .n .given .1 in
+    (open-long (g .i) (g .cmd .now) (g .card) (g .field .now) (o .result) (o .last .1 .1 .1 .0) q n e, omega (arith, open-short (g .i) (g .cmd .now) (g .card) (g .field .now) (o .result) (o .last .1 .1 .1 .0) q n e, length-take (n - 0) (o .last .1 .1 .1 .0)), c .before .before .before .before .before .before .before .before .before .before .before .before .before .before .before .before .before .pre .1, c .before .before .before .before .before .before .before .before .before .before .before .before .before .before .before .before .before .pre .2)
 
--- src/lib.rt:125:1
 same-length : tie.Need-same-length
 same-length c = search needs
 
--- src/lib.rt:125:1
 returns-2 : tie.Need-returns-2
-returns-2 c = ?
+returns-2 c = let g = c .before .before .before .before .before .before .before .before .before .before .before .before .before .before .before .before .before .before .before .before .args in
+    let o = c .before .before .before .before .before .before .before .before .before .before .open-command in
+    let q = opens-as (g .cmd .now) (g .card) (g .field .now) (c .before .before .before .before .before .before .before .before .before .before .before .before .before .before .session-of .result) (c .before .before .before .before .before .before .before .before .before .before .before .before .before .before .session-of .ensures) (c .before .before .before .before .before .before .before .before .before .before .before .before .before .before .before .before .before .before .before .before .pre .0) (o .result) (o .last .1 .1 .1 .0) (o .ensures) in
+    let n : ℕ = c .before .before .before .before .before .before .before .n .given .0 .0 in
+    let e = c .before .before .before .before .before .before .before .n .given .1 in
+    routes-as _ _ _ _ (open-some (g .i) (g .cmd .now) (g .card) (g .field .now) (o .result) (o .last .1 .1 .1 .0) q n e (n - 0) (omega arith)) (c .before .before .opened-way .ensures)
 
 pub open-spec : {M : Type 1} → statement M
 open-spec =

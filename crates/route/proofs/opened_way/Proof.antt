@@ -1,3 +1,5 @@
+-- The opened data go on, and stand at the start of the scratch.
+-- Assumes nothing.
 use Rattle.rules.specs.Engine.{overChannel, withMac, step5}
 use Rattle.card.specs.declared.Card.{Card}
 use native.Mathlib.Omega.{arith}
@@ -9,46 +11,31 @@ use Rattle.route.proofs.Routing.{stored, routes-as, at-start}
 use borrow.Author.Needs.{needs}
 use Rattle.route.proofs.opened_way.Statement.{statement}
 use Rattle.route.proofs.opened_way.Tie as tie
-use Rattle.route.proofs.opened_way.Reads as reads
-use Rattle.route.proofs.opened_way.Lts as lts
-use Rattle.octets.proofs.block.Reads as block-reads
-use Rattle.octets.proofs.put.Reads as put-reads
-use Rattle.route.proofs.step_5.Reads as step-5-reads
-use Rattle.route.proofs.with_mac.Reads as with-mac-reads
 
--- src/lib.rt:119:29
 sub-block : tie.Need-sub-block
 sub-block c = search needs
 
--- src/lib.rt:119:29
 part-block-start : tie.Need-part-block-start
 part-block-start c = search needs
 
--- src/lib.rt:119:29
 part-block-end : tie.Need-part-block-end
 part-block-end c = search needs
 
--- src/lib.rt:119:9
 block-requires : tie.Need-block-requires
 block-requires c κs = search needs
 
--- src/lib.rt:120:5
 put-requires : tie.Need-put-requires
 put-requires c κs = search needs
 
--- src/lib.rt:121:29
 with-mac-requires : tie.Need-with-mac-requires
 with-mac-requires c κs = search needs
 
--- src/lib.rt:121:5
 step-5-requires : tie.Need-step-5-requires
 step-5-requires c κs = rw (c .with-mac .ensures) (c .before .before .before .before .before .before .before .before .before .before .pre .3)
 
--- src/lib.rt:107:1
 same-length : tie.Need-same-length
 same-length c = search needs
 
--- src/lib.rt:107:1
 returns : tie.Need-returns
 returns c = let g = c .before .before .before .before .before .before .before .before .before .before .before .args in
     let p = c .before .before .before .before .before .before .before .before .before .before .before .pre in

@@ -1,63 +1,55 @@
+-- A known instruction goes on; the others end.
+-- Assumes nothing.
+use Rattle.rules.specs.declared.Named.the-variants as named
+use Rattle.rules.specs.Words.{unknownClass, unknownInstruction}
+use mathlib.Core.Bool.{false}
+use mathlib.Core.Path.{sym, _∙_}
+use Rattle.route.proofs.Routing.{routes-as, ends-route, step3-as}
 use borrow.Author.Needs.{needs}
 use Rattle.route.proofs.step_3.Statement.{statement}
 use Rattle.route.proofs.step_3.Tie as tie
-use Rattle.route.proofs.step_3.Reads as reads
-use Rattle.route.proofs.step_3.Lts as lts
-use Rattle.decode.proofs.name.Reads as name-reads
-use Rattle.route.proofs.ends.Reads as ends-reads
-use Rattle.route.proofs.step_4.Reads as step-4-reads
 
--- src/lib.rt:142:53
 shared-slice-read-name : tie.Need-shared-slice-read-name
 shared-slice-read-name c = search needs
 
--- src/lib.rt:142:61
 shared-slice-read-name-2 : tie.Need-shared-slice-read-name-2
 shared-slice-read-name-2 c = search needs
 
--- src/lib.rt:142:9
 name-requires : tie.Need-name-requires
 name-requires c κs = search needs
 
--- src/lib.rt:144:22
 enum-known-named : tie.Need-enum-known-named
 enum-known-named c = search needs
 
--- src/lib.rt:144:28
 step-4-requires : tie.Need-step-4-requires
 step-4-requires c κs = search needs
 
--- src/lib.rt:145:30
 enum-told : tie.Need-enum-told
 enum-told c = search needs
 
--- src/lib.rt:145:30
 ends-requires : tie.Need-ends-requires
 ends-requires c κs = search needs
 
--- src/lib.rt:146:27
 enum-told-2 : tie.Need-enum-told-2
 enum-told-2 c = search needs
 
--- src/lib.rt:146:27
 ends-requires-2 : tie.Need-ends-requires-2
 ends-requires-2 c κs = search needs
 
--- src/lib.rt:138:1
 same-length : tie.Need-same-length
 same-length c = search needs
 
--- src/lib.rt:138:1
 returns : tie.Need-returns
-returns c = ?
+returns c = let g = c .before .before .before .before .before .before .before .before .before .before .before .before .before .before .args in
+    routes-as _ _ _ _ (step3-as (g .cmd .now) (g .card) (g .field .now) _ (sym (c .before .before .before .before .before .named .given .1) ∙ c .before .before .before .before .before .before .before .name .ensures)) (c .before .before .step-4 .ensures)
 
--- src/lib.rt:138:1
 returns-2 : tie.Need-returns-2
-returns-2 c = ?
+returns-2 c = let g = c .before .before .before .before .before .before .before .before .before .before .args in
+    rw (c .ends .ensures) (ends-route false (g .card) unknownClass _ _ (step3-as (g .cmd .now) (g .card) (g .field .now) named.WrongClass (sym (c .before .enum-told .given .1) ∙ c .before .before .before .name .ensures)) (c .before .before .before .before .before .before .before .before .before .before .pre .3))
 
--- src/lib.rt:138:1
 returns-3 : tie.Need-returns-3
-returns-3 c = ?
+returns-3 c = let g = c .before .before .before .before .before .before .before .before .before .before .args in
+    rw (c .ends2 .ensures) (ends-route false (g .card) unknownInstruction _ _ (step3-as (g .cmd .now) (g .card) (g .field .now) named.Unknown (sym (c .before .enum-told2 .given .1) ∙ c .before .before .before .name .ensures)) (c .before .before .before .before .before .before .before .before .before .before .pre .3))
 
 pub step-3-spec : {M : Type 1} → statement M
 step-3-spec =

@@ -1,66 +1,61 @@
+-- Plain, over the channel, or not in this stage.
+-- Assumes nothing.
+use Rattle.rules.specs.Words.{conditionsNotMet}
+use native.Mathlib.Omega.{arith}
+use lib.ListN.{length, take}
+use Prim.Native.Nat.{ℕ}
+use mathlib.Core.List.{List}
+use mathlib.Core.Bool.{false}
+use mathlib.Core.Path.{_≡_, sym, subst, _∙_}
+use Rattle.route.proofs.Routing.{stored, routes-as, at-start, ends-route, step4-plain, step4-open, step4-stage}
 use borrow.Author.Needs.{needs}
 use Rattle.route.proofs.step_4.Statement.{statement}
 use Rattle.route.proofs.step_4.Tie as tie
-use Rattle.route.proofs.step_4.Reads as reads
-use Rattle.route.proofs.step_4.Lts as lts
-use Rattle.decode.proofs.in_stage.Reads as in-stage-reads
-use Rattle.decode.proofs.is_plain.Reads as is-plain-reads
-use Rattle.octets.proofs.put.Reads as put-reads
-use Rattle.route.proofs.ends.Reads as ends-reads
-use Rattle.route.proofs.open.Reads as open-reads
-use Rattle.route.proofs.step_5.Reads as step-5-reads
 
--- src/lib.rt:127:8
 is-plain-requires : tie.Need-is-plain-requires
 is-plain-requires c κs = search needs
 
--- src/lib.rt:128:9
 put-requires : tie.Need-put-requires
 put-requires c κs = search needs
 
--- src/lib.rt:129:33
 shared-slice-read-step-5 : tie.Need-shared-slice-read-step-5
 shared-slice-read-step-5 c = search needs
 
--- src/lib.rt:129:41
 shared-slice-read-step-5-2 : tie.Need-shared-slice-read-step-5-2
 shared-slice-read-step-5-2 c = search needs
 
--- src/lib.rt:129:9
 step-5-requires : tie.Need-step-5-requires
 step-5-requires c κs = search needs
 
--- src/lib.rt:129:9
 same-length : tie.Need-same-length
 same-length c = search needs
 
--- src/lib.rt:129:9
 returns : tie.Need-returns
-returns c = ?
+returns c = let g = c .before .before .before .before .before .before .before .before .before .before .before .before .args in
+    let p = c .before .before .before .before .before .before .before .before .before .before .before .before .pre in
+    stored _ _ (g .field .now) _
+    (routes-as _ _ _ (g .field .now) (step4-plain (g .i) (g .cmd .now) (g .card) (g .field .now) (sym (c .before .before .before .before .before .before .before .before .is-plain .ensures) ∙ c .before .before .before .before .before .before .before .if1 .taken)) (c .step-5 .ensures))
+    (subst (λ (x : List ℕ). take (length (g .field .now)) x ≡ g .field .now) (sym (c .before .before .before .before .before .put .ensures)) (at-start (g .plain .now) (g .field .now) (omega (arith, p .1, p .2))))
 
--- src/lib.rt:131:8
 in-stage-requires : tie.Need-in-stage-requires
 in-stage-requires c κs = search needs
 
--- src/lib.rt:132:9
 open-requires : tie.Need-open-requires
 open-requires c κs = search needs
 
--- src/lib.rt:132:9
 same-length-2 : tie.Need-same-length-2
 same-length-2 c = search needs
 
--- src/lib.rt:132:9
 returns-2 : tie.Need-returns-2
-returns-2 c = ?
+returns-2 c = let g = c .before .before .before .before .before .before .before .before .before .before .before .args in
+    routes-as _ _ _ _ (step4-open (g .i) (g .cmd .now) (g .card) (g .field .now) (sym (c .before .before .before .before .before .before .before .is-plain .ensures) ∙ c .before .before .before .before .before .before .if1 .left) (sym (c .before .before .before .before .before .in-stage .ensures) ∙ c .before .before .before .before .if2 .taken)) (c .before .before .«open» .ensures)
 
--- src/lib.rt:134:5
 ends-requires : tie.Need-ends-requires
 ends-requires c κs = search needs
 
--- src/lib.rt:123:1
 returns-3 : tie.Need-returns-3
-returns-3 c = ?
+returns-3 c = let g = c .before .before .before .before .before .before .before .before .args in
+    rw (c .ends .ensures) (ends-route false (g .card) conditionsNotMet _ _ (step4-stage (g .i) (g .cmd .now) (g .card) (g .field .now) (sym (c .before .before .before .before .is-plain .ensures) ∙ c .before .before .before .if1 .left) (sym (c .before .before .in-stage .ensures) ∙ c .before .if2 .left)) (c .before .before .before .before .before .before .before .before .pre .3))
 
 pub step-4-spec : {M : Type 1} → statement M
 step-4-spec =
