@@ -1,27 +1,16 @@
 // A trial of the templates that commands answer, and of LOAD's reader: each line has what a writer wrote, in hex, or says under which P1
 // a keypair template is taken. Every length is in bytes.
-use libc::STDOUT_FILENO;
-
-fn write(text: &[u8]) {
-    io::write_all(STDOUT_FILENO, text);
-}
-
-fn write_hex(s: &[u8]) {
-    let mut i = 0;
-    while i < s.len() {
-        io::print_hex(STDOUT_FILENO, s[i] as u64, 2);
-        i += 1;
-    }
-}
+use print::say;
+use print::say_hex;
 
 // The first n bytes of a buffer.
 fn show(name: &[u8], buf: &[u8], n: usize) {
-    write(name);
-    write(b": ");
+    say(name);
+    say(b": ");
     if n <= buf.len() {
-        write_hex(&buf[..n]);
+        say_hex(&buf[..n]);
     }
-    write(b"\n");
+    say(b"\n");
 }
 
 fn signature(name: &[u8], r: &[u8; 32], s: &[u8; 32]) {
@@ -69,14 +58,14 @@ fn answers() {
 }
 
 fn load(name: &[u8], s: &[u8]) {
-    write(name);
+    say(name);
     if keypair::is_keypair(s, false) {
-        write(b": P1 01\n");
+        say(b": P1 01\n");
     } else {
         if keypair::is_keypair(s, true) {
-            write(b": P1 02\n");
+            say(b": P1 02\n");
         } else {
-            write(b": not taken\n");
+            say(b": not taken\n");
         }
     }
 }

@@ -2,19 +2,14 @@
 // Every length is in bytes: keys 32, IV and MAC 16, data at most 223.
 // Proved: every function is safe and ends. What the ends answer is compared, not proved: that they seal and open as the definitions say
 // is proved in the crates below.
-mod card;
-mod content;
-mod damage;
-mod form;
 mod messages;
-mod outcome;
-mod report;
-mod room;
-mod tally;
 
+use ends::sessions;
 use message::Session;
 use messages::Ends;
-use tally::Tally;
+use refusals::damage;
+use refusals::form;
+use refusals::room;
 
 // The session that both ends begin with.
 fn first_session() -> Session {
@@ -31,18 +26,10 @@ fn first_session() -> Session {
     }
 }
 
-fn say_total(t: Tally) {
-    report::say(b"checks made ");
-    report::say_number(t.checks);
-    report::say(b", failures ");
-    report::say_number(t.failures);
-    report::say(b"\n");
-}
-
 fn main() {
     let s = first_session();
-    report::say(b"Both ends begin with this session\n");
-    tally::say_session(s);
+    print::say(b"Both ends begin with this session\n");
+    sessions::say_session(s);
     let e = messages::run(Ends {
         terminal: s,
         card: s,
@@ -50,5 +37,5 @@ fn main() {
     });
     let damaged = damage::run(e.tally, e.card);
     let formed = form::run(damaged, e.card);
-    say_total(room::run(formed, e.card));
+    tally::say_total(room::run(formed, e.card));
 }

@@ -1,12 +1,10 @@
 // The scripted exchange: the terminal seals a command, the card opens it and seals its answer, the terminal unseals that. The sessions
 // of both ends go on from message to message. Every length is in bytes.
-use crate::card;
-use crate::content;
-use crate::report;
-use crate::tally;
-use crate::tally::Tally;
+use ends::card;
+use ends::sessions;
 use message::DATA_MAX_BYTES;
 use message::Session;
+use tally::Tally;
 use terminal::SEAL_ROOM_BYTES;
 use terminal::UNSEAL_ROOM_BYTES;
 
@@ -37,8 +35,8 @@ fn open_at_card(e: Ends, sent: &[u8], command: &[u8]) -> Ends {
     let mut plain = [0u8; card::PLAIN_BYTES];
     let o = card::open_command(e.card, command, &mut plain);
     let n = content::bounded(o.count, &plain);
-    report::say(b"  card opens ");
-    report::say_length(n);
+    print::say(b"  card opens ");
+    print::say_length(n);
     let same = o.is_open & octets::same(&plain[..n], sent);
     let t = tally::judge(
         e.tally,
@@ -47,7 +45,7 @@ fn open_at_card(e: Ends, sent: &[u8], command: &[u8]) -> Ends {
         b"the card does not open the command to its data",
     );
     let card = o.session;
-    let compared = tally::compare_ends(t, terminal, card);
+    let compared = sessions::compare_ends(t, terminal, card);
     Ends {
         terminal: terminal,
         card: card,
@@ -57,7 +55,7 @@ fn open_at_card(e: Ends, sent: &[u8], command: &[u8]) -> Ends {
 
 // The terminal seals data under a header, and the card opens the command.
 fn send_command(e: Ends, header: [u8; 4], sent: &[u8]) -> Ends {
-    report::say_bytes(b"  data", sent);
+    print::say_bytes(b"  data", sent);
     let mut buf = [0u8; SEAL_ROOM_BYTES];
     let o = terminal::seal(
         e.terminal,
@@ -69,7 +67,7 @@ fn send_command(e: Ends, header: [u8; 4], sent: &[u8]) -> Ends {
         &mut buf,
     );
     let n = content::bounded(o.count, &buf);
-    report::say_bytes(b"  command", &buf[..n]);
+    print::say_bytes(b"  command", &buf[..n]);
     let t = tally::expect(e.tally, o.refusal == 0, b"SEAL refuses");
     let terminal = o.session;
     let card = e.card;
@@ -96,8 +94,8 @@ fn unseal_at_terminal(e: Ends, answer: &[u8], status: [u8; 2], response: &[u8]) 
     let mut buf = [0u8; UNSEAL_ROOM_BYTES];
     let o = terminal::unseal(e.terminal, response, &mut buf);
     let n = content::bounded(o.count, &buf);
-    report::say(b"  terminal unseals ");
-    report::say_length(n);
+    print::say(b"  terminal unseals ");
+    print::say_length(n);
     let same = (o.refusal == 0) & is_answer(&buf[..n], answer, status);
     let t = tally::judge(
         e.tally,
@@ -106,7 +104,7 @@ fn unseal_at_terminal(e: Ends, answer: &[u8], status: [u8; 2], response: &[u8]) 
         b"the terminal does not unseal the response to its data and status word",
     );
     let terminal = o.session;
-    let compared = tally::compare_ends(t, terminal, card);
+    let compared = sessions::compare_ends(t, terminal, card);
     Ends {
         terminal: terminal,
         card: card,
@@ -126,14 +124,14 @@ fn send_response(e: Ends, answer: &[u8], status: [u8; 2]) -> Ends {
             tally: t,
         };
     }
-    report::say_bytes(b"  answer", answer);
-    report::say(b"  status word ");
-    report::say_hex(&status);
-    report::say(b"\n");
+    print::say_bytes(b"  answer", answer);
+    print::say(b"  status word ");
+    print::say_hex(&status);
+    print::say(b"\n");
     let mut buf = [0u8; RESPONSE_ROOM_BYTES];
     let r = sealing::seal_response(e.card, answer, status[0], status[1], &mut buf);
     let n = content::bounded(r.count, &buf);
-    report::say_bytes(b"  response", &buf[..n]);
+    print::say_bytes(b"  response", &buf[..n]);
     let card = r.session;
     let t = e.tally;
     unseal_at_terminal(
@@ -158,11 +156,11 @@ fn exchange(
     answer_bytes: usize,
     status: [u8; 2],
 ) -> Ends {
-    report::say(b"message ");
-    report::say_byte_number(number);
-    report::say(b", header ");
-    report::say_hex(&header);
-    report::say(b"\n");
+    print::say(b"message ");
+    print::say_byte_number(number);
+    print::say(b", header ");
+    print::say_hex(&header);
+    print::say(b"\n");
     let mut sent = [0u8; DATA_MAX_BYTES];
     content::fill(&mut sent, number, 7);
     let n = content::bounded(data_bytes, &sent);

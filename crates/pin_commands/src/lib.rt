@@ -15,6 +15,7 @@ ghost use Rattle.rules.specs.Commands.{isSecret, changeChecks, withPin, withPuk
 ghost use Rattle.rules.specs.Commands.{unblockChecks, pukRight, pukWrong, unblockReply};
 ghost use Rattle.pin_commands.specs.Parts.{isUnblocking, statusBytes};
 use answer_templates::put_status;
+use byte_tests::digits;
 use card::Card;
 use card::Channel;
 use card::KEY_BYTES;
@@ -36,7 +37,6 @@ use rules::SUCCESS;
 use rules::Secret;
 use rules::TRIES_LEFT;
 use rules::WRONG_DATA;
-use sound_parts::digits;
 
 // UNBLOCK's data: the PUK, then the new PIN.
 const UNBLOCK_BYTES: usize = 18;

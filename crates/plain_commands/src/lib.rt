@@ -281,8 +281,8 @@ fn is_content(content: &[u8]) -> bool
     if content.len() != CONTENT_BYTES {
         return false;
     }
-    let pin = sound_parts::digits(&content[0..PUK_AT]);
-    let puk = sound_parts::digits(&content[PUK_AT..SECRET_AT]);
+    let pin = byte_tests::digits(&content[0..PUK_AT]);
+    let puk = byte_tests::digits(&content[PUK_AT..SECRET_AT]);
     pin & puk
 }
 

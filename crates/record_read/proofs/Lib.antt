@@ -1,1 +1,1 @@
-pub mod PlaceFacts
+pub mod PutFacts

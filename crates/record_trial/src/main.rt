@@ -8,8 +8,8 @@ use card::Pairing;
 use card::Path;
 use card::Pins;
 use card::Slot;
-use card::wide;
-use libc::STDOUT_FILENO;
+use print::say;
+use print::say_size;
 use record::ROOM_BYTES;
 
 // Room for a record and a few bytes behind it.
@@ -31,14 +31,6 @@ struct Tally {
     kept: usize,
 }
 
-fn say(text: &[u8]) {
-    io::write_all(STDOUT_FILENO, text);
-}
-
-fn say_number(n: usize) {
-    io::print_decimal(STDOUT_FILENO, n as u64);
-}
-
 // The first n bytes, or all where there are fewer.
 fn part(s: &[u8], n: usize) -> &[u8] {
     if s.len() < n {
@@ -48,18 +40,9 @@ fn part(s: &[u8], n: usize) -> &[u8] {
 }
 
 // ---- cards
-// Bytes that count up from the first.
-fn count_up(dst: &mut [u8], first: u8) {
-    let mut i = 0;
-    while i < dst.len() {
-        dst[i] = std::num::wrapping_add_u8(first, (i % 256) as u8);
-        i += 1;
-    }
-}
-
 fn key(first: u8) -> [u8; card::KEY_BYTES] {
     let mut key = [0u8; card::KEY_BYTES];
-    count_up(&mut key, first);
+    content::fill(&mut key, first, 1);
     key
 }
 
@@ -76,7 +59,7 @@ fn path_of(components: usize) -> Path
 {
     let len = 4 * components;
     let mut bytes = [0u8; card::PATH_MAX_BYTES];
-    count_up(&mut bytes[..len], 0x80);
+    content::fill(&mut bytes[..len], 0x80, 1);
     Path {
         len: len as u8,
         bytes,
@@ -112,9 +95,9 @@ fn slots_of(filled: usize) -> [Slot; Card::SLOTS] {
 
 fn fresh() -> Card {
     let mut uid = [0u8; card::UID_BYTES];
-    count_up(&mut uid, 0xA0);
+    content::fill(&mut uid, 0xA0, 1);
     let mut public_key = [0u8; card::PUBLIC_KEY_BYTES];
-    count_up(&mut public_key, 4);
+    content::fill(&mut public_key, 4, 1);
     Card::fresh(uid, public_key)
 }
 
@@ -171,7 +154,7 @@ fn say_difference(a: &[u8], b: &[u8]) {
         return;
     }
     say(b" bytes, different at byte ");
-    say_number(difference(a, b));
+    say_size(difference(a, b));
     say(b"\n");
 }
 
@@ -186,15 +169,15 @@ fn round_trip(name: &[u8], card: Card) {
     let m = rewritten.count;
     say(name);
     say(b": refusals ");
-    say_number(wide(written.refusal));
+    print::say_byte_number(written.refusal);
     say(b" ");
-    say_number(wide(answer.refusal));
+    print::say_byte_number(answer.refusal);
     say(b" ");
-    say_number(wide(rewritten.refusal));
+    print::say_byte_number(rewritten.refusal);
     say(b", ");
-    say_number(n);
+    say_size(n);
     say(b" and ");
-    say_number(m);
+    say_size(m);
     say_difference(part(&first, n), part(&again, m));
 }
 
@@ -241,11 +224,11 @@ fn read_one(t: Tally, s: &[u8]) -> Tally {
 fn say_tally(name: &[u8], t: Tally) {
     say(name);
     say(b": ");
-    say_number(t.tried);
+    say_size(t.tried);
     say(b" read, ");
-    say_number(t.accepted);
+    say_size(t.accepted);
     say(b" accepted, ");
-    say_number(t.kept);
+    say_size(t.kept);
     say(b" written back byte for byte\n");
 }
 
@@ -316,11 +299,11 @@ fn field(s: &[u8], k: usize) -> &[u8] {
     let mut at = 0;
     let mut i = 0;
     while i < k {
-        let span = record_read::content_span(s, at);
+        let span = record_spans::content_span(s, at);
         at = span.end;
         i += 1;
     }
-    let span = record_read::content_span(s, at);
+    let span = record_spans::content_span(s, at);
     let end = span.end;
     &s[at..end]
 }

@@ -10,7 +10,8 @@ use Rattle.card.specs.declared.Card.{Card}
 use Rattle.card.specs.Sound.{isSound}
 use Rattle.record.specs.Fields.{fields, recordOf}
 use Rattle.record.specs.Answers.{writeRoom, writeRefusal, writeBytes}
-use Rattle.record_write.specs.Wrote.{Put, Wrote}
+use Rattle.record_write.specs.Wrote.{Wrote}
+use Rattle.record_fields.specs.Put.{Put}
 
 pub wrote-unsound : (c : Card) (b : List ℕ) → isSound c ≡ false → Wrote c (record { refusal = 1; count = 0 }) b b
 unfolding writeRefusal writeBytes

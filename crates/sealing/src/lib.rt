@@ -6,10 +6,11 @@ ghost use mathlib.Core.List.{[], _∷_, _++_};
 ghost use Prim.Native.Nat.{_+_, _-_, _≤_, _<_, _%_};
 ghost use lib.ListN.{length, take, drop};
 ghost use Rattle.padding.specs.Padding.{paddedBytes};
-ghost use Rattle.message.specs.Message.{commandHead, responseHead, fieldForm, opened, openField};
+ghost use Rattle.message.specs.Message.{commandHead, responseHead, opened, openField};
 ghost use Rattle.sealing.specs.Promise.{FieldSealed, Opens, ResponseSealed};
-use message::FIELD_MAX_BYTES;
-use message::FIELD_MIN_BYTES;
+use heads::command_head;
+use heads::response_head;
+use heads::well_formed;
 use message::MAC_BYTES;
 use message::Opening;
 use message::Session;
@@ -27,41 +28,6 @@ pub struct Response {
     pub session: Session,
 }
 
-// The head block of a command: CLA INS P1 P2, Lc, and 11 zeros. Lc counts the MAC and the ciphertext, in bytes.
-pub fn command_head(header: [u8; 4], ciphertext_bytes: usize) -> [u8; 16]
-    requires { ⌜ «ciphertext_bytes» < 240 ⌝ }
-    ensures { λ r. ⌜ r ≡ commandHead header «ciphertext_bytes» ⌝ }
-{
-    let lc = (MAC_BYTES + ciphertext_bytes) as u8;
-    [
-        header[0],
-        header[1],
-        header[2],
-        header[3],
-        lc,
-        0,
-        0,
-        0,
-        0,
-        0,
-        0,
-        0,
-        0,
-        0,
-        0,
-        0,
-    ]
-}
-
-// The head block of a response: Lr and 15 zeros. Lr counts the ciphertext, in bytes.
-pub fn response_head(ciphertext_bytes: usize) -> [u8; 16]
-    requires { ⌜ «ciphertext_bytes» < 240 ⌝ }
-    ensures { λ r. ⌜ r ≡ responseHead «ciphertext_bytes» ⌝ }
-{
-    let lr = ciphertext_bytes as u8;
-    [lr, 0, 0, 0, 0, 0, 0, 0, 0, 0, 0, 0, 0, 0, 0, 0]
-}
-
 // Seals the data_bytes bytes that stand MAC_BYTES into buf: they are padded and enciphered where they stand, in the part of buf that is
 // lent to the CBC routine, and the MAC over head and ciphertext is written in front of them. The answer is the MAC.
 pub fn seal_field(s: Session, head: [u8; 16], buf: &mut [u8], data_bytes: usize) -> [u8; 16]
@@ -77,16 +43,6 @@ pub fn seal_field(s: Session, head: [u8; 16], buf: &mut [u8], data_bytes: usize)
     let mac = cbc::cbc_mac(&mac_key, head, &buf[MAC_BYTES..end]);
     octets::put(buf, 0, &mac);
     mac
-}
-
-// Whether a field of this many bytes can be one: 32 to 240, and a multiple of 16.
-fn well_formed(field_bytes: usize) -> bool
-    ensures { λ r. ⌜ r ≡ fieldForm «field_bytes» ⌝ }
-{
-    let long_enough = FIELD_MIN_BYTES <= field_bytes;
-    let short_enough = field_bytes <= FIELD_MAX_BYTES;
-    let whole = field_bytes % 16 == 0;
-    long_enough & short_enough & whole
 }
 
 // Opens a field of a right length under a head block: first the MAC, then the padding. The data is left at the start of `plain`.

@@ -19,10 +19,10 @@ fn parts_sound(card: Card) -> bool
     let pairing = card.pairing;
     let keys = card.keys;
     let channel = card.channel;
-    let a = sound_parts::pins_sound(pins);
-    let b = sound_parts::pairing_sound(pairing);
-    let c = sound_parts::keys_sound(keys);
-    let d = sound_parts::channel_sound(channel);
+    let a = sound_pins::pins_sound(pins);
+    let b = sound_pairing::pairing_sound(pairing);
+    let c = sound_keys::keys_sound(keys);
+    let d = sound_channel::channel_sound(channel);
     let none = pairing.pending == 0;
     let closed = channel.stage == 0;
     a & b & c & d & (none | closed)
@@ -36,10 +36,10 @@ fn parts_blank(card: Card) -> bool
     let pairing = card.pairing;
     let keys = card.keys;
     let channel = card.channel;
-    sound_parts::pins_blank(pins)
-        & sound_parts::pairing_blank(pairing)
-        & sound_parts::keys_blank(keys)
-        & sound_parts::channel_blank(channel)
+    sound_pins::pins_blank(pins)
+        & sound_pairing::pairing_blank(pairing)
+        & sound_keys::keys_blank(keys)
+        & sound_channel::channel_blank(channel)
 }
 
 // Whether the card is sound (01, Operations, Sound).

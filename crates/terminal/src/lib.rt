@@ -61,7 +61,7 @@ pub fn seal(s: Session, cla: u8, ins: u8, p1: u8, p2: u8, plain: &[u8], buf: &mu
     }
     octets::put(buf, FRONT_BYTES + MAC_BYTES, plain);
     let padded = padding::padded_bytes(plain.len());
-    let head = sealing::command_head([cla, ins, p1, p2], padded);
+    let head = heads::command_head([cla, ins, p1, p2], padded);
     let mac = sealing::seal_field(s, head, &mut buf[FRONT_BYTES..], plain.len());
     let lc = (MAC_BYTES + padded) as u8;
     let front = [cla, ins, p1, p2, lc];

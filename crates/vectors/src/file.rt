@@ -3,10 +3,10 @@ ghost use Prim.Native.Nat.{_≤_};
 ghost use mathlib.Core.Path.{_≡_};
 ghost use lib.ListN.{length};
 use crate::report;
-use crate::text;
-use crate::text::Span;
 use crate::trial;
 use crate::trial::Entry;
+use vector_text::text;
+use vector_text::text::Span;
 
 // The entries of the two sections that were found and that passed, and the faults of the file: lines that are not understood.
 pub struct Tally {

@@ -1,12 +1,12 @@
 // Runs the published vectors of AES-256 in ECB and CBC, both directions, and writes how many entries of each file passed.
 // Keys have 32 bytes, blocks 16 bytes. The files lie in the folder that the program is run in (data/).
-// Proved: every function is safe and ends; hexadecimal text is read as the definition says. What the engine answers to the vectors is
-// compared, not proved: that it is AES-256 is proved in the crates below.
+// Proved: every function is safe and ends. What the engine answers to the vectors is compared, not proved: that it is AES-256 is proved
+// in the crates below.
 mod file;
-mod hex;
 mod report;
-mod text;
 mod trial;
+
+use vector_text::text;
 
 // The entries that passed and that should be there, and the faults: files and lines that cannot be read, and sections with another
 // number of entries than they should have.
@@ -41,7 +41,7 @@ fn run(name: &[u8], mode: u8, encrypt: u64, decrypt: u64) -> Sum {
     report::say_in_column(name);
     report::say_passed(text::ENCRYPT, t.encrypt_passed, encrypt);
     report::say_passed(text::DECRYPT, t.decrypt_passed, decrypt);
-    report::say(b"\n");
+    print::say(b"\n");
     Sum {
         passed: std::num::wrapping_add_u64(t.encrypt_passed, t.decrypt_passed),
         wanted: std::num::wrapping_add_u64(encrypt, decrypt),
@@ -74,25 +74,25 @@ fn run_cbc() -> Sum {
 
 fn say_total(sum: Sum) {
     report::say_in_column(b"total");
-    report::say(b"   ");
-    report::say_number(sum.passed);
-    report::say(b" of ");
-    report::say_number(sum.wanted);
-    report::say(b" entries passed; faults in the files: ");
-    report::say_number(sum.faults);
-    report::say(b"\n");
+    print::say(b"   ");
+    print::say_number(sum.passed);
+    print::say(b" of ");
+    print::say_number(sum.wanted);
+    print::say(b" entries passed; faults in the files: ");
+    print::say_number(sum.faults);
+    print::say(b"\n");
     if sum.passed == sum.wanted && sum.faults == 0 {
-        report::say(b"Every vector passed.\n");
+        print::say(b"Every vector passed.\n");
     } else {
-        report::say(b"FAILED: not every vector passed.\n");
+        print::say(b"FAILED: not every vector passed.\n");
     }
 }
 
 fn main() {
-    report::say(
+    print::say(
         b"AES-256, keys of 32 bytes, blocks of 16 bytes. An entry passes where encrypting gives its ciphertext\n",
     );
-    report::say(b"and decrypting gives back its plaintext. Entries that passed:\n");
+    print::say(b"and decrypting gives back its plaintext. Entries that passed:\n");
     let standards = run_standards();
     let ecb = run_ecb();
     let cbc = run_cbc();

@@ -1,24 +1,9 @@
 // What the program writes, to standard output.
-use crate::text::DECRYPT;
-use crate::text::ENCRYPT;
-use crate::text::Span;
-use libc::STDOUT_FILENO;
-
-pub fn say(words: &[u8]) {
-    io::write_all(STDOUT_FILENO, words);
-}
-
-pub fn say_number(n: u64) {
-    io::print_decimal(STDOUT_FILENO, n);
-}
-
-fn wide(b: u8) -> u64 {
-    b as u64
-}
-
-fn long(n: usize) -> u64 {
-    n as u64
-}
+use print::say;
+use print::say_number;
+use vector_text::text::DECRYPT;
+use vector_text::text::ENCRYPT;
+use vector_text::text::Span;
 
 fn say_space() {
     say(b" ");
@@ -49,22 +34,10 @@ fn say_aligned(n: u64) {
     say_number(n);
 }
 
-fn say_byte(b: u8) {
-    io::print_hex(STDOUT_FILENO, wide(b), 2);
-}
-
-fn say_digits(bytes: &[u8]) {
-    let mut i = 0;
-    while i < bytes.len() {
-        say_byte(bytes[i]);
-        i += 1;
-    }
-}
-
 fn say_bytes(bytes: &[u8]) {
-    say_digits(bytes);
+    print::say_hex(bytes);
     say(b" (");
-    say_number(long(bytes.len()));
+    print::say_size(bytes.len());
     say(b" bytes)\n");
 }
 
@@ -116,7 +89,7 @@ pub fn say_difference(expected: &[u8], got: &[u8]) {
 pub fn say_bad_line(name: &[u8], at: usize) {
     say(name);
     say(b": the line at byte ");
-    say_number(long(at));
+    print::say_size(at);
     say(b" has no name that is known, or a value that is there already\n");
 }
 

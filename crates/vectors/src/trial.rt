@@ -3,13 +3,13 @@
 ghost use mathlib.Core.Path.{_≡_};
 ghost use Prim.Native.Nat.{_≤_};
 ghost use lib.ListN.{length};
-use crate::hex;
 use crate::report;
-use crate::text;
-use crate::text::DECRYPT;
-use crate::text::ENCRYPT;
-use crate::text::Span;
 use octets::BLOCK_BYTES;
+use vector_text::hex;
+use vector_text::text;
+use vector_text::text::DECRYPT;
+use vector_text::text::ENCRYPT;
+use vector_text::text::Span;
 
 pub const ECB: u8 = 0;
 
@@ -162,9 +162,9 @@ fn judge(
     }
     report::say_entry(name, section, s, count);
     if way == ENCRYPT {
-        report::say(b"encrypting gives a wrong answer\n");
+        print::say(b"encrypting gives a wrong answer\n");
     } else {
-        report::say(b"decrypting gives a wrong answer\n");
+        print::say(b"decrypting gives a wrong answer\n");
     }
     report::say_difference(expected, got);
     false
@@ -215,7 +215,7 @@ fn try_texts(
     let is_read = is_counted & key_read & iv_read & plain_read & cipher_read;
     if !is_read {
         report::say_entry(name, e.section, s, e.count);
-        report::say(b"the entry is malformed\n");
+        print::say(b"the entry is malformed\n");
         return false;
     }
     try_both(name, s, mode, e, &key, iv, plain, cipher, got)
@@ -226,7 +226,7 @@ pub fn try_entry(name: &[u8], s: &[u8], mode: u8, e: Entry) -> bool {
     let n = text_bytes(mode, e.plain);
     if n == 0 {
         report::say_entry(name, e.section, s, e.count);
-        report::say(
+        print::say(
             b"the plaintext is missing or has another length than whole blocks of 16 bytes\n",
         );
         return false;

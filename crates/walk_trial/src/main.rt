@@ -1,27 +1,23 @@
 // A trial of WALK: good inputs, each fault, each depth from 1 to 6, the forms of a length, and some megabytes of fields.
 // Each line names an input, in hex or in words, and says how many fields it has or with which number it is refused.
 // Every length is in bytes.
-use libc::STDOUT_FILENO;
+use print::say;
 use walk::Walked;
-
-fn write(text: &[u8]) {
-    io::write_all(STDOUT_FILENO, text);
-}
 
 fn show(name: &[u8], s: &[u8]) {
     let answer = walk::walk(s);
-    write(name);
+    say(name);
     match answer {
         Walked::Fields(fields) => {
-            write(b": fields ");
-            io::print_decimal(STDOUT_FILENO, fields as u64);
+            say(b": fields ");
+            print::say_size(fields);
         }
         Walked::Refused(_) => {
-            write(b": refused ");
-            io::print_decimal(STDOUT_FILENO, walk::refusal(answer) as u64);
+            say(b": refused ");
+            print::say_byte_number(walk::refusal(answer));
         }
     }
-    write(b"\n");
+    say(b"\n");
 }
 
 fn plain_fields() {

@@ -10,7 +10,7 @@ use Rattle.octets.specs.Bytes.{sameBytes}
 use Rattle.card.proofs.SoundFacts.{path-lengths}
 use Rattle.record.specs.Fields.{recordOf}
 use Rattle.record.specs.Answers.{isRecordOf}
-use Rattle.record_read.proofs.PlaceFacts.{put-taken}
+use Rattle.record_read.proofs.PutFacts.{put-taken}
 use borrow.Author.Needs.{needs}
 use Rattle.record_read.proofs.is_record_of.Statement.{statement}
 use Rattle.record_read.proofs.is_record_of.Tie as tie

@@ -15,11 +15,11 @@ mul-len c = search needs
 array-borrow-prefix-bytes : tie.Need-array-borrow-prefix-bytes
 array-borrow-prefix-bytes c = search needs
 
-slice-aggregate-count-up : tie.Need-slice-aggregate-count-up
-slice-aggregate-count-up c = sym (length-take-le (4 * c .before .args .components) (replicate 40 0) (omega arith))
+slice-aggregate-fill : tie.Need-slice-aggregate-fill
+slice-aggregate-fill c = sym (length-take-le (4 * c .before .args .components) (replicate 40 0) (omega arith))
 
-count-up-requires : tie.Need-count-up-requires
-count-up-requires c κs = search needs
+fill-requires : tie.Need-fill-requires
+fill-requires c κs = search needs
 
 cast-t7 : tie.Need-cast-t7
 cast-t7 c = search needs
@@ -33,7 +33,7 @@ path-of-spec =
     (tie.spec
     mul-len
     array-borrow-prefix-bytes
-    slice-aggregate-count-up
-    count-up-requires
+    slice-aggregate-fill
+    fill-requires
     cast-t7
     returns)

@@ -5,14 +5,6 @@ use lib.ListN.{length}
 use borrow.Author.Needs.{needs}
 use Rattle.vectors.proofs.file.run_text.Statement.{statement}
 use Rattle.vectors.proofs.file.run_text.Tie as tie
-use Rattle.vectors.proofs.file.run_text.Reads as reads
-use Rattle.vectors.proofs.file.run_text.Lts as lts
-use Rattle.vectors.proofs.file.finish.Reads as finish-reads
-use Rattle.vectors.proofs.file.no_tally.Reads as no-tally-reads
-use Rattle.vectors.proofs.file.take_line.Reads as take-line-reads
-use Rattle.vectors.proofs.text.line_behind.Reads as line-behind-reads
-use Rattle.vectors.proofs.text.line_end.Reads as line-end-reads
-use Rattle.vectors.proofs.trial.no_entry.Reads as no-entry-reads
 
 abbrev Inv-loop : tie.InvT-loop
 Inv-loop name s mode st₀ at₀ st at = Unit {0}

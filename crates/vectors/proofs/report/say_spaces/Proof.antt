@@ -4,9 +4,6 @@ use Prim.Native.Nat.{_-_}
 use borrow.Author.Needs.{needs}
 use Rattle.vectors.proofs.report.say_spaces.Statement.{statement}
 use Rattle.vectors.proofs.report.say_spaces.Tie as tie
-use Rattle.vectors.proofs.report.say_spaces.Reads as reads
-use Rattle.vectors.proofs.report.say_spaces.Lts as lts
-use Rattle.vectors.proofs.report.say_space.Reads as say-space-reads
 
 abbrev Inv-loop : tie.InvT-loop
 Inv-loop from to i₀ i = Unit {0}

@@ -6,12 +6,6 @@ use lib.Seq.{length-take-le}
 use borrow.Author.Needs.{needs}
 use Rattle.vectors.proofs.trial.try_entry.Statement.{statement}
 use Rattle.vectors.proofs.trial.try_entry.Tie as tie
-use Rattle.vectors.proofs.trial.try_entry.Reads as reads
-use Rattle.vectors.proofs.trial.try_entry.Lts as lts
-use Rattle.vectors.proofs.report.say.Reads as say-reads
-use Rattle.vectors.proofs.report.say_entry.Reads as say-entry-reads
-use Rattle.vectors.proofs.trial.text_bytes.Reads as text-bytes-reads
-use Rattle.vectors.proofs.trial.try_texts.Reads as try-texts-reads
 
 -- src/trial.rt:207:9
 text-bytes-requires : tie.Need-text-bytes-requires

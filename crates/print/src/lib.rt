@@ -1,0 +1,62 @@
+// What the trial programs write, to standard output: words, numbers, lengths and bytes.
+// Lengths are in bytes; bytes are written in hexadecimal, two digits each.
+// Proved: every function is safe and ends.
+use libc::STDOUT_FILENO;
+
+pub fn say(words: &[u8]) {
+    io::write_all(STDOUT_FILENO, words);
+}
+
+pub fn say_number(n: u64) {
+    io::print_decimal(STDOUT_FILENO, n);
+}
+
+fn wide(b: u8) -> u64 {
+    b as u64
+}
+
+fn long(n: usize) -> u64 {
+    n as u64
+}
+
+pub fn say_byte_number(b: u8) {
+    say_number(wide(b));
+}
+
+pub fn say_size(n: usize) {
+    say_number(long(n));
+}
+
+// A length, with its unit.
+pub fn say_length(n_bytes: usize) {
+    say_size(n_bytes);
+    if n_bytes == 1 {
+        say(b" byte");
+    } else {
+        say(b" bytes");
+    }
+}
+
+fn say_byte(b: u8) {
+    io::print_hex(STDOUT_FILENO, wide(b), 2);
+}
+
+pub fn say_hex(bytes: &[u8]) {
+    let mut i = 0;
+    while i < bytes.len() {
+        say_byte(bytes[i]);
+        i += 1;
+    }
+}
+
+// A line with a name, a length and the bytes.
+pub fn say_bytes(name: &[u8], bytes: &[u8]) {
+    say(name);
+    say(b" ");
+    say_length(bytes.len());
+    if bytes.len() > 0 {
+        say(b": ");
+        say_hex(bytes);
+    }
+    say(b"\n");
+}

@@ -1,0 +1,67 @@
+-- The slots' content. Invariant: what is written is the content of the slots passed.
+-- Assumes nothing.
+use mathlib.Core.Path.{_≡_, refl, sym, ap, _∙_}
+use Prim.Native.Nat.{_≤_, _-_, _*_}
+use native.Mathlib.Omega.{arith}
+use borrow.Author.Needs.{needs}
+use lib.ListN.{length, take}
+use lib.Seq.{take-all}
+use Rattle.card.specs.State.{slotCount}
+use Rattle.record.specs.Fields.{slotsBytes}
+use Rattle.record_fields.proofs.Chain.{slots-next}
+use Rattle.record_fields.proofs.slots_bytes.Statement.{statement}
+use Rattle.record_fields.proofs.slots_bytes.Tie as tie
+
+abbrev Inv-loop : tie.InvT-loop
+Inv-loop slots out₀ i₀ out i = (i ≤ slotCount) × ((length slots ≡ slotCount) × ((length out ≡ 33 * slotCount) × (take (33 * i) out ≡ slotsBytes (take i slots))))
+
+abbrev μ-loop : tie.MeasureT-loop
+μ-loop slots out₀ i₀ out i = slotCount - i
+
+loop-holds : tie.Need-loop-holds Inv-loop μ-loop
+unfolding slotsBytes
+loop-holds c = (omega arith, (c .good .0 .1 .0 .1, (refl, refl)))
+
+mul-slot : tie.Need-mul-slot Inv-loop μ-loop
+mul-slot c = search needs
+
+array-copy-out-slot : tie.Need-array-copy-out-slot Inv-loop μ-loop
+array-copy-out-slot c = search needs
+
+slice-aggregate-put-slot : tie.Need-slice-aggregate-put-slot Inv-loop μ-loop
+slice-aggregate-put-slot c = search needs
+
+mul-put-slot : tie.Need-mul-put-slot Inv-loop μ-loop
+mul-put-slot c = search needs
+
+put-slot-requires : tie.Need-put-slot-requires Inv-loop μ-loop
+put-slot-requires c κs = search needs
+
+add-i : tie.Need-add-i Inv-loop μ-loop
+add-i c = search needs
+
+loop-less : tie.Need-loop-less Inv-loop μ-loop
+loop-less c = search needs
+
+loop-again : tie.Need-loop-again Inv-loop μ-loop
+loop-again c = (omega arith, (c .before .before .before .before .before .loop .inv .1 .0, (omega arith, slots-next (c .before .before .before .before .before .before .args .t1) (c .before .before .before .before .before .loop .i) _ (c .before .before .before .before .before .loop .out) (c .before .put-slot .last .0) (omega arith) (c .before .put-slot .ensures .0) (omega arith) (c .before .before .before .before .before .loop .inv .1 .1 .1) (c .before .put-slot .ensures .1))))
+
+returns : tie.Need-returns Inv-loop μ-loop
+returns c = sym (take-all (33 * c .before .loop .i) (c .before .loop .out) (omega arith)) ∙ c .before .loop .inv .1 .1 .1 ∙ ap slotsBytes (take-all (c .before .loop .i) (c .before .before .args .t1) (omega arith))
+
+pub slots-bytes-spec : {M : Type 1} → statement M
+slots-bytes-spec =
+    tie.close
+    (tie.spec
+    Inv-loop
+    μ-loop
+    loop-holds
+    mul-slot
+    array-copy-out-slot
+    slice-aggregate-put-slot
+    mul-put-slot
+    put-slot-requires
+    add-i
+    loop-less
+    loop-again
+    returns)

@@ -1,0 +1,83 @@
+// The fields of the stored record, written one by one: any field, a path, the key UID, and the content of the slots.
+// Every length, place and count is in bytes.
+// Proved: the field stands at its place, nothing else has changed, and the place behind it is told.
+ghost use mathlib.Core.Path.{_≡_};
+ghost use mathlib.Core.List.{[], _∷_};
+ghost use Prim.Native.Nat.{_+_, _≤_, _<_};
+ghost use lib.ListN.{length};
+ghost use Rattle.octets.specs.Bytes.{overwrite};
+ghost use Rattle.card.specs.State.{keyUid, pathBytes};
+ghost use Rattle.record.specs.Fields.{field, slotsBytes};
+ghost use Rattle.record_fields.specs.Put.{Put};
+use card::Card;
+use card::Keys;
+use card::Path;
+use card::Slot;
+use record::HEAD_BYTES;
+use record::SLOT_BYTES;
+use record::SLOTS_BYTES;
+
+// The tag of the key UID.
+const TAG_KEY_UID: u8 = 0x31;
+
+// How many values a byte has: a length in bytes is its high byte times this, and its low byte.
+const BYTE_VALUES: usize = 256;
+
+// Writes a field at a place, and gives the place behind it.
+pub fn put_field(buf: &mut [u8], at: usize, tag: u8, src: &[u8]) -> usize
+    requires { ⌜ (length (now src) < 65536) × (at + 3 + length (now src) ≤ length (now buf)) ⌝ }
+    ensures { λ r. ⌜ (Put (field tag (now (src .entry)) ∷ []) at (now (buf .entry)) r (now (buf .exit))) × (r ≡ at + 3 + length (now (src .entry))) ⌝ }
+{
+    let high = (src.len() / BYTE_VALUES) as u8;
+    let low = (src.len() % BYTE_VALUES) as u8;
+    let head = [tag, high, low];
+    octets::put(buf, at, &head);
+    let content = at + HEAD_BYTES;
+    octets::put(buf, content, src);
+    content + src.len()
+}
+
+// Writes a slot's flag and key at a place.
+fn put_slot(buf: &mut [u8], at: usize, slot: Slot)
+    requires { ⌜ at + 33 ≤ length (now buf) ⌝ }
+    ensures { λ _. ⌜ (length (slot .key) ≡ 32) × (now (buf .exit) ≡ overwrite (now (buf .entry)) at (slot .filled ∷ slot .key)) ⌝ }
+{
+    let flag = [slot.filled];
+    let key = slot.key;
+    octets::put(buf, at, &flag);
+    octets::put(buf, at + 1, &key);
+}
+
+// The slots' content: each slot's flag and key, one behind the other.
+pub fn slots_bytes(slots: [Slot; Card::SLOTS]) -> [u8; SLOTS_BYTES]
+    ensures { λ r. ⌜ r ≡ slotsBytes slots ⌝ }
+{
+    let mut out = [0u8; SLOTS_BYTES];
+    let mut i = 0;
+    while i < Card::SLOTS {
+        let slot = slots[i];
+        put_slot(&mut out, SLOT_BYTES * i, slot);
+        i += 1;
+    }
+    out
+}
+
+pub fn put_path(buf: &mut [u8], at: usize, tag: u8, p: Path) -> usize
+    requires { ⌜ (p .len ≤ 40) × (at + 43 ≤ length (now buf)) ⌝ }
+    ensures { λ r. ⌜ (Put (field tag (pathBytes p) ∷ []) at (now (buf .entry)) r (now (buf .exit))) × (r ≤ at + 43) ⌝ }
+{
+    let bytes = p.bytes;
+    let len = card::wide(p.len);
+    put_field(buf, at, tag, &bytes[..len])
+}
+
+pub fn put_key_uid(buf: &mut [u8], at: usize, k: Keys) -> usize
+    requires { ⌜ at + 35 ≤ length (now buf) ⌝ }
+    ensures { λ r. ⌜ (Put (field 0x31 (keyUid k) ∷ []) at (now (buf .entry)) r (now (buf .exit))) × (r ≤ at + 35) ⌝ }
+{
+    let uid = k.uid;
+    if k.kind == 0 {
+        return put_field(buf, at, TAG_KEY_UID, &uid[..0]);
+    }
+    put_field(buf, at, TAG_KEY_UID, &uid)
+}

@@ -1,0 +1,20 @@
+-- What the readers of a field promise: where its content stands, and the place behind it. Every length and place is in bytes.
+use Prim.Native.Nat.{ℕ, _-_, _≤_}
+use mathlib.Core.Path.{_≡_}
+use mathlib.Core.List.{List}
+use lib.ListN.{length, take, drop}
+use Rattle.record.specs.Parse.{body, rest}
+use Rattle.record_spans.specs.declared.Span.{Span}
+
+-- the span is the content of the field at the place `at`
+pub record Spans (s : List ℕ) (at : ℕ) (r : Span) : Type 0 where
+  pub follows : at ≤ r .start
+  pub ordered : r .start ≤ r .«end»
+  pub within : r .«end» ≤ length s
+  pub inside : take (r .«end» - r .start) (drop (r .start) s) ≡ body (drop at s)
+  pub behind : drop (r .«end») s ≡ rest (drop at s)
+
+-- `next` is the place behind the field at the place `at`
+pub record Behind (s : List ℕ) (at next : ℕ) : Type 0 where
+  pub within : next ≤ length s
+  pub rest : drop next s ≡ rest (drop at s)

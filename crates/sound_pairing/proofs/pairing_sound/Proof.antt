@@ -1,0 +1,30 @@
+-- The test is the definition, line by line: the answers of the tests that it calls are put in their places.
+-- Assumes nothing.
+use borrow.Author.Needs.{needs}
+use Rattle.sound_pairing.proofs.pairing_sound.Statement.{statement}
+use Rattle.sound_pairing.proofs.pairing_sound.Tie as tie
+
+slots-within-requires : tie.Need-slots-within-requires
+slots-within-requires c κs = search needs
+
+has-free-requires : tie.Need-has-free-requires
+has-free-requires c κs = search needs
+
+slice-aggregate-zero-from : tie.Need-slice-aggregate-zero-from
+slice-aggregate-zero-from c = search needs
+
+zero-from-requires : tie.Need-zero-from-requires
+zero-from-requires c κs = search needs
+
+returns : tie.Need-returns
+returns c = cc
+
+pub pairing-sound-spec : {M : Type 1} → statement M
+pairing-sound-spec =
+    tie.close
+    (tie.spec
+    slots-within-requires
+    has-free-requires
+    slice-aggregate-zero-from
+    zero-from-requires
+    returns)
