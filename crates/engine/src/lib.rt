@@ -2,6 +2,7 @@
 // Every length, room and count is in bytes.
 // Proved: refusal, kind, count, next card and every byte of the buffer are the rulebook's, for any card, command, supply and buffer.
 ghost use mathlib.Core.Path.{_≡_};
+ghost use mathlib.Core.Bool.{true};
 ghost use Prim.Native.Nat.{_≤_};
 ghost use lib.ListN.{length};
 ghost use Rattle.rules.specs.Words.{success, verdict};
