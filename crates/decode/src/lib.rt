@@ -57,7 +57,8 @@ fn begins_with(cmd: &[u8], ins: u8) -> bool
     ensures { λ r. ⌜ r ≡ begins ins (now (cmd .entry)) ⌝ }
 {
     if cmd.len() < 2 {
-        return false;
+        let begun = false;
+        return begun;
     }
     let class = cmd[0] == CLASS;
     let instruction = cmd[1] == ins;

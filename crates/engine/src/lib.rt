@@ -173,14 +173,15 @@ fn ask_sound(card: Card, cmd: &[u8], buf: &mut [u8]) -> Asked
     let k = way.command;
     if way.goes {
         let form = decode::supply_of(k);
-        if form.kind != 0 {
-            octets::put(buf, 0, &plain[0..count]);
-            return Asked {
-                refusal: card::REFUSAL_NONE,
-                kind: form.kind,
-                count,
-            };
+        if form.kind == 0 {
+            return ask_refused(card::REFUSAL_NONE);
         }
+        octets::put(buf, 0, &plain[0..count]);
+        return Asked {
+            refusal: card::REFUSAL_NONE,
+            kind: form.kind,
+            count,
+        };
     }
     ask_refused(card::REFUSAL_NONE)
 }

@@ -136,7 +136,8 @@ fn open(i: Instruction, card: Card, cmd: &[u8], field: &[u8], plain: &mut [u8]) 
         field,
         &mut opened,
     ) else {
-        return ends(false, decode::close(card), rules::SECURITY_NOT_MET);
+        let closed = decode::close(card);
+        return ends(false, closed, rules::SECURITY_NOT_MET);
     };
     opened_way(i, p1, p2, card, field, &opened[0..n], plain)
 }

@@ -1,86 +1,90 @@
+-- A supply that has its form, one that has not, and no supply read.
+-- Assumes nothing.
+use Rattle.route.specs.Routes.{tellBy}
+use Rattle.rules.specs.Engine.{answered}
+use Rattle.rules.specs.Commands.{checksOf, replyOf}
+use Rattle.rules.specs.Supplies.{suits}
+use Rattle.rules.specs.Words.{success, verdict}
+use Rattle.rules.specs.declared.Supply.{Supply}
+use lib.ListN.{take}
+use Prim.Native.Nat.{ℕ}
+use mathlib.Core.List.{List}
+use mathlib.Core.Path.{_≡_, sym, ap, subst, _∙_}
+use native.Mathlib.Omega.{arith}
+use Rattle.engine.proofs.Answers.{answer-as, answer-nothing, answer-taken, answer-refused, answer-ended, data-part, data-short}
 use borrow.Author.Needs.{needs}
 use Rattle.engine.proofs.answer_sound.Statement.{statement}
 use Rattle.engine.proofs.answer_sound.Tie as tie
-use Rattle.engine.proofs.answer_sound.Reads as reads
-use Rattle.engine.proofs.answer_sound.Lts as lts
-use Rattle.decode.proofs.supply_of.Reads as supply-of-reads
-use Rattle.decode.proofs.supply_suits.Reads as supply-suits-reads
-use Rattle.engine.proofs.perform.Reads as perform-reads
-use Rattle.engine.proofs.refused.Reads as refused-reads
-use Rattle.engine.proofs.tell.Reads as tell-reads
-use Rattle.route.proofs.route.Reads as route-reads
 
--- src/lib.rt:137:39
 slice-aggregate-route : tie.Need-slice-aggregate-route
 slice-aggregate-route c = search needs
 
--- src/lib.rt:137:9
 route-requires : tie.Need-route-requires
 route-requires c κs = search needs
 
--- src/lib.rt:142:13
 supply-of-requires : tie.Need-supply-of-requires
 supply-of-requires c κs = search needs
 
--- src/lib.rt:143:12
 supply-suits-requires : tie.Need-supply-suits-requires
 supply-suits-requires c κs = search needs
 
--- src/lib.rt:144:47
 sub-perform : tie.Need-sub-perform
 sub-perform c = search needs
 
--- src/lib.rt:144:47
 part-perform-start : tie.Need-part-perform-start
 part-perform-start c = search needs
 
--- src/lib.rt:144:47
 part-perform-end : tie.Need-part-perform-end
-part-perform-end c = ?
+part-perform-end c = let g = c .before .before .before .before .before .before .before .before .before .before .before .before .args in
+    let w = c .before .before .before .before .before .before .before .route in
+    let plain = w .last .1 .1 .0 in
+    omega (arith, data-short _ (w .result) plain (w .ensures) (c .before .before .before .before .if1 .taken), w .kept .1 .1 .0)
 
--- src/lib.rt:144:13
 perform-requires : tie.Need-perform-requires
-perform-requires c κs = ?
+perform-requires c κs = let g = c .before .before .before .before .before .before .before .before .before .before .before .before .before .before .args in
+    let w = c .before .before .before .before .before .before .before .before .before .route in
+    let plain = w .last .1 .1 .0 in
+    let y = w .ensures .ready (c .before .before .before .before .before .before .if1 .taken) in
+    ((subst (λ (x : List ℕ). verdict (checksOf (w .result .command) (w .result .card) x) ≡ success) (sym (data-part (w .result .count) plain)) (y .judged), (sym (c .before .before .before .before .supply-suits .ensures ∙ ap (λ (x : Supply). suits x (g .supply .now)) (c .before .before .before .before .before .supply-of .ensures)) ∙ c .before .before .before .if2 .taken)), (y .inrange, w .ensures .paths, c .before .before .before .before .before .before .before .before .before .before .before .before .before .before .pre .1))
 
--- src/lib.rt:144:13
 same-length : tie.Need-same-length
 same-length c = search needs
 
--- src/lib.rt:144:13
 returns : tie.Need-returns
-returns c = ?
+returns c = let g = c .before .before .before .before .before .before .before .before .before .before .before .before .before .before .before .before .before .args in
+    let w = c .before .before .before .before .before .before .before .before .before .before .before .before .route in
+    let plain = w .last .1 .1 .0 in
+    answer-as _ _ _ _ _ (answer-taken (g .card) _ (w .result) (take (w .result .count) plain) (g .supply .now) (w .ensures) (c .before .before .before .before .before .before .before .before .before .if1 .taken) (sym (c .before .before .before .before .before .before .before .supply-suits .ensures ∙ ap (λ (x : Supply). suits x (g .supply .now)) (c .before .before .before .before .before .before .before .before .supply-of .ensures)) ∙ c .before .before .before .before .before .before .if2 .taken) ∙ ap (λ (x : List ℕ). answered (tellBy (w .result .over) (replyOf (w .result .command) (w .result .card) x (g .supply .now)))) (sym (data-part (w .result .count) plain))) (c .before .before .perform .ensures)
 
--- src/lib.rt:146:9
 refused-requires : tie.Need-refused-requires
 refused-requires c κs = search needs
 
--- src/lib.rt:146:9
 returns-2 : tie.Need-returns-2
-returns-2 c = ?
+returns-2 c = let g = c .before .before .before .before .before .before .before .before .before .before .before .before .args in
+    let w = c .before .before .before .before .before .before .before .route in
+    let plain = w .last .1 .1 .0 in
+    answer-as _ _ _ _ _ (answer-refused (g .card) _ (w .result) (take (w .result .count) plain) (g .supply .now) (w .ensures) (c .before .before .before .before .if1 .taken) (sym (c .before .before .supply-suits .ensures ∙ ap (λ (x : Supply). suits x (g .supply .now)) (c .before .before .before .supply-of .ensures)) ∙ c .before .if2 .left)) (answer-nothing (g .card) 3 _ _ (c .refused .ensures))
 
--- src/lib.rt:148:38
 sub-tell : tie.Need-sub-tell
 sub-tell c = search needs
 
--- src/lib.rt:148:38
 part-tell-start : tie.Need-part-tell-start
 part-tell-start c = search needs
 
--- src/lib.rt:148:38
 part-tell-end : tie.Need-part-tell-end
 part-tell-end c = search needs
 
--- src/lib.rt:148:5
 tell-requires : tie.Need-tell-requires
 tell-requires c κs = search needs
 
--- src/lib.rt:132:1
 same-length-2 : tie.Need-same-length-2
 same-length-2 c = search needs
 
--- src/lib.rt:132:1
 returns-3 : tie.Need-returns-3
-returns-3 c = ?
+returns-3 c = let g = c .before .before .before .before .before .before .before .before .before .before .before .before .before .before .args in
+    let w = c .before .before .before .before .before .before .before .before .before .route in
+    let plain = w .last .1 .1 .0 in
+    answer-as _ _ _ _ _ (answer-ended (g .card) _ (w .result) (take (w .result .count) plain) (g .supply .now) (w .ensures) (c .before .before .before .before .before .before .if1 .left)) (c .before .before .tell .ensures)
 
 pub answer-sound-spec : {M : Type 1} → statement M
 answer-sound-spec =

@@ -1,43 +1,36 @@
+-- Unsound, no room, or the question.
+-- Assumes nothing.
+use Rattle.card.proofs.SoundFacts.{path-lengths}
+use mathlib.Core.List.{[]}
+use mathlib.Core.Path.{sym, _∙_}
+use Rattle.engine.proofs.Answers.{ask-as, ask-nothing, ask-room, ask-sound, ask-unsound}
 use borrow.Author.Needs.{needs}
 use Rattle.engine.proofs.ask.Statement.{statement}
 use Rattle.engine.proofs.ask.Tie as tie
-use Rattle.engine.proofs.ask.Reads as reads
-use Rattle.engine.proofs.ask.Lts as lts
-use Rattle.engine.proofs.ask_refused.Reads as ask-refused-reads
-use Rattle.engine.proofs.ask_sound.Reads as ask-sound-reads
-use Rattle.sound.proofs.sound.Reads as sound-reads
 
--- src/lib.rt:192:8
 sound-requires : tie.Need-sound-requires
 sound-requires c κs = search needs
 
--- src/lib.rt:194:13
 ask-refused-requires : tie.Need-ask-refused-requires
 ask-refused-requires c κs = search needs
 
--- src/lib.rt:194:13
 returns : tie.Need-returns
-returns c = ?
+returns c = let g = c .before .before .before .before .before .before .args in ask-as _ _ _ _ _ (ask-room (g .card) (g .cmd .now) [] _ (sym (c .before .before .before .sound .ensures) ∙ c .before .before .if1 .taken) (c .before .if2 .taken)) (ask-nothing 2 _ _ (c .ask-refused .ensures))
 
--- src/lib.rt:196:9
 ask-sound-requires : tie.Need-ask-sound-requires
-ask-sound-requires c κs = ?
+ask-sound-requires c κs = (path-lengths _ (sym (c .before .before .before .sound .ensures) ∙ c .before .before .if1 .taken), c .before .if2 .left)
 
--- src/lib.rt:196:9
 same-length : tie.Need-same-length
 same-length c = search needs
 
--- src/lib.rt:196:9
 returns-2 : tie.Need-returns-2
-returns-2 c = ?
+returns-2 c = let g = c .before .before .before .before .before .before .before .before .before .args in ask-as _ _ _ _ _ (ask-sound (g .card) (g .cmd .now) [] _ (sym (c .before .before .before .before .before .before .sound .ensures) ∙ c .before .before .before .before .before .if1 .taken) (c .before .before .before .before .if2 .left)) (c .before .before .ask-sound .ensures)
 
--- src/lib.rt:198:5
 ask-refused-requires-2 : tie.Need-ask-refused-requires-2
 ask-refused-requires-2 c κs = search needs
 
--- src/lib.rt:189:1
 returns-3 : tie.Need-returns-3
-returns-3 c = ?
+returns-3 c = let g = c .before .before .before .before .before .args in ask-as _ _ _ _ _ (ask-unsound (g .card) (g .cmd .now) [] _ (sym (c .before .before .sound .ensures) ∙ c .before .if1 .left)) (ask-nothing 1 _ _ (c .ask-refused2 .ensures))
 
 pub ask-spec : {M : Type 1} → statement M
 ask-spec =

@@ -1,34 +1,30 @@
+-- Sealed where the answer goes over the channel and leaves stage 2; plain otherwise.
+-- Assumes nothing.
+use Rattle.engine.specs.Did.{replyWith}
+use Rattle.rules.specs.Engine.{answered}
+use mathlib.Core.Path.{ap}
+use Rattle.engine.proofs.Answers.{answer-as, tell-over, tell-plain}
 use borrow.Author.Needs.{needs}
 use Rattle.engine.proofs.tell.Statement.{statement}
 use Rattle.engine.proofs.tell.Tie as tie
-use Rattle.engine.proofs.tell.Reads as reads
-use Rattle.engine.proofs.tell.Lts as lts
-use Rattle.engine.proofs.tell_plainly.Reads as tell-plainly-reads
-use Rattle.engine.proofs.tell_sealed.Reads as tell-sealed-reads
 
--- src/lib.rt:105:9
 tell-sealed-requires : tie.Need-tell-sealed-requires
 tell-sealed-requires c κs = search needs
 
--- src/lib.rt:105:9
 same-length : tie.Need-same-length
 same-length c = search needs
 
--- src/lib.rt:105:9
 returns : tie.Need-returns
-returns c = ?
+returns c = let g = c .before .before .before .before .before .before .before .before .args in answer-as _ _ _ _ _ (ap answered (tell-over (g .over) (replyWith (g .status) (g .response .now) (g .card)) (c .before .before .before .before .if1 .taken))) (c .before .before .tell-sealed .ensures)
 
--- src/lib.rt:107:5
 tell-plainly-requires : tie.Need-tell-plainly-requires
 tell-plainly-requires c κs = search needs
 
--- src/lib.rt:99:1
 same-length-2 : tie.Need-same-length-2
 same-length-2 c = search needs
 
--- src/lib.rt:99:1
 returns-2 : tie.Need-returns-2
-returns-2 c = ?
+returns-2 c = let g = c .before .before .before .before .before .before .before .before .args in answer-as _ _ _ _ _ (ap answered (tell-plain (g .over) (replyWith (g .status) (g .response .now) (g .card)) (c .before .before .before .before .if1 .left))) (c .before .before .tell-plainly .ensures)
 
 pub tell-spec : {M : Type 1} → statement M
 tell-spec =

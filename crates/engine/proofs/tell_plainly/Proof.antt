@@ -1,41 +1,34 @@
+-- The response data, and the status word behind it.
+-- Assumes nothing.
+use native.Mathlib.Omega.{arith}
+use Rattle.engine.proofs.Answers.{did-plainly}
 use borrow.Author.Needs.{needs}
 use Rattle.engine.proofs.tell_plainly.Statement.{statement}
 use Rattle.engine.proofs.tell_plainly.Tie as tie
-use Rattle.engine.proofs.tell_plainly.Reads as reads
-use Rattle.engine.proofs.tell_plainly.Lts as lts
-use Rattle.octets.proofs.put.Reads as put-reads
 
--- src/lib.rt:66:15
 cast-sw1 : tie.Need-cast-sw1
 cast-sw1 c = search needs
 
--- src/lib.rt:67:15
 cast-sw2 : tie.Need-cast-sw2
 cast-sw2 c = search needs
 
--- src/lib.rt:69:5
 put-requires : tie.Need-put-requires
 put-requires c κs = search needs
 
--- src/lib.rt:71:25
 slice-aggregate-put : tie.Need-slice-aggregate-put
 slice-aggregate-put c = search needs
 
--- src/lib.rt:71:5
 put-requires-2 : tie.Need-put-requires-2
 put-requires-2 c κs = search needs
 
--- src/lib.rt:74:16
 add-t17 : tie.Need-add-t17
 add-t17 c = search needs
 
--- src/lib.rt:62:1
 same-length : tie.Need-same-length
 same-length c = search needs
 
--- src/lib.rt:62:1
 returns : tie.Need-returns
-returns c = ?
+returns c = let g = c .before .before .before .before .before .before .before .before .before .before .before .args in did-plainly (g .status) (g .response .now) (g .card) _ _ (omega arith) (omega arith) (g .buf .now) (c .before .before .before .before .before .before .before .put .last .0) (c .before .before .put2 .last .0) (c .before .before .before .before .before .before .before .put .ensures) (c .before .before .put2 .ensures)
 
 pub tell-plainly-spec : {M : Type 1} → statement M
 tell-plainly-spec =
