@@ -130,12 +130,10 @@ fn open(i: Instruction, card: Card, cmd: &[u8], field: &[u8], plain: &mut [u8]) 
     let p2 = cmd[3];
     let session = session_of(card.channel);
     let mut opened = [0u8; OPENED_BYTES];
-    let Opening::Bytes(n) = sealing::open_command(
-        session,
-        [cmd[0], cmd[1], p1, p2],
-        field,
-        &mut opened,
-    ) else {
+    let cla = cmd[0];
+    let ins = cmd[1];
+    let Opening::Bytes(n) = sealing::open_command(session, [cla, ins, p1, p2], field, &mut opened)
+    else {
         let closed = decode::close(card);
         return ends(false, closed, rules::SECURITY_NOT_MET);
     };

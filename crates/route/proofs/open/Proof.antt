@@ -21,11 +21,11 @@ shared-slice-read-p2 c = search needs
 session-of-requires : tie.Need-session-of-requires
 session-of-requires c κs = search needs
 
-shared-slice-read-t12 : tie.Need-shared-slice-read-t12
-shared-slice-read-t12 c = search needs
+shared-slice-read-cla : tie.Need-shared-slice-read-cla
+shared-slice-read-cla c = search needs
 
-shared-slice-read-t17 : tie.Need-shared-slice-read-t17
-shared-slice-read-t17 c = search needs
+shared-slice-read-ins : tie.Need-shared-slice-read-ins
+shared-slice-read-ins c = search needs
 
 slice-aggregate-open-command : tie.Need-slice-aggregate-open-command
 slice-aggregate-open-command c = search needs
@@ -89,8 +89,8 @@ open-spec =
     shared-slice-read-p1
     shared-slice-read-p2
     session-of-requires
-    shared-slice-read-t12
-    shared-slice-read-t17
+    shared-slice-read-cla
+    shared-slice-read-ins
     slice-aggregate-open-command
     open-command-requires
     enum-known-n
