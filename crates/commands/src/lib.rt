@@ -24,12 +24,12 @@ pub fn judge(card: Card, k: Command, data: &[u8]) -> u16
     let keys = card.keys;
     let stage = card.channel.stage;
     match k {
-        Command::Select => plain_commands::select_verdict(data),
-        Command::Init => plain_commands::init_verdict(data),
-        Command::Open(slot) => plain_commands::open_verdict(slots, slot, data),
+        Command::Select => select_command::select_verdict(data),
+        Command::Init => init_command::init_verdict(data),
+        Command::Open(slot) => open_channel::open_verdict(slots, slot, data),
         Command::Mutual => pin_commands::mutual_verdict(stage, data),
-        Command::PairFirst => plain_commands::pair_first_verdict(pairing, stage, data),
-        Command::PairFinal => plain_commands::pair_final_verdict(pairing, stage, data),
+        Command::PairFirst => pair_command::pair_first_verdict(pairing, stage, data),
+        Command::PairFinal => pair_command::pair_final_verdict(pairing, stage, data),
         Command::Unpair(_) => pin_commands::unpair_verdict(pins),
         Command::Status(_) => rules::SUCCESS,
         Command::Verify => pin_commands::verify_verdict(pins),
@@ -50,12 +50,12 @@ pub fn act(card: Card, k: Command, data: &[u8], supply: &[u8], out: &mut [u8]) -
     ensures { λ r. ⌜ Replies (replyOf k card (now («data» .entry)) (now (supply .entry))) r (now (out .entry)) (now (out .exit)) ⌝ }
 {
     match k {
-        Command::Select => plain_commands::select(card, out),
-        Command::Init => plain_commands::init(card, data, supply),
-        Command::Open(_) => plain_commands::open(card, supply, out),
+        Command::Select => select_command::select(card, out),
+        Command::Init => init_command::init(card, data, supply),
+        Command::Open(_) => open_channel::open(card, supply, out),
         Command::Mutual => pin_commands::mutual(card, supply, out),
-        Command::PairFirst => plain_commands::pair_first(card, supply, out),
-        Command::PairFinal => plain_commands::pair_final(card, supply, out),
+        Command::PairFirst => pair_command::pair_first(card, supply, out),
+        Command::PairFinal => pair_command::pair_final(card, supply, out),
         Command::Unpair(slot) => pin_commands::unpair(card, slot),
         Command::Status(which) => pin_commands::status(card, which, out),
         Command::Verify => pin_commands::verify(card, data),

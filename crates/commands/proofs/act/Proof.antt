@@ -2,7 +2,7 @@
 -- Assumes nothing.
 use Rattle.key_commands.proofs.Responses.{derive-response, remove-response, pinless-response}
 use Rattle.pin_commands.proofs.Laws.{verify-empty, change-empty, unblock-empty, unpair-empty}
-use Rattle.plain_commands.proofs.Laws.{init-empty}
+use Rattle.init_command.proofs.Laws.{init-empty}
 use Rattle.rules.specs.Commands.{checksOf, supplyOf, replyOf}
 use Rattle.commands.proofs.Facts.{checked, suited, ranged, silent}
 use borrow.Author.Needs.{needs}
