@@ -139,8 +139,8 @@ fn answer_sound(card: Card, cmd: &[u8], supply: &[u8], buf: &mut [u8]) -> Answer
     let count = way.count;
     let k = way.command;
     if way.goes {
-        let form = decode::supply_of(k);
-        if decode::supply_suits(form, supply) {
+        let form = supply_forms::supply_of(k);
+        if supply_forms::supply_suits(form, supply) {
             return perform(way.over, next, k, &plain[0..count], supply, buf);
         }
         return refused(card, REFUSAL_SUPPLY);
@@ -172,7 +172,7 @@ fn ask_sound(card: Card, cmd: &[u8], buf: &mut [u8]) -> Asked
     let count = way.count;
     let k = way.command;
     if way.goes {
-        let form = decode::supply_of(k);
+        let form = supply_forms::supply_of(k);
         if form.kind == 0 {
             return ask_refused(card::REFUSAL_NONE);
         }

@@ -33,13 +33,13 @@ use Rattle.rules.specs.Steps.{closed, forgotten, begins, dropped, afterStep1, d
 use Rattle.rules.specs.Commands.{checksOf, supplyOf, replyOf}
 use Rattle.rules.specs.Engine.{sessionOf, withMac, Told, plainly, overChannel, Decision, ends, step6, byChoice, step5, byOpening, step4, byName, step3, byForm, step2, decide}
 use Rattle.commands.specs.Fits.{InRange, PathsFit}
-use Rattle.decode.specs.declared.Form.{Form}
-use Rattle.decode.specs.declared.Form.the-variants as form
-use Rattle.decode.specs.Form.{DataAt, FormSays}
-use Rattle.decode.specs.Stakes.{stakeOf, without}
-use Rattle.decode.specs.declared.Stake.{Stake}
-use Rattle.decode.specs.declared.Stake.the-variants as stake
-use Rattle.decode.proofs.Decoding.{stake-is}
+use Rattle.steps.specs.declared.Form.{Form}
+use Rattle.steps.specs.declared.Form.the-variants as form
+use Rattle.steps.specs.Form.{DataAt, FormSays}
+use Rattle.stakes.specs.Stakes.{stakeOf, without}
+use Rattle.stakes.specs.declared.Stake.{Stake}
+use Rattle.stakes.specs.declared.Stake.the-variants as stake
+use Rattle.stakes.proofs.Decoding.{stake-is}
 use Rattle.route.specs.declared.Way.{Way}
 use Rattle.route.specs.Routes.{tellBy, endsWith, decisionOf, Ready, Routes}
 use Rattle.route.specs.Routes.{opening as way}

@@ -10,13 +10,13 @@ ghost use Rattle.rules.specs.Steps.{atStake};
 ghost use Rattle.route.specs.Routes.{tellBy, Routes, RoutesIn, endsWith, opening};
 use card::Card;
 use card::Channel;
-use decode::Form;
 use message::Opening;
 use message::Session;
 use rules::Choice;
 use rules::Command;
 use rules::Instruction;
 use rules::Named;
+use steps::Form;
 
 // The most data that a command carries, and the longest ciphertext, in bytes.
 pub const DATA_MAX_BYTES: usize = 255;
@@ -64,7 +64,7 @@ fn step_6(over: bool, i: Instruction, p1: u8, card: Card, k: Command, data: &[u8
             card,
         };
     }
-    ends(over, decode::at_stake(i, p1, card), status)
+    ends(over, stakes::at_stake(i, p1, card), status)
 }
 
 // Step 5: P1 and P2.
@@ -75,7 +75,7 @@ fn step_5(over: bool, i: Instruction, p1: u8, p2: u8, card: Card, data: &[u8]) -
     let choice = decode::choose(i, p1, p2);
     match choice {
         Choice::Listed(k) => step_6(over, i, p1, card, k, data),
-        Choice::Unlisted => ends(over, decode::at_stake(i, p1, card), rules::WRONG_PARAMETERS),
+        Choice::Unlisted => ends(over, stakes::at_stake(i, p1, card), rules::WRONG_PARAMETERS),
     }
 }
 
@@ -134,7 +134,7 @@ fn open(i: Instruction, card: Card, cmd: &[u8], field: &[u8], plain: &mut [u8]) 
     let ins = cmd[1];
     let Opening::Bytes(n) = sealing::open_command(session, [cla, ins, p1, p2], field, &mut opened)
     else {
-        let closed = decode::close(card);
+        let closed = steps::close(card);
         return ends(false, closed, rules::SECURITY_NOT_MET);
     };
     opened_way(i, p1, p2, card, field, &opened[0..n], plain)
@@ -145,11 +145,11 @@ fn step_4(i: Instruction, card: Card, cmd: &[u8], field: &[u8], plain: &mut [u8]
     requires { ⌜ (4 ≤ length (now cmd)) × (length (now field) ≤ 255) × (length (now plain) ≡ 255) × PathsFit (card .keys) ⌝ }
     ensures { λ r. ⌜ RoutesIn (step4 i (now (cmd .entry)) card (now (field .entry))) r (now (plain .exit)) ⌝ }
 {
-    if decode::is_plain(i) {
+    if instructions::is_plain(i) {
         octets::put(plain, 0, field);
         return step_5(false, i, cmd[2], cmd[3], card, field);
     }
-    if decode::in_stage(i, card.channel.stage) {
+    if instructions::in_stage(i, card.channel.stage) {
         return open(i, card, cmd, field, plain);
     }
     ends(false, card, rules::CONDITIONS_NOT_MET)
@@ -160,7 +160,7 @@ fn step_3(card: Card, cmd: &[u8], field: &[u8], plain: &mut [u8]) -> Way
     requires { ⌜ (4 ≤ length (now cmd)) × (length (now field) ≤ 255) × (length (now plain) ≡ 255) × PathsFit (card .keys) ⌝ }
     ensures { λ r. ⌜ RoutesIn (step3 (now (cmd .entry)) card (now (field .entry))) r (now (plain .exit)) ⌝ }
 {
-    let named = decode::name(card.initialised != 0, cmd[0], cmd[1]);
+    let named = instructions::name(card.initialised != 0, cmd[0], cmd[1]);
     match named {
         Named::Known(i) => step_4(i, card, cmd, field, plain),
         Named::WrongClass => ends(false, card, rules::UNKNOWN_CLASS),
@@ -173,8 +173,8 @@ pub fn route(card: Card, cmd: &[u8], plain: &mut [u8]) -> Way
     requires { ⌜ (length (now plain) ≡ 255) × PathsFit (card .keys) ⌝ }
     ensures { λ r. ⌜ RoutesIn (decide card (now (cmd .entry))) r (now (plain .exit)) ⌝ }
 {
-    let next = decode::step_1(card, cmd);
-    let form = decode::find_data(cmd);
+    let next = steps::step_1(card, cmd);
+    let form = steps::find_data(cmd);
     match form {
         Form::Data(start, stop) => step_3(next, cmd, &cmd[start..stop], plain),
         Form::Wrong => ends(false, next, rules::WRONG_LENGTH),

@@ -1,8 +1,12 @@
 -- Each command with its own reply, by what is known of its checks, its supply and its index.
 -- Assumes nothing.
-use Rattle.key_commands.proofs.Responses.{derive-response, remove-response, pinless-response}
-use Rattle.pin_commands.proofs.Laws.{verify-empty, change-empty, unblock-empty, unpair-empty}
-use Rattle.plain_commands.proofs.Laws.{init-empty}
+use Rattle.load_command.proofs.Responses.{remove-response}
+use Rattle.path_commands.proofs.Responses.{derive-response, pinless-response}
+use Rattle.verify_command.proofs.Laws.{verify-empty}
+use Rattle.change_command.proofs.Laws.{change-empty}
+use Rattle.unblock_command.proofs.Laws.{unblock-empty}
+use Rattle.channel_commands.proofs.Laws.{unpair-empty}
+use Rattle.init_command.proofs.Laws.{init-empty}
 use Rattle.rules.specs.Commands.{checksOf, supplyOf, replyOf}
 use Rattle.commands.proofs.Facts.{checked, suited, ranged, silent}
 use borrow.Author.Needs.{needs}

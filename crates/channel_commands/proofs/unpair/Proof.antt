@@ -1,0 +1,19 @@
+-- UNPAIR: the slot of the index is the free one.
+-- Assumes nothing.
+use borrow.Author.Needs.{needs}
+use Rattle.rules.specs.Commands.{unpairReply}
+use Rattle.channel_commands.proofs.unpair.Statement.{statement}
+use Rattle.channel_commands.proofs.unpair.Tie as tie
+
+wide-requires : tie.Need-wide-requires
+wide-requires c κs = search needs
+
+with-free-requires : tie.Need-with-free-requires
+with-free-requires c κs = search needs
+
+returns : tie.Need-returns
+unfolding unpairReply
+returns c = rw (c .with-free .ensures, c .before .wide .ensures)
+
+pub unpair-spec : {M : Type 1} → statement M
+unpair-spec = tie.close (tie.spec wide-requires with-free-requires returns)

@@ -1,0 +1,3 @@
+pub mod SupplyFacts
+pub mod InitFacts
+pub mod Laws

@@ -1,0 +1,160 @@
+// INIT, which is plain in every stage: the status word of its check, and its reply past it.
+// Every length and count is in bytes.
+// Proved: the answer and the next card are what the command's rule gives, for every card, data and supply.
+ghost use mathlib.Core.Path.{_≡_};
+ghost use mathlib.Core.Bool.{true};
+ghost use lib.ListN.{length};
+ghost use Rattle.aes.specs.Aes.{invAes256};
+ghost use Rattle.cbc.specs.Mode.{cbcDecrypt};
+ghost use Rattle.padding.specs.Padding.{unpad};
+ghost use Rattle.rules.specs.Words.{success, verdict, reportOf};
+ghost use Rattle.rules.specs.Supplies.{suits, initSupply};
+ghost use Rattle.rules.specs.Commands.{initChecks, isContent, initialisedWith, initReply};
+ghost use Rattle.init_command.specs.Content.{isFormed, pinsWith, offered, Found};
+use card::Card;
+use card::IV_BYTES;
+use card::KEY_BYTES;
+use card::PIN_BYTES;
+use card::PUK_BYTES;
+use card::Pins;
+use padding::Unpadded;
+use rules::Replied;
+use rules::SUCCESS;
+use rules::WRONG_DATA;
+use supply_parts::POINT_FORM;
+use supply_parts::YES;
+use supply_parts::block_part;
+use supply_parts::key_part;
+use supply_parts::must;
+
+// INIT's data, and where its parts begin: the point's length in one byte, the point, IV 16, ciphertext 64.
+pub const INIT_DATA_BYTES: usize = 146;
+
+pub const POINT_LENGTH: u8 = 0x41;
+
+const INIT_IV_AT: usize = 66;
+
+const CIPHERTEXT_AT: usize = 82;
+
+const CIPHERTEXT_BYTES: usize = 64;
+
+// INIT's content, and where its parts begin: PIN 6, PUK 12, pairing secret 32.
+pub const CONTENT_BYTES: usize = 50;
+
+const PUK_AT: usize = 6;
+
+const SECRET_AT: usize = 18;
+
+// Where the key of INIT's supply begins, behind the flag.
+const AES_KEY_AT: usize = 1;
+
+// ---- INIT
+// Whether the data have INIT's form.
+fn is_formed(data: &[u8]) -> bool
+    ensures { λ r. ⌜ r ≡ isFormed (now («data» .entry)) ⌝ }
+{
+    if data.len() != INIT_DATA_BYTES {
+        return false;
+    }
+    let point_bytes = data[0] == POINT_LENGTH;
+    let point_form = data[1] == POINT_FORM;
+    point_bytes & point_form
+}
+
+pub fn init_verdict(data: &[u8]) -> u16
+    ensures { λ r. ⌜ r ≡ verdict (initChecks (now («data» .entry))) ⌝ }
+{
+    must(is_formed(data), WRONG_DATA, SUCCESS)
+}
+
+// Whether these bytes are a PIN, a PUK and a pairing secret.
+fn is_content(content: &[u8]) -> bool
+    ensures { λ r. ⌜ r ≡ isContent (now (content .entry)) ⌝ }
+{
+    if content.len() != CONTENT_BYTES {
+        return false;
+    }
+    let pin = byte_tests::digits(&content[0..PUK_AT]);
+    let puk = byte_tests::digits(&content[PUK_AT..SECRET_AT]);
+    pin & puk
+}
+
+// Deciphers the bytes where they stand, and looks whether they hold content that is right, which then stands at their start.
+fn decipher(key: [u8; KEY_BYTES], iv: [u8; IV_BYTES], plain: &mut [u8]) -> bool
+    requires { ⌜ length (now plain) ≡ 64 ⌝ }
+    ensures { λ r. ⌜ Found (unpad (cbcDecrypt (invAes256 key) iv (now (plain .entry)))) r (now (plain .exit)) ⌝ }
+{
+    cbc::cbc_decrypt(&key, iv, plain);
+    match padding::find_data(plain) {
+        Unpadded::Bytes(n) => is_content(&plain[0..n]),
+        Unpadded::Wrong => false,
+    }
+}
+
+// Opens INIT's data with the key that the supply brings, if its flag says yes.
+fn open_init(data: &[u8], supply: &[u8], plain: &mut [u8]) -> bool
+    requires { ⌜ (length (now «data») ≡ 146) × (length (now supply) ≡ 33) × (length (now plain) ≡ 64) ⌝ }
+    ensures { λ r. ⌜ Found (offered (now («data» .entry)) (now (supply .entry))) r (now (plain .exit)) ⌝ }
+{
+    if supply[0] == YES {
+        let key = key_part(supply, AES_KEY_AT);
+        let iv = block_part(data, INIT_IV_AT);
+        octets::put(plain, 0, &data[CIPHERTEXT_AT..INIT_DATA_BYTES]);
+        decipher(key, iv, plain)
+    } else {
+        false
+    }
+}
+
+// PIN and PUK with full tries.
+fn pins_with(content: &[u8]) -> Pins
+    requires { ⌜ length (now content) ≡ 50 ⌝ }
+    ensures { λ r. ⌜ r ≡ pinsWith (now (content .entry)) ⌝ }
+{
+    let mut pin = [0; PIN_BYTES];
+    octets::put(&mut pin, 0, &content[0..PUK_AT]);
+    let mut puk = [0; PUK_BYTES];
+    octets::put(&mut puk, 0, &content[PUK_AT..SECRET_AT]);
+    Pins {
+        pin,
+        puk,
+        pin_tries: Card::PIN_TRIES,
+        puk_tries: Card::PUK_TRIES,
+        verified: 0,
+    }
+}
+
+fn initialised_with(card: Card, content: &[u8]) -> Card
+    requires { ⌜ length (now content) ≡ 50 ⌝ }
+    ensures { λ r. ⌜ r ≡ initialisedWith card (now (content .entry)) ⌝ }
+{
+    let pins = pins_with(content);
+    let secret = key_part(content, SECRET_AT);
+    let mut pairing = card.pairing;
+    pairing.secret = secret;
+    let mut next = card;
+    next.initialised = 1;
+    next.pins = pins;
+    next.pairing = pairing;
+    next
+}
+
+pub fn init(card: Card, data: &[u8], supply: &[u8]) -> Replied
+    requires { ⌜ (verdict (initChecks (now «data»)) ≡ success) × (suits initSupply (now supply) ≡ true) ⌝ }
+    ensures { λ r. ⌜ r ≡ reportOf (initReply card (now («data» .entry)) (now (supply .entry))) ⌝ }
+{
+    let mut plain = [0; CIPHERTEXT_BYTES];
+    if open_init(data, supply, &mut plain) {
+        Replied {
+            status: SUCCESS,
+            count: 0,
+            card: initialised_with(card, &plain[0..CONTENT_BYTES]),
+        }
+    } else {
+        Replied {
+            status: WRONG_DATA,
+            count: 0,
+            card,
+        }
+    }
+}

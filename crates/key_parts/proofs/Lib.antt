@@ -1,0 +1,2 @@
+pub mod SupplyFacts
+pub mod KeyReplies

@@ -1,0 +1,4 @@
+pub mod CheckFacts
+pub mod SupplyFacts
+pub mod ReplyFacts
+pub mod Laws

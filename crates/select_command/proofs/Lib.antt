@@ -1,0 +1,4 @@
+pub mod CheckFacts
+pub mod SelectFacts
+pub mod ReplyFacts
+pub mod Laws
