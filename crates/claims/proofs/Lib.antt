@@ -1,3 +1,4 @@
 pub mod Pins
 pub mod AfterInit
 pub mod Rows
+pub mod WrongEngines
