@@ -126,6 +126,11 @@ supplied c tell x d k s h = go (eqb v success) (λ e. h (eqb-true v success e))
     go true f = ap (λ (t : Bool). cond t (answered (tell (replyOf k x d s))) (record { refusal = 3; card = c; bytes = [] })) (f refl)
     go false f = refl
 
+replied : (c : Card) (tell : Reply → Told) (lost x : Card) (d : List ℕ) (k : Command) (s : List ℕ) → verdict (checksOf k x d) ≡ success
+    → suits (supplyOf k) s ≡ true → withSupply c (step6 tell lost x d k) s ≡ answered (tell (replyOf k x d s))
+unfolding step6
+replied c tell lost x d k s v u = rw (v, u)
+
 -- ---- in stage 2 no command over the channel changes it
 abbrev Keeps : Command → Type 0
 Keeps k = (c : Card) (d s : List ℕ) → c .channel .stage ≡ 2 → verdict (checksOf k c d) ≡ success → replyOf k c d s .card .channel ≡ c .channel
@@ -202,3 +207,14 @@ module _ (c : Card) (cmd s : List ℕ) (room : ℕ) (sound : isSound c ≡ true)
         (stake-none (x .instruction) (p1Of cmd) here (x .sealed) stage-here)
         ∙ supplied c overChannel here (x .data′) (x .command) s right
         ∙ ap answered (sealed-in-2 result (ap (λ (k : Channel). k .stage) result-channel ∙ stage-here))
+
+  -- where the checks hold and the reply leaves stage 2, the reply is sealed; so in stage 1, for MUTUAL
+  module _ (stays : (eqb (c .channel .stage) 1 && not (begins 0x11 cmd)) ≡ false) (x : Opens c cmd) where
+    pub answer-right : verdict (checksOf (x .command) (atStep6 c cmd x) (x .data′)) ≡ success → suits (supplyOf (x .command)) s ≡ true
+        → replyOf (x .command) (atStep6 c cmd x) (x .data′) s .card .channel .stage ≡ 2
+        → answerOut c cmd s room ≡ answered (sealed (replyOf (x .command) (atStep6 c cmd x) (x .data′) s))
+    answer-right v u h =
+        answer-decided
+        ∙ ap (λ (d : Decision). withSupply c d s) (decide-opens c cmd (opens-behind cmd c stays x))
+        ∙ replied c overChannel (atStake (x .instruction) (p1Of cmd) (atStep6 c cmd x)) (atStep6 c cmd x) (x .data′) (x .command) s v u
+        ∙ ap answered (sealed-in-2 (replyOf (x .command) (atStep6 c cmd x) (x .data′) s) h)
