@@ -105,6 +105,7 @@ module _ (s : Session) (t : Turn) (k : Keyed s) where
     taken = refl;
     form = form ∙ ap some (sym behind);
     opens = command-opens s k header d is-header (t .databytes) (t .most);
+    same = command-sessions s k header d is-header (t .databytes) (t .most);
   })
 
 -- ---- step 1 leaves a sound card with an open channel as it is

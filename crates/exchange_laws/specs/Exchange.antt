@@ -5,10 +5,10 @@ use mathlib.Core.Path.{_≡_}
 use mathlib.Core.Bool.{true, false}
 use mathlib.Core.List.{List, [], _∷_, _++_}
 use mathlib.Core.Option.{some}
-use lib.ListN.{length, drop}
+use lib.ListN.{length, take, drop}
 use Rattle.octets.specs.Bytes.{Bytes}
 use Rattle.message.specs.declared.Session.{Session}
-use Rattle.message.specs.Message.{Keyed, commandHead, openField}
+use Rattle.message.specs.Message.{Keyed, withIv, commandHead, openField}
 use Rattle.message.specs.Terminal.{Out, sealOut, sealedResponse, unsealOut}
 use Rattle.card.specs.declared.Card.{Card}
 use Rattle.card.specs.Sound.{isSound}
@@ -56,11 +56,13 @@ answeredBy c t = answerOut c (sealedBy (sessionOf (c .channel)) t .bytes) (t .su
 abbrev pub unsealedBy : Card → Turn → Out
 unsealedBy c t = unsealOut (sealedBy (sessionOf (c .channel)) t .session) (answeredBy c t .bytes) (t .unsealroom)
 
--- ---- SEAL alone, for every header and data that it takes: its output has the right form, and its field opens to the data
+-- ---- SEAL alone, for every header and data that it takes: its output has the right form, its field opens to the data, and the card that
+-- opens it holds the session that SEAL gives
 pub record SealOpens (s : Session) (t : Turn) (sent : Out) : Type 0 where
   pub taken : sent .refusal ≡ 0
   pub form : dataOf (sent .bytes) ≡ some (drop 5 (sent .bytes))
   pub opens : openField s (commandHead (t .header)) (drop 5 (sent .bytes)) ≡ some (t .data′)
+  pub same : withIv s (take 16 (drop 5 (sent .bytes))) ≡ sent .session
 
 -- ---- the header names a command over the channel on this card
 pub record Names (c : Card) (header : List ℕ) : Type 0 where
