@@ -2,3 +2,5 @@ pub mod Pins
 pub mod AfterInit
 pub mod Rows
 pub mod WrongEngines
+pub mod Refusals
+pub mod Trips
