@@ -4,3 +4,5 @@ pub mod Rows
 pub mod WrongEngines
 pub mod Refusals
 pub mod Trips
+pub mod Secrecy
+pub mod Claims
