@@ -36,11 +36,12 @@ use Rattle.rules.specs.Steps.{closed, forgotten, begins, kept, afterStep1, data
 use Rattle.rules.specs.Commands.{mutualChecks, mutualReply, checksOf, supplyOf, replyOf}
 use Rattle.rules.specs.Engine.{sessionOf, withMac, plainText, sealed, overChannel, Answered, answered, answerOut}
 use Rattle.rule_laws.proofs.Responses.{response-most}
-use Rattle.engine_laws.proofs.Sound.{mac-sound, mac-shaped}
+use Rattle.engine_laws.proofs.Sound.{mac-sound, mac-shaped, answer-shaped}
 use Rattle.exchange_laws.specs.Opens.{Opens, atStep6, outcome}
 use Rattle.exchange_laws.specs.Exchange.{Typed, Turn, sealedBy, answeredBy, unsealedBy, SealOpens, Names, opened, Exchanged, Exchange, InStage2, Supplied, ToStage2, Together}
 use Rattle.exchange_laws.proofs.Answers.{stays-2, outcome-channel, answer-stage2, answer-right}
 use Rattle.exchange_laws.proofs.Texts.{reply-bytes, outcome-bytes}
+use Rattle.exchange_laws.proofs.Paths.{reply-path, outcome-path}
 
 -- ---- the form: Lc and then as many bytes
 data-filled : (h : List ℕ) → length h ≡ 4 → (n : ℕ) (f : List ℕ) → n ≡ length f → 1 ≤ n → dataOf (h ++ (n ∷ f)) ≡ some f
@@ -201,6 +202,13 @@ module _ (c : Card) (t : Turn) (w : Typed c) where
     answered-is : answeredBy c t ≡ answered (sealed r)
     answered-is = ap (λ (o : Out). answerOut c (o .bytes) (t .supply) (t .answerroom)) (gives s t (w .keyed)) ∙ told
 
+    pub typed-next : isSound c ≡ true → Bytes (r .card .keys .current .bytes) → Typed (answeredBy c t .card)
+    typed-next sound path = record {
+      shaped = answer-shaped c (sealedBy s t .bytes) (t .supply) (t .answerroom) sound (w .shaped);
+      keyed = subst (λ (x : Session). Keyed x) (exchanged .same) (exchanged .keyed);
+      path = subst (λ (a : Answered). Bytes (a .card .keys .current .bytes)) (sym answered-is) path;
+    }
+
 -- ---- the card behind the opening
 module _ (c : Card) (t : Turn) (w : Typed c) (sound : isSound c ≡ true) (open′ : c .channel .stage ≡ 0 → ⊥) (n : Names c (t .header))
     (stays : (eqb (c .channel .stage) 1 && not (begins 0x11 (cmd (s c t w) t (w .keyed)))) ≡ false) where
@@ -260,6 +268,9 @@ module _ (c : Card) (t : Turn) (n : Names c (t .header)) (sound : isSound c ≡ 
     turn = exchanged c t w result told2 session2 bytes2 short2;
     stays = ap (λ (a : Answered). a .card .channel .stage) (answered-is c t w result told2 session2 bytes2 short2)
         ∙ ap (λ (k : Channel). k .stage) channel2 ∙ in2;
+    typed = typed-next c t w result told2 session2 bytes2 short2 sound
+        (outcome-path (n .instruction) (p1Of (t .header)) (p2Of (t .header)) (n .command) (n .sealed) (n .listed) (opened c t) (t .data′) (t .supply)
+        (t .databytes) (w .path));
   }
 
 -- ---- MUTUAL in stage 1
@@ -359,6 +370,9 @@ module _ (c : Card) (t : Turn) (sound : isSound c ≡ true) (w : Typed c) (in1 :
     turn = turn1;
     random = turn1 .plain ∙ reply-random;
     stage = ap (λ (a : Answered). a .card .channel .stage) (answered-is c t w replied1 told1 session1 bytes1 short1) ∙ reply-stage (opened c t);
+    typed = typed-next c t w replied1 told1 session1 bytes1 short1 sound
+        (reply-path ins.Mutual (p1Of (t .header)) (p2Of (t .header)) command.Mutual sealed1 listed1 (opened c t) (t .data′) (t .supply)
+        (t .databytes) (w .path));
   }
 
 -- ---- the claim

@@ -94,10 +94,11 @@ Exchange c t r = Exchanged r (sealedBy (sessionOf (c .channel)) t) (answeredBy c
 
 -- ---- the claims
 -- in stage 2, any command over the channel: the reply is the one of its definition for the opened data, or the status word of its first check
--- that does not hold; stage 2 stays
+-- that does not hold; stage 2 stays, and the card meets the types still, so that the next turn can begin
 pub record InStage2 (c : Card) (t : Turn) (n : Names c (t .header)) : Type 0 where
   pub turn : Exchange c t (outcome (n .command) (opened c t) (t .data′) (t .supply))
   pub stays : answeredBy c t .card .channel .stage ≡ 2
+  pub typed : Typed (answeredBy c t .card)
 
 -- the supply is right, where the command's checks hold
 abbrev pub Supplied : (c : Card) (t : Turn) → Names c (t .header) → Type 0
@@ -109,6 +110,7 @@ pub record ToStage2 (c : Card) (t : Turn) : Type 0 where
   pub turn : Exchange c t (replyOf command.Mutual (opened c t) (t .data′) (t .supply))
   pub random : unsealedBy c t .bytes ≡ t .supply ++ word success
   pub stage : answeredBy c t .card .channel .stage ≡ 2
+  pub typed : Typed (answeredBy c t .card)
 
 pub record Together : Type 0 where
   pub opens : (s : Session) (t : Turn) → Keyed s → SealOpens s t (sealedBy s t)
