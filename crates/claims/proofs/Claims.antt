@@ -3,6 +3,7 @@
 use Rattle.exchange_laws.proofs.Exchanges.{together}
 use Rattle.claims.specs.Claims.{Claims}
 use Rattle.claims.proofs.Rows.{rows}
+use Rattle.claims.proofs.RowsMet.{rows-met}
 use Rattle.claims.proofs.WrongEngines.{wrong-engines}
 use Rattle.claims.proofs.Refusals.{refusals}
 use Rattle.claims.proofs.Trips.{trips}
@@ -15,5 +16,6 @@ claims = record {
   together = together;
   secrecy = secrecy;
   rows = rows;
+  rowsmet = rows-met;
   wrongengines = wrong-engines;
 }

@@ -1,6 +1,7 @@
 pub mod Pins
 pub mod AfterInit
 pub mod Rows
+pub mod RowsMet
 pub mod WrongEngines
 pub mod Refusals
 pub mod Trips

@@ -1,4 +1,5 @@
 pub mod Rows
+pub mod RowsMet
 pub mod WrongEngines
 pub mod Refusals
 pub mod Trips

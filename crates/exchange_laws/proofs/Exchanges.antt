@@ -80,10 +80,10 @@ module _ (s : Session) (t : Turn) (k : Keyed s) where
   is-header : Header header
   is-header = record { long = t .four; bytes = t .headerbytes }
 
-  gives : sealedBy s t ≡ record { refusal = 0; session = withIv s mac; bytes = cmd }
+  pub gives : sealedBy s t ≡ record { refusal = 0; session = withIv s mac; bytes = cmd }
   gives = seal-gives s k header d is-header (t .databytes) (t .most) (t .sealroom) (t .sealenough)
 
-  form : dataOf cmd ≡ some field
+  pub form : dataOf cmd ≡ some field
   form =
       let n = lc-counts s k header d is-header (t .databytes) (t .most) in
       data-filled header (t .four) (lc (length (ciphertext s d))) field n (omega arith)
@@ -91,7 +91,7 @@ module _ (s : Session) (t : Turn) (k : Keyed s) where
   behind : drop 5 cmd ≡ field
   behind = command-field s k header d is-header (t .databytes) (t .most)
 
-  opens : openField s (commandHead header) field ≡ some d
+  pub opens : openField s (commandHead header) field ≡ some d
   opens = ap (openField s (commandHead header)) (sym behind) ∙ command-opens s k header d is-header (t .databytes) (t .most)
 
   mac-is : take 16 field ≡ mac
@@ -116,7 +116,7 @@ forgotten-same c p e = sym (ap₂ (λ (n : ℕ) (x : List ℕ). withPairing c (p
     pairing : ℕ → List ℕ → Pairing
     pairing n x = record { secret = c .pairing .secret; slots = c .pairing .slots; pending = n; expected = x }
 
-is-after : (c : Card) → isSound c ≡ true → (c .channel .stage ≡ 0 → ⊥) → After c
+pub is-after : (c : Card) → isSound c ≡ true → (c .channel .stage ≡ 0 → ⊥) → After c
 is-after c e n =
     ⊎-elim (λ b. absurd (n (eqb-true (c .channel .stage) 0 (both (isZero (c .channel .stage)) (sessionZero (c .channel)) (blank-rules c (b .blank) .channel) .0))))
     (λ a. a) (sound-cases c e)
@@ -160,10 +160,10 @@ module _ (c : Card) (t : Turn) (w : Typed c) where
     abbrev rest : List ℕ
     rest = lc (length (ciphertext s (t .data′))) ∷ field s t (w .keyed)
 
-    at : (i : ℕ) → i < 4 → getD (cmd s t (w .keyed)) i 0 ≡ getD (t .header) i 0
+    pub at : (i : ℕ) → i < 4 → getD (cmd s t (w .keyed)) i 0 ≡ getD (t .header) i 0
     at i l = List·getD-append (t .header) rest 0 i (omega (arith, t .four))
 
-    abbrev opens-of : Opens c (cmd s t (w .keyed))
+    abbrev pub opens-of : Opens c (cmd s t (w .keyed))
     opens-of = record {
       field = field s t (w .keyed);
       data′ = t .data′;
