@@ -61,9 +61,9 @@ unfolding step2 dataOf step3 nameOf step4 isPlain inStage
 bare-step2 c i z = ap (λ (b : Bool). byName bare (forgotten c) [] (nameOf b 0x80 0xF2)) i ∙ rw z
 
 bare-status : (c : Card) (supply : List ℕ) (room : ℕ) → isSound c ≡ true → isInitialised c ≡ true → c .channel .stage ≡ 0 → 258 ≤ room
-    → answerOut c bare supply room .bytes ≡ 0x69 ∷ 0x85 ∷ []
+    → (answerOut c bare supply room .refusal ≡ 0) × (answerOut c bare supply room .bytes ≡ 0x69 ∷ 0x85 ∷ [])
 unfolding answerOut decide suits
-bare-status c supply room e i z r = rw (e, le-ltb room 258 r, bare-step1 c z, bare-step2 c i z)
+bare-status c supply room e i z r = rw (e, le-ltb room 258 r, bare-step1 c z, bare-step2 c i z) (refl, refl)
 
 -- ---- GET STATUS after INIT
 abbrev said : List ℕ

@@ -104,7 +104,8 @@ pub record Rows : Type 0 where
       → Gives (after (after (after c (x .first)) (x .second)) (x .third)) (x .fourth .sent) (0x63 ∷ 0xC0 ∷ [])
   -- 80 F2 00 00 on an initialised card in stage 0, plain
   pub barestatus : (c : Card) (supply : List ℕ) (room : ℕ) → isSound c ≡ true → isInitialised c ≡ true → c .channel .stage ≡ 0 → 258 ≤ room
-      → answerOut c (0x80 ∷ 0xF2 ∷ 0 ∷ 0 ∷ []) supply room .bytes ≡ 0x69 ∷ 0x85 ∷ []
+      → (answerOut c (0x80 ∷ 0xF2 ∷ 0 ∷ 0 ∷ []) supply room .refusal ≡ 0)
+      × (answerOut c (0x80 ∷ 0xF2 ∷ 0 ∷ 0 ∷ []) supply room .bytes ≡ 0x69 ∷ 0x85 ∷ [])
   -- GET STATUS after INIT: on INIT's own next card, and over the channel that is opened later
   pub statusrule : (c : Card) (i : Initialises c) (d s : List ℕ)
       → replyOf (command.Status report.Application) (initialised c i) d s .response

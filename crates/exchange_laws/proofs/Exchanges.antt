@@ -26,13 +26,14 @@ use Rattle.card.specs.Sound.{isSound, sessionZero}
 use Rattle.card.specs.Shape.{Shaped}
 use Rattle.card.proofs.Tests.{both, zero-list}
 use Rattle.card.proofs.Rules.{After, PartsRules, pairing-rules, parts-rules, blank-rules, sound-cases}
+use Rattle.rules.specs.declared.Instruction.{Instruction}
 use Rattle.rules.specs.declared.Instruction.the-variants as ins
 use Rattle.rules.specs.declared.Named.the-variants as named
 use Rattle.rules.specs.declared.Command.{Command}
 use Rattle.rules.specs.declared.Command.the-variants as command
 use Rattle.rules.specs.Words.{success, word, verdict, Reply, fails}
 use Rattle.rules.specs.Supplies.{suits}
-use Rattle.rules.specs.Steps.{closed, forgotten, begins, kept, afterStep1, dataOf, headerOf, claOf, insOf, p1Of, p2Of, isInitialised, nameOf, isPlain, inStage, commandOf}
+use Rattle.rules.specs.Steps.{closed, forgotten, begins, kept, afterStep1, dataOf, headerOf, claOf, insOf, p1Of, p2Of, rowOf, isInitialised, nameOf, isPlain, inStage, commandOf}
 use Rattle.rules.specs.Commands.{mutualChecks, mutualReply, checksOf, supplyOf, replyOf}
 use Rattle.rules.specs.Engine.{sessionOf, withMac, plainText, sealed, overChannel, Answered, answered, answerOut}
 use Rattle.rule_laws.proofs.Responses.{response-most}
@@ -375,6 +376,41 @@ module _ (c : Card) (t : Turn) (sound : isSound c ≡ true) (w : Typed c) (in1 :
         (t .databytes) (w .path));
   }
 
+-- ---- headers
+-- an initialised card knows every instruction over the channel by its byte, and stage 2 is right for each
+known : (i : Instruction) → isPlain i ≡ false → (nameOf true 0x80 (rowOf i .byte) ≡ named.Known i) × (inStage i 2 ≡ true)
+unfolding isPlain nameOf inStage
+known ins.Select e = absurd (false≢true (sym e))
+known ins.Init e = absurd (false≢true (sym e))
+known ins.Open e = absurd (false≢true (sym e))
+known ins.Pair e = absurd (false≢true (sym e))
+known ins.Mutual e = (refl, refl)
+known ins.Unpair e = (refl, refl)
+known ins.Status e = (refl, refl)
+known ins.Verify e = (refl, refl)
+known ins.Change e = (refl, refl)
+known ins.Unblock e = (refl, refl)
+known ins.Load e = (refl, refl)
+known ins.Derive e = (refl, refl)
+known ins.Remove e = (refl, refl)
+known ins.SetPinless e = (refl, refl)
+known ins.Sign e = (refl, refl)
+
+header-named : (c : Card) (i : Instruction) (k : Command) (p1 : ℕ) → isSound c ≡ true → c .channel .stage ≡ 2 → isPlain i ≡ false
+    → commandOf i p1 0 ≡ some k → (n : Names c (0x80 ∷ rowOf i .byte ∷ p1 ∷ 0 ∷ [])) × (n .command ≡ k)
+header-named c i k p1 sound in2 e l =
+    let on : c .initialised ≡ 1 = is-after c sound (λ z. omega (arith, in2)) .flag in (
+      record {
+        instruction = i;
+        command = k;
+        name = ap (λ (m : ℕ). nameOf (not (isZero m)) 0x80 (rowOf i .byte)) on ∙ known i e .0;
+        sealed = e;
+        stage = ap (λ (m : ℕ). inStage i m) in2 ∙ known i e .1;
+        listed = l;
+      },
+      refl,
+    )
+
 -- ---- the claim
 pub together : Together
-together = record { opens = λ s t k. seal-opens s t k; answers = in-stage2; authenticates = to-stage2 }
+together = record { named = header-named; opens = λ s t k. seal-opens s t k; answers = in-stage2; authenticates = to-stage2 }

@@ -19,7 +19,7 @@ use Rattle.rules.specs.declared.Command.{Command}
 use Rattle.rules.specs.declared.Command.the-variants as command
 use Rattle.rules.specs.Words.{success, word, verdict, Reply}
 use Rattle.rules.specs.Supplies.{suits}
-use Rattle.rules.specs.Steps.{dataOf, claOf, insOf, p1Of, p2Of, isInitialised, nameOf, isPlain, inStage, commandOf}
+use Rattle.rules.specs.Steps.{dataOf, claOf, insOf, p1Of, p2Of, rowOf, isInitialised, nameOf, isPlain, inStage, commandOf}
 use Rattle.rules.specs.Commands.{checksOf, supplyOf, replyOf}
 use Rattle.rules.specs.Engine.{sessionOf, withMac, Answered, answerOut}
 use Rattle.exchange_laws.specs.Opens.{outcome}
@@ -113,6 +113,9 @@ pub record ToStage2 (c : Card) (t : Turn) : Type 0 where
   pub typed : Typed (answeredBy c t .card)
 
 pub record Together : Type 0 where
+  -- the headers that the next field speaks of: class 80, the byte of any instruction over the channel, a P1 that it lists, P2 00
+  pub named : (c : Card) (i : Instruction) (k : Command) (p1 : ℕ) → isSound c ≡ true → c .channel .stage ≡ 2 → isPlain i ≡ false
+      → commandOf i p1 0 ≡ some k → (n : Names c (0x80 ∷ rowOf i .byte ∷ p1 ∷ 0 ∷ [])) × (n .command ≡ k)
   pub opens : (s : Session) (t : Turn) → Keyed s → SealOpens s t (sealedBy s t)
   pub answers : (c : Card) (t : Turn) (n : Names c (t .header)) → isSound c ≡ true → Typed c → c .channel .stage ≡ 2 → Supplied c t n → InStage2 c t n
   pub authenticates : (c : Card) (t : Turn) → isSound c ≡ true → Typed c → c .channel .stage ≡ 1 → t .header ≡ 0x80 ∷ 0x11 ∷ 0 ∷ 0 ∷ []
