@@ -68,7 +68,8 @@ module _ (g : Card) (f : isInitialised g ≡ false) (k : g .keys .kind ≡ 0) wh
   step4-fills ins.Select cmd d e =
       choice-fills d (isZero (p2Of cmd)) (eqb (p1Of cmd) 0x04) command.Select
       (step6-fills d command.Select (λ s t. absurd (false≢true (sym f ∙ t))))
-  step4-fills ins.Init cmd d e = choice-fills d (isZero (p2Of cmd)) (eqb (p1Of cmd) 0) command.Init (step6-fills d command.Init (init-fills d))
+  step4-fills ins.Init cmd d e =
+      choice-fills d (isZero (p2Of cmd)) (eqb (p1Of cmd) 0) command.Init (step6-fills d command.Init (init-fills d))
   step4-fills ins.Open cmd d e = absurd (false≢true e)
   step4-fills ins.Mutual cmd d e = absurd (false≢true e)
   step4-fills ins.Pair cmd d e = absurd (false≢true e)

@@ -1,5 +1,5 @@
--- What ANSWER gives to a command over the channel, and the chain of four entries: three wrong ones take the tries from 3 to 0, and the right PIN
--- is then not compared. Assumes nothing.
+-- What ANSWER gives to a command over the channel, and the chain of four entries: three wrong ones take the tries from 3 to 0, and the
+-- right PIN is then not compared. Assumes nothing.
 use mathlib.Core.Path.{_≡_, refl, sym, ap, ap₂, _∙_, subst}
 use mathlib.Core.Bool.{Bool, true, false}
 use mathlib.Core.List.{List, [], _∷_}
@@ -50,7 +50,8 @@ module _ (c : Card) (sound : isSound c ≡ true) (in2 : c .channel .stage ≡ 2)
       ap sessionOf (result-channel c (v .bytes) (v .supply) (v .room) sound (v .enough) in2 (v .opens))
       ∙ ap (λ (k : Channel). withIv (sessionOf k) (take 16 (v .opens .field))) (step1-channel (v .bytes) c (stays-2 (v .bytes) c in2))
 
-  module _ (right : verdict (checksOf (v .opens .command) here (v .opens .data′)) ≡ success → suits (supplyOf (v .opens .command)) (v .supply) ≡ true) where
+  module _ (right : verdict (checksOf (v .opens .command) here (v .opens .data′)) ≡ success → suits (supplyOf (v .opens .command))
+      (v .supply) ≡ true) where
     pub answer-is : answerOut c (v .bytes) (v .supply) (v .room) ≡ answered (sealed result)
     answer-is = answer-stage2 c (v .bytes) (v .supply) (v .room) sound (v .enough) in2 (v .opens) right
 
@@ -137,7 +138,8 @@ module _ (c : Card) (pin : List ℕ) (v : Entry c) where
 
   pub spent-entry : Left c pin 0 → Gives c (v .sent) (word (triesLeft 0))
   spent-entry l =
-      gives c (l .sound) (l .stage) (v .sent) unread (word (triesLeft 0)) (ap plainText (result-is (l .sound) (l .stage) (fails x (triesLeft 0))
+      gives c (l .sound) (l .stage) (v .sent) unread (word (triesLeft 0))
+      (ap plainText (result-is (l .sound) (l .stage) (fails x (triesLeft 0))
       (verify-spent x (entered c v) (v .sent .supply) (ap (λ (p : Pins). p .«pin_tries») pins-here ∙ l .tries))))
 
 -- ---- the chain

@@ -95,7 +95,8 @@ read-refusal s = record {
   numbers = ⊎-elim (λ t. inl (ap (λ (a : Answer). a .refusal) (t .0))) (λ e. inr (ap (λ (a : Answer). a .refusal) e)) (read-cases s);
   taken = record-read s;
   refused = read-refuses s;
-  nothing = λ h. ⊎-elim (λ t. absurd (omega (arith, ap (λ (a : Answer). a .refusal) (t .0), h))) (λ e. ap (λ (a : Answer). a .card) e) (read-cases s);
+  nothing = λ h. ⊎-elim (λ t. absurd (omega (arith, ap (λ (a : Answer). a .refusal) (t .0), h))) (λ e. ap (λ (a : Answer). a .card) e)
+      (read-cases s);
 }
 
 -- ---- SEAL
@@ -146,7 +147,8 @@ judged-7 s = record { numbers = inr refl; nothing = λ n. (refl, refl) }
 judged : (s : Session) (field : List ℕ) (b : Bool) (o : Option (List ℕ)) → Judged s (cond b (unsealed s field o) (refused s 7))
 judged s field false o = judged-7 s
 judged s field true none = judged-7 s
-judged s field true (some p) = by-test (Judged s) (ltb (length p) 2) (λ e. judged-7 s) (λ e. record { numbers = inl refl; nothing = λ n. absurd (n refl) })
+judged s field true (some p) =
+    by-test (Judged s) (ltb (length p) 2) (λ e. judged-7 s) (λ e. record { numbers = inl refl; nothing = λ n. absurd (n refl) })
 
 unseal-refuses : (s : Session) (response : List ℕ) (room : ℕ) → UnsealRefuses s response room
 unfolding unsealOut
@@ -158,7 +160,8 @@ unseal-refuses s response room = go (ltb room 223) refl
         (unsealed s (fieldOf response) (openField s responseHead (fieldOf response))) (refused s 7)
 
     is : Judged s inner
-    is = judged s (fieldOf response) (sameBytes (drop (length response - 2) response) plainSuccess) (openField s responseHead (fieldOf response))
+    is = judged s (fieldOf response) (sameBytes (drop (length response - 2) response) plainSuccess)
+        (openField s responseHead (fieldOf response))
 
     go : (b : Bool) → ltb room 223 ≡ b → UnsealRefuses s response room
     go true e =
@@ -179,7 +182,8 @@ unseal-refuses s response room = go (ltb room 223) refl
                 (λ t. absurd (omega (arith, ap (λ (o : Out). o .refusal) z))) (is .numbers),
             λ h. absurd (omega arith),
           );
-          numbers = ⊎-elim (λ t. inl (ap (λ (o : Out). o .refusal) z ∙ t)) (λ t. inr (inr (ap (λ (o : Out). o .refusal) z ∙ t))) (is .numbers);
+          numbers =
+              ⊎-elim (λ t. inl (ap (λ (o : Out). o .refusal) z ∙ t)) (λ t. inr (inr (ap (λ (o : Out). o .refusal) z ∙ t))) (is .numbers);
           genuine = λ k b h. unseal-sound s k response b room h;
           taken = λ k r p b two most q.
               ap (λ (x : List ℕ). unsealOut s x room .refusal) q ∙ ap (λ (o : Out). o .refusal) (unseal-seals s k p b most room r two);

@@ -56,7 +56,8 @@ bare-step1 : (c : Card) → c .channel .stage ≡ 0 → afterStep1 bare c ≡ fo
 unfolding afterStep1
 bare-step1 c z = ap (λ (n : ℕ). kept bare (cond (eqb n 1 && not (begins 0x11 bare)) (closed c) c)) z
 
-bare-step2 : (c : Card) → isInitialised c ≡ true → c .channel .stage ≡ 0 → step2 bare (forgotten c) ≡ ends (plainly (fails (forgotten c) 0x6985))
+bare-step2 : (c : Card) → isInitialised c ≡ true → c .channel .stage ≡ 0 → step2 bare (forgotten c)
+    ≡ ends (plainly (fails (forgotten c) 0x6985))
 unfolding step2 dataOf step3 nameOf step4 isPlain inStage
 bare-step2 c i z = ap (λ (b : Bool). byName bare (forgotten c) [] (nameOf b 0x80 0xF2)) i ∙ rw z
 

@@ -25,7 +25,8 @@ use Rattle.two_runs.proofs.Examples.{digits, card000000, card111111, cardOtherP
 use Rattle.claims.specs.Secrecy.{Reaches, comparisonsOf, Meets, Secrecy}
 
 -- ---- what is reached from FRESH
-reaches : (c : Card) (n k : ℕ) → Reachable c → isSound c ≡ true → c .initialised ≡ 1 → c .channel .stage ≡ n → c .keys .kind ≡ k → Reaches n k
+reaches : (c : Card) (n k : ℕ) → Reachable c → isSound c ≡ true → c .initialised ≡ 1 → c .channel .stage ≡ n → c .keys .kind ≡ k
+    → Reaches n k
 reaches c n k r e i s z = record {
   uid = zeros 16;
   key = zeros 65;
@@ -109,10 +110,13 @@ secrecy = record {
   digits = secrets-meet;
   stage0 = reaches initialisedCard 0 0 initialised-reached initialised-sound refl refl refl;
   stage1 = reaches (inChannel 1 (zeros 16) 0 noKeys) 1 0 stage1-reached stage1-sound refl refl refl;
-  stage2 = reaches (inChannel 2 (stage2-reached .iv) 0 noKeys) 2 0 (stage2-reached .reached) (reached-sound (stage2-reached .iv) .0) refl refl refl;
-  kind1 = reaches (inChannel 2 (kind1-reached .iv) 1 (keyWith 1 (zeros 32))) 2 1 (kind1-reached .reached) (reached-sound (kind1-reached .iv) .1)
+  stage2 = reaches (inChannel 2 (stage2-reached .iv) 0 noKeys) 2 0 (stage2-reached .reached)
+      (reached-sound (stage2-reached .iv) .0) refl refl refl;
+  kind1 =
+      reaches (inChannel 2 (kind1-reached .iv) 1 (keyWith 1 (zeros 32))) 2 1 (kind1-reached .reached) (reached-sound (kind1-reached .iv) .1)
       refl refl refl;
-  kind2 = reaches (inChannel 2 (kind2-reached .iv) 1 (keyWith 2 (zeros 32))) 2 2 (kind2-reached .reached) (reached-sound (kind2-reached .iv) .2)
+  kind2 =
+      reaches (inChannel 2 (kind2-reached .iv) 1 (keyWith 2 (zeros 32))) 2 2 (kind2-reached .reached) (reached-sound (kind2-reached .iv) .2)
       refl refl refl;
   wrongpin = one-call card000000 card111111 (verifyCall card000000 (digits 6 0x32)) (by pin false) wrong-entry
       (other-pin (card000000 .pins) (card111111 .pins) refl refl);

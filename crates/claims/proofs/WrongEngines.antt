@@ -1,5 +1,5 @@
--- The wrong engines, each by a call that the rules answer otherwise. The card of the examples is the one that INIT makes of FRESH, with keys and
--- supplies of zeros; the calls are the two steps of PAIR. Assumes nothing.
+-- The wrong engines, each by a call that the rules answer otherwise. The card of the examples is the one that INIT makes of FRESH, with
+-- keys and supplies of zeros; the calls are the two steps of PAIR. Assumes nothing.
 use mathlib.Core.Path.{_≡_, refl, sym, ap, _∙_}
 use mathlib.Core.Bool.{true, false}
 use mathlib.Core.List.{List, [], _∷_, _++_}
@@ -45,7 +45,8 @@ first-answer : answerOut card pairFirst (zeros 96) 258 ≡ record { refusal = 0;
 unfolding answerOut isSound allOf someOf decide afterStep1 step2 dataOf step3 nameOf step4 isPlain step5 commandOf atStake step6 checksOf pairFirstChecks supplyOf suits replyOf pairFirstReply
 first-answer = refl
 
-second-answer : answerOut pending pairFinal (zeros 64) 258 ≡ record { refusal = 0; card = paired; bytes = 0 ∷ zeros 32 ++ (0x90 ∷ 0x00 ∷ []) }
+second-answer : answerOut pending pairFinal (zeros 64) 258
+    ≡ record { refusal = 0; card = paired; bytes = 0 ∷ zeros 32 ++ (0x90 ∷ 0x00 ∷ []) }
 unfolding answerOut isSound allOf someOf decide afterStep1 step2 dataOf step3 nameOf step4 isPlain step5 commandOf atStake step6 checksOf pairFinalChecks supplyOf suits replyOf pairFinalReply pairInto firstFree
 second-answer = refl
 

@@ -1,5 +1,5 @@
--- What the rows to settle suppose can be met, so that no row is empty: four entries can be sealed for every card in stage 2, and from FRESH a
--- terminal comes to read the status row. Every length is in bytes.
+-- What the rows to settle suppose can be met, so that no row is empty: four entries can be sealed for every card in stage 2, and from FRESH
+-- a terminal comes to read the status row. Every length is in bytes.
 use Prim.Native.Nat.{ℕ, _≤_}
 use mathlib.Core.Path.{_≡_}
 use mathlib.Core.Bool.{true}

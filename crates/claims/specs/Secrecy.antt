@@ -1,15 +1,15 @@
--- Demand 3: the two runs (01, The two runs of demand 3), one claim about the list of calls; and that it is not empty. The definitions of calls,
--- runs, premise and comparisons are those of crate `two_runs`, Runs and Comparison.
+-- Demand 3: the two runs (01, The two runs of demand 3), one claim about the list of calls; and that it is not empty. The definitions of
+-- calls, runs, premise and comparisons are those of crate `two_runs`, Runs and Comparison.
 use Prim.Native.Nat.{ℕ}
 use mathlib.Core.Path.{_≡_}
-use mathlib.Core.Bool.{true, false}
+use mathlib.Core.Bool.{Bool, true, false}
 use mathlib.Core.List.{List, [], _∷_}
 use mathlib.Core.Option.{Option, some}
 use Rattle.card.specs.declared.Card.{Card}
 use Rattle.card.specs.State.{freshOf, withSecrets}
 use Rattle.card.specs.Slots.{allOf}
 use Rattle.card.specs.Sound.{isSound, isDigit}
-use Rattle.two_runs.specs.Comparison.{Comparison, pin, puk}
+use Rattle.two_runs.specs.Comparison.{Secret, Comparison, pin, puk}
 use Rattle.two_runs.specs.Runs.{Call, comparisonAt, nextAt, endOf, Agree, Premise, SameRuns}
 
 -- ---- what keeps the claim from being empty
@@ -28,13 +28,17 @@ unfoldable pub comparisonsOf : Card → List Call → List (Option Comparison)
 comparisonsOf c [] = []
 comparisonsOf c (k ∷ more) = comparisonAt c k ∷ comparisonsOf (nextAt c k) more
 
+-- a comparison of this secret that comes out so
+abbrev pub made : Secret → Bool → Option Comparison
+made of right = some (record { of = of; right = right })
+
 -- two cards with other secrets and a list of calls that meet the premise, and the comparisons that the list makes
-pub record Meets (made : List (Option Comparison)) : Type 0 where
+pub record Meets (comparisons : List (Option Comparison)) : Type 0 where
   pub card : Card
   pub card′ : Card
   pub calls : List Call
   pub premise : Premise card card′ calls
-  pub compared : comparisonsOf card calls ≡ made
+  pub compared : comparisonsOf card calls ≡ comparisons
   pub differ : card .pins ≡ card′ .pins → ⊥
 
 pub record Secrecy : Type 0 where
@@ -50,8 +54,8 @@ pub record Secrecy : Type 0 where
   pub kind1 : Reaches 2 1
   pub kind2 : Reaches 2 2
   -- the premise is met with comparisons of each outcome: a wrong PIN, once and three times, the right PIN, a wrong PUK, the right PUK
-  pub wrongpin : Meets (some (record { of = pin; right = false }) ∷ [])
-  pub wrongpins : Meets (some (record { of = pin; right = false }) ∷ some (record { of = pin; right = false }) ∷ some (record { of = pin; right = false }) ∷ [])
-  pub rightpin : Meets (some (record { of = pin; right = true }) ∷ [])
-  pub wrongpuk : Meets (some (record { of = puk; right = false }) ∷ [])
-  pub rightpuk : Meets (some (record { of = puk; right = true }) ∷ [])
+  pub wrongpin : Meets (made pin false ∷ [])
+  pub wrongpins : Meets (made pin false ∷ made pin false ∷ made pin false ∷ [])
+  pub rightpin : Meets (made pin true ∷ [])
+  pub wrongpuk : Meets (made puk false ∷ [])
+  pub rightpuk : Meets (made puk true ∷ [])

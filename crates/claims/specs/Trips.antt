@@ -40,12 +40,13 @@ pub record Walks : Type 0 where
   pub joined : (s t : List ℕ) (m n : ℕ) → WALK s ≡ record { refusal = 0; count = m } → WALK t ≡ record { refusal = 0; count = n }
       → WALK (s ++ t) ≡ record { refusal = 0; count = m + n }
   pub preinitialised : (key : List ℕ) → WALK (preInitialised key) ≡ record { refusal = 0; count = 1 }
-  pub application : (uid key : List ℕ) (free : ℕ) (keyUid : List ℕ) → WALK (applicationInfo uid key free keyUid) ≡ record { refusal = 0; count = 5 }
+  pub application : (uid key : List ℕ) (free : ℕ) (keyUid : List ℕ) → WALK (applicationInfo uid key free keyUid)
+      ≡ record { refusal = 0; count = 5 }
   pub status : (pin puk : ℕ) (key : Bool) → WALK (status pin puk key) ≡ record { refusal = 0; count = 3 }
   pub signature : (key r s : List ℕ) → WALK (signature key r s) ≡ record { refusal = 0; count = 3 }
 
--- ---- ASK and ANSWER, for a sound card and room for both. Kind 0: no supply is read, and ASK writes nothing. Another kind: exactly the supplies
--- of its form are taken, and ASK writes the command's data
+-- ---- ASK and ANSWER, for a sound card and room for both. Kind 0: no supply is read, and ASK writes nothing. Another kind: exactly the
+-- supplies of its form are taken, and ASK writes the command's data
 pub record Agreement (c : Card) (cmd : List ℕ) (asks answers : ℕ) : Type 0 where
   pub unread : askOut c cmd asks .kind ≡ 0 → (s t : List ℕ) → answerOut c cmd s answers ≡ answerOut c cmd t answers
   pub untouched : askOut c cmd asks .kind ≡ 0 → (s : List ℕ) → answerOut c cmd s answers .refusal ≡ 0

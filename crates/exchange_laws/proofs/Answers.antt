@@ -1,4 +1,5 @@
--- ANSWER to a command over the channel that comes to its own checks: in stage 2 the command's outcome is sealed, and in stage 1 MUTUAL's success.
+-- ANSWER to a command over the channel that comes to its own checks: in stage 2 the command's outcome is sealed, and in stage 1 MUTUAL's
+-- success.
 -- Assumes nothing.
 use mathlib.Core.Path.{_≡_, refl, sym, ap, _∙_}
 use mathlib.Core.Bool.{Bool, true, false, _&&_, not, cond, false≢true}
@@ -34,7 +35,8 @@ use Rattle.exchange_laws.proofs.Listed.{Sealed, each-sealed}
 
 -- ---- step 1
 module _ (cmd : List ℕ) (c : Card) where
-  step1-same : {A : Type 0} (f : Card → A) → f (closed c) ≡ f c → f (forgotten c) ≡ f c → f (forgotten (closed c)) ≡ f c → f (afterStep1 cmd c) ≡ f c
+  step1-same : {A : Type 0} (f : Card → A) → f (closed c) ≡ f c → f (forgotten c) ≡ f c → f (forgotten (closed c)) ≡ f c
+      → f (afterStep1 cmd c) ≡ f c
   unfolding afterStep1
   step1-same f p q r = go (eqb (c .channel .stage) 1 && not (begins 0x11 cmd)) (begins 0x12 cmd)
     where
@@ -121,7 +123,8 @@ supplied c tell x d k s h = go (eqb v success) (λ e. h (eqb-true v success e))
     v = verdict (checksOf k x d)
 
     go : (b : Bool) → (b ≡ true → suits (supplyOf k) s ≡ true)
-        → withSupply c (cond b (record { supply = supplyOf k; data′ = d; answer = λ y. tell (replyOf k x d y) }) (ends (tell (fails x v)))) s
+        → withSupply c
+        (cond b (record { supply = supplyOf k; data′ = d; answer = λ y. tell (replyOf k x d y) }) (ends (tell (fails x v)))) s
         ≡ answered (tell (cond b (replyOf k x d s) (fails x v)))
     go true f = ap (λ (t : Bool). cond t (answered (tell (replyOf k x d s))) (record { refusal = 3; card = c; bytes = [] })) (f refl)
     go false f = refl
@@ -133,7 +136,8 @@ replied c tell lost x d k s v u = rw (v, u)
 
 -- ---- in stage 2 no command over the channel changes it
 abbrev Keeps : Command → Type 0
-Keeps k = (c : Card) (d s : List ℕ) → c .channel .stage ≡ 2 → verdict (checksOf k c d) ≡ success → replyOf k c d s .card .channel ≡ c .channel
+Keeps k =
+    (c : Card) (d s : List ℕ) → c .channel .stage ≡ 2 → verdict (checksOf k c d) ≡ success → replyOf k c d s .card .channel ≡ c .channel
 
 all-keep : Sealed Keeps
 unfolding checksOf replyOf mutualChecks unpairReply statusReply verifyReply verifyBy changeReply unblockReply unblockBy loadReply deriveReply removeReply pinlessReply signReply
@@ -168,7 +172,8 @@ all-keep = record {
     change-keeps c secret.Puk d = refl
     change-keeps c secret.Pairing d = refl
 
-pub outcome-channel : (i : Instruction) (p1 p2 : ℕ) (k : Command) → isPlain i ≡ false → commandOf i p1 p2 ≡ some k → (c : Card) (d s : List ℕ)
+pub outcome-channel : (i : Instruction) (p1 p2 : ℕ) (k : Command) → isPlain i ≡ false → commandOf i p1 p2 ≡ some k
+    → (c : Card) (d s : List ℕ)
     → c .channel .stage ≡ 2 → outcome k c d s .card .channel ≡ c .channel
 outcome-channel i p1 p2 k e l c d s h =
     by-test (λ (r : Reply). r .card .channel ≡ c .channel) (eqb (verdict (checksOf k c d)) success)

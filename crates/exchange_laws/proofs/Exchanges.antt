@@ -119,7 +119,9 @@ forgotten-same c p e = sym (ap₂ (λ (n : ℕ) (x : List ℕ). withPairing c (p
 
 pub is-after : (c : Card) → isSound c ≡ true → (c .channel .stage ≡ 0 → ⊥) → After c
 is-after c e n =
-    ⊎-elim (λ b. absurd (n (eqb-true (c .channel .stage) 0 (both (isZero (c .channel .stage)) (sessionZero (c .channel)) (blank-rules c (b .blank) .channel) .0))))
+    ⊎-elim (λ b. absurd
+    (n (eqb-true (c .channel .stage) 0
+    (both (isZero (c .channel .stage)) (sessionZero (c .channel)) (blank-rules c (b .blank) .channel) .0))))
     (λ a. a) (sound-cases c e)
 
 step1-itself : (c : Card) (cmd : List ℕ) → isSound c ≡ true → Shaped c → (c .channel .stage ≡ 0 → ⊥)
@@ -174,7 +176,8 @@ module _ (c : Card) (t : Turn) (w : Typed c) where
       name = ap₂ (λ (a b : ℕ). nameOf (isInitialised c) a b) (at 0 (omega arith)) (at 1 (omega arith)) ∙ n .name;
       sealed = n .sealed;
       stage = n .stage;
-      opens = ap (λ (h : List ℕ). openField s (commandHead h) (field s t (w .keyed))) (take-at (t .header) rest 4 (t .four)) ∙ opens s t (w .keyed);
+      opens = ap (λ (h : List ℕ). openField s (commandHead h) (field s t (w .keyed))) (take-at (t .header) rest 4 (t .four)) ∙ opens s t
+          (w .keyed);
       listed = ap₂ (λ (a b : ℕ). commandOf (n .instruction) a b) (at 2 (omega arith)) (at 3 (omega arith)) ∙ n .listed;
     }
 
@@ -185,7 +188,8 @@ module _ (c : Card) (t : Turn) (w : Typed c) where
         ≡ record { refusal = 0; session = withIv next (fieldMac next responseHead (plainText r)); bytes = plainText r }
     unsealed-is =
         ap (λ (x : Session). unsealOut next (sealedResponse x (plainText r)) (t .unsealroom)) session
-        ∙ unseal-seals next (sealed-keyed s t (w .keyed)) (plainText r) bytes (omega (arith, length-append (r .response) (word (r .status))))
+        ∙ unseal-seals next (sealed-keyed s t (w .keyed)) (plainText r) bytes
+        (omega (arith, length-append (r .response) (word (r .status))))
         (t .unsealroom) (t .unsealenough) (omega (arith, length-append (r .response) (word (r .status))))
 
     exchanged : Exchange c t r
@@ -197,7 +201,8 @@ module _ (c : Card) (t : Turn) (w : Typed c) where
       plain = refl;
       card = ap (λ (x : Session). withMac (r .card) (fieldMac x responseHead (plainText r))) session;
       same = sym (ap (λ (x : Session). withIv x (fieldMac x responseHead (plainText r))) session);
-      keyed = response-keyed next (sealed-keyed s t (w .keyed)) (plainText r) bytes (omega (arith, length-append (r .response) (word (r .status))));
+      keyed = response-keyed next (sealed-keyed s t (w .keyed)) (plainText r) bytes
+          (omega (arith, length-append (r .response) (word (r .status))));
     })
 
     answered-is : answeredBy c t ≡ answered (sealed r)
@@ -215,7 +220,8 @@ module _ (c : Card) (t : Turn) (w : Typed c) (sound : isSound c ≡ true) (open�
     (stays : (eqb (c .channel .stage) 1 && not (begins 0x11 (cmd (s c t w) t (w .keyed)))) ≡ false) where
   here-is : atStep6 c (cmd (s c t w) t (w .keyed)) (opens-of c t w n) ≡ opened c t
   here-is =
-      ap₂ withMac (step1-itself c (cmd (s c t w) t (w .keyed)) sound (w .shaped) open′ stays) (mac-is (s c t w) t (w .keyed)) ∙ sym (opened-is c t w)
+      ap₂ withMac (step1-itself c (cmd (s c t w) t (w .keyed)) sound (w .shaped) open′ stays) (mac-is (s c t w) t (w .keyed)) ∙ sym
+      (opened-is c t w)
 
   opened-session : sessionOf (opened c t .channel) ≡ next c t w
   opened-session = ap (λ (x : Card). sessionOf (x .channel)) (opened-is c t w)
@@ -249,14 +255,16 @@ module _ (c : Card) (t : Turn) (n : Names c (t .header)) (sound : isSound c ≡ 
 
   channel2 : result .card .channel ≡ opened c t .channel
   channel2 =
-      outcome-channel (n .instruction) (p1Of (t .header)) (p2Of (t .header)) (n .command) (n .sealed) (n .listed) (opened c t) (t .data′) (t .supply) in2
+      outcome-channel (n .instruction) (p1Of (t .header)) (p2Of (t .header)) (n .command) (n .sealed) (n .listed) (opened c t) (t .data′)
+      (t .supply) in2
 
   session2 : sessionOf (result .card .channel) ≡ next c t w
   session2 = ap sessionOf channel2 ∙ opened-session c t w sound open2 n (stays-2 command′ c in2)
 
   bytes2 : Bytes (plainText result)
   bytes2 =
-      outcome-bytes (n .instruction) (p1Of (t .header)) (p2Of (t .header)) (n .command) (n .sealed) (n .listed) (opened c t) (t .data′) (t .supply)
+      outcome-bytes (n .instruction) (p1Of (t .header)) (p2Of (t .header)) (n .command) (n .sealed) (n .listed) (opened c t) (t .data′)
+      (t .supply)
       (opened-sound c t w sound open2 n (stays-2 command′ c in2)) (w .path) (t .supplybytes)
 
   short2 : length (result .response) ≤ 221
@@ -270,7 +278,8 @@ module _ (c : Card) (t : Turn) (n : Names c (t .header)) (sound : isSound c ≡ 
     stays = ap (λ (a : Answered). a .card .channel .stage) (answered-is c t w result told2 session2 bytes2 short2)
         ∙ ap (λ (k : Channel). k .stage) channel2 ∙ in2;
     typed = typed-next c t w result told2 session2 bytes2 short2 sound
-        (outcome-path (n .instruction) (p1Of (t .header)) (p2Of (t .header)) (n .command) (n .sealed) (n .listed) (opened c t) (t .data′) (t .supply)
+        (outcome-path (n .instruction) (p1Of (t .header)) (p2Of (t .header)) (n .command) (n .sealed) (n .listed) (opened c t) (t .data′)
+        (t .supply)
         (t .databytes) (w .path));
   }
 
@@ -279,7 +288,8 @@ and-not : (a : Bool) → (a && false) ≡ false
 and-not true = refl
 and-not false = refl
 
-module _ (c : Card) (t : Turn) (sound : isSound c ≡ true) (w : Typed c) (in1 : c .channel .stage ≡ 1) (header : t .header ≡ 0x80 ∷ 0x11 ∷ 0 ∷ 0 ∷ [])
+module _ (c : Card) (t : Turn) (sound : isSound c ≡ true) (w : Typed c) (in1 : c .channel .stage ≡ 1)
+    (header : t .header ≡ 0x80 ∷ 0x11 ∷ 0 ∷ 0 ∷ [])
     (long : length (t .data′) ≡ 32) (random : length (t .supply) ≡ 32) where
   abbrev mutual′ : List ℕ
   mutual′ = cmd (s c t w) t (w .keyed)
@@ -317,7 +327,8 @@ module _ (c : Card) (t : Turn) (sound : isSound c ≡ true) (w : Typed c) (in1 :
 
   stays1 : (eqb (c .channel .stage) 1 && not (begins 0x11 mutual′)) ≡ false
   stays1 =
-      ap (λ (h : List ℕ). eqb (c .channel .stage) 1 && not (begins 0x11 (h ++ rest c t w names1))) header ∙ and-not (eqb (c .channel .stage) 1)
+      ap (λ (h : List ℕ). eqb (c .channel .stage) 1 && not (begins 0x11 (h ++ rest c t w names1))) header ∙ and-not
+      (eqb (c .channel .stage) 1)
 
   here1 : atStep6 c mutual′ (opens-of c t w names1) ≡ opened c t
   here1 = here-is c t w sound open1 names1 stays1
@@ -370,7 +381,8 @@ module _ (c : Card) (t : Turn) (sound : isSound c ≡ true) (w : Typed c) (in1 :
   to-stage2 = record {
     turn = turn1;
     random = turn1 .plain ∙ reply-random;
-    stage = ap (λ (a : Answered). a .card .channel .stage) (answered-is c t w replied1 told1 session1 bytes1 short1) ∙ reply-stage (opened c t);
+    stage =
+        ap (λ (a : Answered). a .card .channel .stage) (answered-is c t w replied1 told1 session1 bytes1 short1) ∙ reply-stage (opened c t);
     typed = typed-next c t w replied1 told1 session1 bytes1 short1 sound
         (reply-path ins.Mutual (p1Of (t .header)) (p2Of (t .header)) command.Mutual sealed1 listed1 (opened c t) (t .data′) (t .supply)
         (t .databytes) (w .path));

@@ -61,7 +61,8 @@ all-paths = record {
     change-path c secret.Puk d p = p
     change-path c secret.Pairing d p = p
 
-module _ (i : Instruction) (p1 p2 : ℕ) (k : Command) (sealed : isPlain i ≡ false) (listed : commandOf i p1 p2 ≡ some k) (c : Card) (d s : List ℕ)
+module _ (i : Instruction) (p1 p2 : ℕ) (k : Command) (sealed : isPlain i ≡ false) (listed : commandOf i p1 p2 ≡ some k) (c : Card)
+    (d s : List ℕ)
     (bytes : Bytes d) (path : Bytes (c .keys .current .bytes)) where
   pub reply-path : Bytes (replyOf k c d s .card .keys .current .bytes)
   reply-path = each-sealed Paths all-paths i p1 p2 k sealed listed c d s bytes path

@@ -75,16 +75,22 @@ field-bytes : (tag : ℕ) (v : List ℕ) → tag < 256 → length v < 256 → By
 field-bytes tag v t l h = bytes-append (fieldHead tag (length v)) v (bytes-head tag (length v) t l) h
 
 status-bytes : (pin puk : ℕ) (key : Bool) → pin < 256 → puk < 256 → Bytes (status pin puk key)
-status-bytes pin puk true p q =
-    (omega arith, (omega arith, (omega arith, (omega arith, (p, (omega arith, (omega arith, (q, (omega arith, (omega arith, (omega arith, tt)))))))))))
-status-bytes pin puk false p q =
-    (omega arith, (omega arith, (omega arith, (omega arith, (p, (omega arith, (omega arith, (q, (omega arith, (omega arith, (omega arith, tt)))))))))))
+status-bytes pin puk true p q = (
+  omega arith,
+  (omega arith, (omega arith, (omega arith, (p, (omega arith, (omega arith, (q, (omega arith, (omega arith, (omega arith, tt)))))))))),
+)
+status-bytes pin puk false p q = (
+  omega arith,
+  (omega arith, (omega arith, (omega arith, (p, (omega arith, (omega arith, (q, (omega arith, (omega arith, (omega arith, tt)))))))))),
+)
 
 integer-bytes : (n : List ℕ) → length n ≤ 32 → Bytes n → Bytes (derInteger n)
 integer-bytes n l h = field-bytes 2 (derContent n) (omega arith) (omega (arith, der-length n .1))
-    (by-test Bytes (needsZero (drop (leadingZeros n) n)) (λ e. (omega arith, bytes-drop (leadingZeros n) n h)) (λ e. bytes-drop (leadingZeros n) n h))
+    (by-test Bytes (needsZero (drop (leadingZeros n) n)) (λ e. (omega arith, bytes-drop (leadingZeros n) n h))
+    (λ e. bytes-drop (leadingZeros n) n h))
 
-signature-bytes : (key r s : List ℕ) → length key ≤ 65 → length r ≤ 32 → length s ≤ 32 → Bytes key → Bytes r → Bytes s → Bytes (signature key r s)
+signature-bytes : (key r s : List ℕ) → length key ≤ 65 → length r ≤ 32 → length s ≤ 32 → Bytes key → Bytes r → Bytes s
+    → Bytes (signature key r s)
 signature-bytes key r s k p q hk hr hs =
     field-bytes 160 inner (omega arith)
     (omega (
@@ -148,7 +154,8 @@ all-plain = record {
   sign = λ c d s t p h. (
     record {
       status = omega arith;
-      response = signature-bytes (signKey s) (signR s) (signS s) (part-most 0 65 s) (part-most 65 32 s) (part-most 97 32 s) (part-bytes 0 65 s h)
+      response =
+          signature-bytes (signKey s) (signR s) (signS s) (part-most 0 65 s) (part-most 65 32 s) (part-most 97 32 s) (part-bytes 0 65 s h)
           (part-bytes 65 32 s h) (part-bytes 97 32 s h);
     },
     verdict-below (signChecks (c .pins) (c .keys) d) (omega arith, (omega arith, tt)),
@@ -157,8 +164,13 @@ all-plain = record {
   where
     status-plain : (c : Card) (r : Report) → Tries (c .pins) → Bytes (c .keys .current .bytes) → Plain (statusReply c r)
     status-plain c report.Application t p =
-        record { status = omega arith; response = status-bytes (c .pins .«pin_tries») (c .pins .«puk_tries») (hasKey (c .keys)) (omega (arith, t .pin)) (omega (arith, t .puk)) }
-    status-plain c report.Path t p = record { status = omega arith; response = bytes-take (c .keys .current .len) (c .keys .current .bytes) p }
+        record {
+          status = omega arith;
+          response = status-bytes (c .pins .«pin_tries») (c .pins .«puk_tries») (hasKey (c .keys))
+              (omega (arith, t .pin)) (omega (arith, t .puk));
+        }
+    status-plain c report.Path t p =
+        record { status = omega arith; response = bytes-take (c .keys .current .len) (c .keys .current .bytes) p }
 
     change-plain : (c : Card) (x : Secret) (d : List ℕ) → Plain (changeReply c x d)
     change-plain c secret.Pin d = bare success (omega arith)
@@ -168,7 +180,8 @@ all-plain = record {
 plain-text : (r : Reply) → Plain r → Bytes (plainText r)
 plain-text r h = bytes-append (r .response) (word (r .status)) (h .response) (word-bytes (r .status) (h .status))
 
-module _ (i : Instruction) (p1 p2 : ℕ) (k : Command) (sealed : isPlain i ≡ false) (listed : commandOf i p1 p2 ≡ some k) (c : Card) (d s : List ℕ)
+module _ (i : Instruction) (p1 p2 : ℕ) (k : Command) (sealed : isPlain i ≡ false) (listed : commandOf i p1 p2 ≡ some k) (c : Card)
+    (d s : List ℕ)
     (sound : isSound c ≡ true) (path : Bytes (c .keys .current .bytes)) (supply : Bytes s) where
   texts : Plain (replyOf k c d s) × (verdict (checksOf k c d) < 65536)
   texts = each-sealed Texts all-plain i p1 p2 k sealed listed c d s (tries-of c sound) path supply

@@ -77,8 +77,8 @@ pub record Names (c : Card) (header : List ℕ) : Type 0 where
 abbrev pub opened : Card → Turn → Card
 opened c t = withMac c (sealedBy (sessionOf (c .channel)) t .session .iv)
 
--- ---- the whole turn, where the command's definition gives the reply r: none of the three refuses; the answer is r's response data and status
--- word, sealed, and UNSEAL gives them; the card is r's, with the IV of the answer; and both ends hold the same session again
+-- ---- the whole turn, where the command's definition gives the reply r: none of the three refuses; the answer is r's response data and
+-- status word, sealed, and UNSEAL gives them; the card is r's, with the IV of the answer; and both ends hold the same session again
 pub record Exchanged (r : Reply) (sent : Out) (told : Answered) (got : Out) : Type 0 where
   pub taken : sent .refusal ≡ 0
   pub answered : told .refusal ≡ 0
@@ -92,9 +92,8 @@ pub record Exchanged (r : Reply) (sent : Out) (told : Answered) (got : Out) : Ty
 abbrev pub Exchange : Card → Turn → Reply → Type 0
 Exchange c t r = Exchanged r (sealedBy (sessionOf (c .channel)) t) (answeredBy c t) (unsealedBy c t)
 
--- ---- the claims
--- in stage 2, any command over the channel: the reply is the one of its definition for the opened data, or the status word of its first check
--- that does not hold; stage 2 stays, and the card meets the types still, so that the next turn can begin
+-- ---- the claims in stage 2, any command over the channel: the reply is the one of its definition for the opened data, or the status word
+-- of its first check that does not hold; stage 2 stays, and the card meets the types still, so that the next turn can begin
 pub record InStage2 (c : Card) (t : Turn) (n : Names c (t .header)) : Type 0 where
   pub turn : Exchange c t (outcome (n .command) (opened c t) (t .data′) (t .supply))
   pub stays : answeredBy c t .card .channel .stage ≡ 2
@@ -117,6 +116,7 @@ pub record Together : Type 0 where
   pub named : (c : Card) (i : Instruction) (k : Command) (p1 : ℕ) → isSound c ≡ true → c .channel .stage ≡ 2 → isPlain i ≡ false
       → commandOf i p1 0 ≡ some k → (n : Names c (0x80 ∷ rowOf i .byte ∷ p1 ∷ 0 ∷ [])) × (n .command ≡ k)
   pub opens : (s : Session) (t : Turn) → Keyed s → SealOpens s t (sealedBy s t)
-  pub answers : (c : Card) (t : Turn) (n : Names c (t .header)) → isSound c ≡ true → Typed c → c .channel .stage ≡ 2 → Supplied c t n → InStage2 c t n
+  pub answers : (c : Card) (t : Turn) (n : Names c (t .header)) → isSound c ≡ true → Typed c → c .channel .stage ≡ 2 → Supplied c t n
+      → InStage2 c t n
   pub authenticates : (c : Card) (t : Turn) → isSound c ≡ true → Typed c → c .channel .stage ≡ 1 → t .header ≡ 0x80 ∷ 0x11 ∷ 0 ∷ 0 ∷ []
       → length (t .data′) ≡ 32 → length (t .supply) ≡ 32 → ToStage2 c t

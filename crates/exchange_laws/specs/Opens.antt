@@ -1,5 +1,5 @@
--- A command over the channel that comes to its own checks, and what its definition then answers (01, Order of checks for a command, steps 2 to
--- 6). Every length is in bytes.
+-- A command over the channel that comes to its own checks, and what its definition then answers (01, Order of checks for a command, steps 2
+-- to 6). Every length is in bytes.
 use Prim.Native.Nat.{ℕ}
 use mathlib.Core.Path.{_≡_}
 use mathlib.Core.Bool.{true, false, cond}
@@ -17,8 +17,8 @@ use Rattle.rules.specs.Steps.{afterStep1, dataOf, headerOf, claOf, insOf, p1Of,
 use Rattle.rules.specs.Commands.{checksOf, replyOf}
 use Rattle.rules.specs.Engine.{sessionOf, withMac}
 
--- the command's form is right; class and instruction name one that goes over the channel in the card's stage; its field opens; P1 and P2 are
--- listed
+-- the command's form is right; class and instruction name one that goes over the channel in the card's stage; its field opens; P1 and P2
+-- are listed
 pub record Opens (c : Card) (cmd : List ℕ) : Type 0 where
   pub field : List ℕ
   pub data′ : List ℕ
