@@ -25,12 +25,14 @@ use Rattle.walk.specs.Walk.{walkOf, Report, report}
 use Rattle.card.specs.declared.Card.{Card}
 use Rattle.card.specs.State.{zeros, freshOf, resetOf}
 use Rattle.card.specs.Sound.{isSound}
+use Rattle.card.specs.Shape.{Shaped}
 use Rattle.sound.specs.declared.Answer.{Answer}
 use Rattle.sound.specs.Reset.{resetAnswer}
+use Rattle.record.specs.Parse.{slotsFrom, cardOf}
 use Rattle.record.specs.Answers.{writeRoom, writeRefusal, writeBytes, readAnswer}
-use Rattle.record.proofs.ReadFacts.{read-cases, record-read, read-refuses}
+use Rattle.record.proofs.ReadFacts.{read-cases, read-refuses}
 use Rattle.engine_laws.proofs.Refusals.{ask-refused, ask-unsound, ask-room, ask-numbers, answer-refused, answer-unsound, answer-room, answer-supply, answer-numbers}
-use Rattle.claims.specs.Refusals.{AskRefuses, AnswerRefuses, ResetRefuses, WriteRefuses, ReadRefuses, SealRefuses, UnsealRefuses, WalkRefuses, Refusals}
+use Rattle.claims.specs.Refusals.{AskRefuses, AnswerRefuses, ResetRefuses, WriteRefuses, IsRecord, ReadRefuses, SealRefuses, UnsealRefuses, WalkRefuses, Refusals}
 
 never : {b : Bool} {A : Type 0} → b ≡ true → b ≡ false → A
 never t f = absurd (false≢true (sym f ∙ t))
@@ -90,14 +92,44 @@ write-refuses c room = go (isSound c) (ltb room writeRoom) refl refl
         }
 
 -- ---- READ
-read-refusal : (s : List ℕ) → ReadRefuses s
-read-refusal s = record {
-  numbers = ⊎-elim (λ t. inl (ap (λ (a : Answer). a .refusal) (t .0))) (λ e. inr (ap (λ (a : Answer). a .refusal) e)) (read-cases s);
-  taken = record-read s;
-  refused = read-refuses s;
-  nothing = λ h. ⊎-elim (λ t. absurd (omega (arith, ap (λ (a : Answer). a .refusal) (t .0), h))) (λ e. ap (λ (a : Answer). a .card) e)
-      (read-cases s);
+-- the card of any bytes has its shape
+read-shaped : (s : List ℕ) → Shaped (cardOf s)
+unfolding cardOf slotsFrom
+read-shaped s = record {
+  uid = refl;
+  «public_key» = refl;
+  pin = refl;
+  puk = refl;
+  secret = refl;
+  slots = refl;
+  keys = (refl, (refl, (refl, (refl, (refl, tt)))));
+  expected = refl;
+  keyuid = refl;
+  current = refl;
+  pinless = refl;
 }
+
+read-refusal : (s : List ℕ) → ReadRefuses s
+read-refusal s = ⊎-elim
+    (λ t.
+    let z : readAnswer s .refusal ≡ 0 = ap (λ (a : Answer). a .refusal) (t .0) in
+    let is : IsRecord s = (cardOf s, read-shaped s, t .1 .sound, t .1 .written) in
+    record {
+      taken = (λ h. is, λ h. z);
+      refused = (λ h. absurd (omega arith), λ n. absurd (n is));
+      others = inl z;
+      nothing = λ h. absurd (omega arith);
+    })
+    (λ e.
+    let z : readAnswer s .refusal ≡ 8 = ap (λ (a : Answer). a .refusal) e in
+    let isnot : IsRecord s → ⊥ = λ h. read-refuses s z (h .0) (h .1) (h .2) (h .3) in
+    record {
+      taken = (λ h. absurd (omega arith), λ h. absurd (isnot h));
+      refused = (λ h. isnot, λ n. z);
+      others = inr z;
+      nothing = λ h. ap (λ (a : Answer). a .card) e;
+    })
+    (read-cases s)
 
 -- ---- SEAL
 seal-refuses : (s : Session) (header d : List ℕ) (room : ℕ) → SealRefuses s header d room

@@ -61,8 +61,8 @@ header-bytes : (b : ℕ) → leb b 255 ≡ true → Bytes (0x80 ∷ b ∷ 0 ∷ 
 header-bytes b e = (omega arith, (omega (arith, leb-true b 255 e), (omega arith, (omega arith, tt))))
 
 module _ (c : Card) (sound : isSound c ≡ true) (in2 : c .channel .stage ≡ 2) (b : ℕ) (i : Instruction) (k : Command)
-    (name : nameOf true 0x80 b ≡ named.Known i) (sealed : isPlain i ≡ false) (staged : inStage i 2 ≡ true) (listed : commandOf i 0 0
-    ≡ some k) where
+    (name : nameOf true 0x80 b ≡ named.Known i) (sealed : isPlain i ≡ false) (staged : inStage i 2 ≡ true)
+    (listed : commandOf i 0 0 ≡ some k) where
   abbrev names : Names c (0x80 ∷ b ∷ 0 ∷ 0 ∷ [])
   names = record {
     instruction = i;

@@ -32,11 +32,11 @@ pub record AskRefuses (c : Card) (cmd : List ℕ) (room : ℕ) : Type 0 where
 pub record AnswerRefuses (c : Card) (cmd supply : List ℕ) (room : ℕ) : Type 0 where
   pub unsound : answerOut c cmd supply room .refusal ≡ 1 ↔ isSound c ≡ false
   pub small : answerOut c cmd supply room .refusal ≡ 2 ↔ (isSound c ≡ true) × (room < 258)
-  pub supplied : answerOut c cmd supply room .refusal ≡ 3 ↔ (isSound c ≡ true) × (258 ≤ room)
-      × (suits (decide c cmd .supply) supply ≡ false)
+  pub supplied : answerOut c cmd supply room .refusal ≡ 3
+      ↔ (isSound c ≡ true) × (258 ≤ room) × (suits (decide c cmd .supply) supply ≡ false)
   pub others : answerOut c cmd supply room .refusal ≤ 3
-  pub nothing : (answerOut c cmd supply room .refusal ≡ 0 → ⊥) → (answerOut c cmd supply room .card ≡ c)
-      × (answerOut c cmd supply room .bytes ≡ [])
+  pub nothing : (answerOut c cmd supply room .refusal ≡ 0 → ⊥)
+      → (answerOut c cmd supply room .card ≡ c) × (answerOut c cmd supply room .bytes ≡ [])
 
 -- ---- RESET: 1
 pub record ResetRefuses (c : Card) : Type 0 where
@@ -52,11 +52,14 @@ pub record WriteRefuses (c : Card) (room : ℕ) : Type 0 where
   pub others : writeRefusal c room ≤ 2
   pub nothing : (writeRefusal c room ≡ 0 → ⊥) → writeBytes c room ≡ []
 
--- ---- READ: 8. What is taken is the record of the card that is given; what is refused is no sound card's record
+-- ---- READ: 8. What is taken is the record of a sound card, what is refused is that of none
+abbrev pub IsRecord : List ℕ → Type 0
+IsRecord s = (c : Card) × Shaped c × (isSound c ≡ true) × (recordOf c ≡ s)
+
 pub record ReadRefuses (s : List ℕ) : Type 0 where
-  pub numbers : (readAnswer s .refusal ≡ 0) ⊎ (readAnswer s .refusal ≡ 8)
-  pub taken : readAnswer s .refusal ≡ 0 → recordOf (readAnswer s .card) ≡ s
-  pub refused : readAnswer s .refusal ≡ 8 → (c : Card) → Shaped c → isSound c ≡ true → recordOf c ≡ s → ⊥
+  pub taken : readAnswer s .refusal ≡ 0 ↔ IsRecord s
+  pub refused : readAnswer s .refusal ≡ 8 ↔ (IsRecord s → ⊥)
+  pub others : (readAnswer s .refusal ≡ 0) ⊎ (readAnswer s .refusal ≡ 8)
   pub nothing : readAnswer s .refusal ≡ 8 → readAnswer s .card ≡ freshOf (zeros 16) (zeros 65)
 
 -- ---- SEAL: 2, 6
@@ -71,8 +74,8 @@ pub record UnsealRefuses (s : Session) (response : List ℕ) (room : ℕ) : Type
   pub small : unsealOut s response room .refusal ≡ 2 ↔ room < 223
   pub numbers : (unsealOut s response room .refusal ≡ 0)
       ⊎ ((unsealOut s response room .refusal ≡ 2) ⊎ (unsealOut s response room .refusal ≡ 7))
-  pub genuine : Keyed s → Bytes response → unsealOut s response room .refusal ≡ 0 → response
-      ≡ sealedResponse s (unsealOut s response room .bytes)
+  pub genuine : Keyed s → Bytes response → unsealOut s response room .refusal ≡ 0
+      → response ≡ sealedResponse s (unsealOut s response room .bytes)
   pub taken : Keyed s → 223 ≤ room → (p : List ℕ) → Bytes p → 2 ≤ length p → length p ≤ 223 → response ≡ sealedResponse s p
       → unsealOut s response room .refusal ≡ 0
   pub nothing : (unsealOut s response room .refusal ≡ 0 → ⊥)

@@ -40,8 +40,8 @@ pub record Walks : Type 0 where
   pub joined : (s t : List ℕ) (m n : ℕ) → WALK s ≡ record { refusal = 0; count = m } → WALK t ≡ record { refusal = 0; count = n }
       → WALK (s ++ t) ≡ record { refusal = 0; count = m + n }
   pub preinitialised : (key : List ℕ) → WALK (preInitialised key) ≡ record { refusal = 0; count = 1 }
-  pub application : (uid key : List ℕ) (free : ℕ) (keyUid : List ℕ) → WALK (applicationInfo uid key free keyUid)
-      ≡ record { refusal = 0; count = 5 }
+  pub application : (uid key : List ℕ) (free : ℕ) (keyUid : List ℕ)
+      → WALK (applicationInfo uid key free keyUid) ≡ record { refusal = 0; count = 5 }
   pub status : (pin puk : ℕ) (key : Bool) → WALK (status pin puk key) ≡ record { refusal = 0; count = 3 }
   pub signature : (key r s : List ℕ) → WALK (signature key r s) ≡ record { refusal = 0; count = 3 }
 

@@ -39,8 +39,8 @@ pub record WrongEngines : Type 0 where
   -- one that refuses everything: on every sound card a call is taken
   pub refuses : (c : Card) (supply : List ℕ) (room : ℕ) → isSound c ≡ true → 258 ≤ room → answerOut c [] supply room .refusal ≡ 0
   -- one that says 9000 to all: on every sound card some status word is another
-  pub agrees : (c : Card) (supply : List ℕ) (room : ℕ) → isSound c ≡ true → 258 ≤ room → answerOut c [] supply room .bytes
-      ≡ 0x67 ∷ 0x00 ∷ []
+  pub agrees : (c : Card) (supply : List ℕ) (room : ℕ) → isSound c ≡ true → 258 ≤ room
+      → answerOut c [] supply room .bytes ≡ 0x67 ∷ 0x00 ∷ []
   -- one that leaves the state as found
   pub stays : Changing
   -- one that handles the first command and echoes later ones

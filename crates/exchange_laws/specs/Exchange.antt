@@ -92,8 +92,9 @@ pub record Exchanged (r : Reply) (sent : Out) (told : Answered) (got : Out) : Ty
 abbrev pub Exchange : Card → Turn → Reply → Type 0
 Exchange c t r = Exchanged r (sealedBy (sessionOf (c .channel)) t) (answeredBy c t) (unsealedBy c t)
 
--- ---- the claims in stage 2, any command over the channel: the reply is the one of its definition for the opened data, or the status word
--- of its first check that does not hold; stage 2 stays, and the card meets the types still, so that the next turn can begin
+-- ---- the claims
+-- in stage 2, any command over the channel: the reply is the one of its definition for the opened data, or the status word of its first
+-- check that does not hold; stage 2 stays, and the card meets the types still, so that the next turn can begin
 pub record InStage2 (c : Card) (t : Turn) (n : Names c (t .header)) : Type 0 where
   pub turn : Exchange c t (outcome (n .command) (opened c t) (t .data′) (t .supply))
   pub stays : answeredBy c t .card .channel .stage ≡ 2
