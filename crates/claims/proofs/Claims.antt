@@ -1,0 +1,21 @@
+-- The claims, proved.
+-- Assumes nothing.
+use Rattle.exchange_laws.proofs.Exchanges.{together}
+use Rattle.claims.specs.Claims.{Claims}
+use Rattle.claims.proofs.Rows.{rows}
+use Rattle.claims.proofs.RowsMet.{rows-met}
+use Rattle.claims.proofs.WrongEngines.{wrong-engines}
+use Rattle.claims.proofs.Refusals.{refusals}
+use Rattle.claims.proofs.Trips.{trips}
+use Rattle.claims.proofs.Secrecy.{secrecy}
+
+pub claims : Claims
+claims = record {
+  refusals = refusals;
+  trips = trips;
+  together = together;
+  secrecy = secrecy;
+  rows = rows;
+  rowsmet = rows-met;
+  wrongengines = wrong-engines;
+}

@@ -1,0 +1,260 @@
+-- The refusals of each operation, by the tests that its definition makes.
+-- Assumes nothing.
+use mathlib.Core.Path.{_≡_, refl, sym, ap, _∙_}
+use mathlib.Core.Bool.{Bool, true, false, cond, false≢true}
+use mathlib.Core.List.{List, []}
+use mathlib.Core.Logic.{_⊎_, inl, inr, ⊎-elim}
+use mathlib.Core.Option.{Option, none, some}
+use Prim.Native.Nat.{ℕ, _-_, _≤_, _<_}
+use native.Mathlib.Omega.{arith}
+use borrow.Author.Tests.{ltb-true, ltb-false}
+use lib.Dec.{ltb}
+use lib.ListN.{length, drop}
+use Rattle.octets.specs.Bytes.{sameBytes}
+use Rattle.message.specs.declared.Session.{Session}
+use Rattle.message.specs.Message.{responseHead, openField}
+use Rattle.message.specs.Terminal.{Out, refused, sealOut, plainSuccess, fieldOf, unsealed, unsealOut}
+use Rattle.message.proofs.Trips.{unseal-seals}
+use Rattle.message.proofs.Accepted.{unseal-sound}
+use Rattle.template.proofs.HeadFacts.{by-test}
+use Rattle.walk.specs.declared.Fault.{Fault}
+use Rattle.walk.specs.declared.Fault.the-variants as fault
+use Rattle.walk.specs.declared.Walked.{Walked}
+use Rattle.walk.specs.declared.Walked.the-variants as walked
+use Rattle.walk.specs.Walk.{walkOf, Report, report}
+use Rattle.card.specs.declared.Card.{Card}
+use Rattle.card.specs.State.{zeros, freshOf, resetOf}
+use Rattle.card.specs.Sound.{isSound}
+use Rattle.card.specs.Shape.{Shaped}
+use Rattle.sound.specs.declared.Answer.{Answer}
+use Rattle.sound.specs.Reset.{resetAnswer}
+use Rattle.record.specs.Parse.{slotsFrom, cardOf}
+use Rattle.record.specs.Answers.{writeRoom, writeRefusal, writeBytes, readAnswer}
+use Rattle.record.proofs.ReadFacts.{read-cases, read-refuses}
+use Rattle.engine_laws.proofs.Refusals.{ask-refused, ask-unsound, ask-room, ask-numbers, answer-refused, answer-unsound, answer-room, answer-supply, answer-numbers}
+use Rattle.claims.specs.Refusals.{AskRefuses, AnswerRefuses, ResetRefuses, WriteRefuses, IsRecord, ReadRefuses, SealRefuses, UnsealRefuses, WalkRefuses, Refusals}
+
+never : {b : Bool} {A : Type 0} → b ≡ true → b ≡ false → A
+never t f = absurd (false≢true (sym f ∙ t))
+
+-- ---- RESET
+reset-refuses : (c : Card) → ResetRefuses c
+unfolding resetAnswer
+reset-refuses c = go (isSound c) refl
+  where
+    go : (b : Bool) → isSound c ≡ b → ResetRefuses c
+    go true e =
+        let z : resetAnswer c .refusal ≡ 0 = rw e in
+        record {
+          unsound = (λ h. absurd (omega arith), λ h. never e h);
+          taken = (λ h. e, λ h. z);
+          others = omega arith;
+          nothing = λ n. absurd (n z);
+        }
+    go false e =
+        let z : resetAnswer c .refusal ≡ 1 = rw e in
+        record {
+          unsound = (λ h. e, λ h. z);
+          taken = (λ h. absurd (omega arith), λ h. never h e);
+          others = omega arith;
+          nothing = λ n. rw e;
+        }
+
+-- ---- WRITE
+write-refuses : (c : Card) (room : ℕ) → WriteRefuses c room
+unfolding writeRefusal writeBytes
+write-refuses c room = go (isSound c) (ltb room writeRoom) refl refl
+  where
+    go : (a b : Bool) → isSound c ≡ a → ltb room writeRoom ≡ b → WriteRefuses c room
+    go true true e t =
+        let z : writeRefusal c room ≡ 2 = rw (e, t) in
+        record {
+          unsound = (λ h. absurd (omega arith), λ h. never e h);
+          small = (λ h. (e, ltb-true room 448 t), λ h. z);
+          others = omega arith;
+          nothing = λ n. rw (e, t);
+        }
+    go true false e t =
+        let z : writeRefusal c room ≡ 0 = rw (e, t) in
+        record {
+          unsound = (λ h. absurd (omega arith), λ h. never e h);
+          small = (λ h. absurd (omega arith), λ h. absurd (omega (arith, ltb-false room 448 t, h .1)));
+          others = omega arith;
+          nothing = λ n. absurd (n z);
+        }
+    go false b e t =
+        let z : writeRefusal c room ≡ 1 = rw e in
+        record {
+          unsound = (λ h. e, λ h. z);
+          small = (λ h. absurd (omega arith), λ h. never (h .0) e);
+          others = omega arith;
+          nothing = λ n. rw e;
+        }
+
+-- ---- READ
+-- the card of any bytes has its shape
+read-shaped : (s : List ℕ) → Shaped (cardOf s)
+unfolding cardOf slotsFrom
+read-shaped s = record {
+  uid = refl;
+  «public_key» = refl;
+  pin = refl;
+  puk = refl;
+  secret = refl;
+  slots = refl;
+  keys = (refl, (refl, (refl, (refl, (refl, tt)))));
+  expected = refl;
+  keyuid = refl;
+  current = refl;
+  pinless = refl;
+}
+
+read-refusal : (s : List ℕ) → ReadRefuses s
+read-refusal s = ⊎-elim
+    (λ t.
+    let z : readAnswer s .refusal ≡ 0 = ap (λ (a : Answer). a .refusal) (t .0) in
+    let is : IsRecord s = (cardOf s, read-shaped s, t .1 .sound, t .1 .written) in
+    record {
+      taken = (λ h. is, λ h. z);
+      refused = (λ h. absurd (omega arith), λ n. absurd (n is));
+      others = inl z;
+      nothing = λ h. absurd (omega arith);
+    })
+    (λ e.
+    let z : readAnswer s .refusal ≡ 8 = ap (λ (a : Answer). a .refusal) e in
+    let isnot : IsRecord s → ⊥ = λ h. read-refuses s z (h .0) (h .1) (h .2) (h .3) in
+    record {
+      taken = (λ h. absurd (omega arith), λ h. absurd (isnot h));
+      refused = (λ h. isnot, λ n. z);
+      others = inr z;
+      nothing = λ h. ap (λ (a : Answer). a .card) e;
+    })
+    (read-cases s)
+
+-- ---- SEAL
+seal-refuses : (s : Session) (header d : List ℕ) (room : ℕ) → SealRefuses s header d room
+unfolding sealOut
+seal-refuses s header d room = go (ltb room 261) (ltb 223 (length d)) refl refl
+  where
+    go : (a b : Bool) → ltb room 261 ≡ a → ltb 223 (length d) ≡ b → SealRefuses s header d room
+    go true b e t =
+        let z : sealOut s header d room .refusal ≡ 2 = rw e in
+        let small = ltb-true room 261 e in
+        record {
+          small = (λ h. small, λ h. z);
+          long = (λ h. absurd (omega arith), λ h. absurd (omega (arith, h .0)));
+          taken = (λ h. absurd (omega arith), λ h. absurd (omega (arith, h .0)));
+          nothing = λ n. (rw e, rw e);
+        }
+    go false true e t =
+        let z : sealOut s header d room .refusal ≡ 6 = rw (e, t) in
+        let large = ltb-false room 261 e in
+        let long = ltb-true 223 (length d) t in
+        record {
+          small = (λ h. absurd (omega arith), λ h. absurd (omega arith));
+          long = (λ h. (large, long), λ h. z);
+          taken = (λ h. absurd (omega arith), λ h. absurd (omega (arith, h .1)));
+          nothing = λ n. (rw (e, t), rw (e, t));
+        }
+    go false false e t =
+        let z : sealOut s header d room .refusal ≡ 0 = rw (e, t) in
+        let large = ltb-false room 261 e in
+        let short = ltb-false 223 (length d) t in
+        record {
+          small = (λ h. absurd (omega arith), λ h. absurd (omega arith));
+          long = (λ h. absurd (omega arith), λ h. absurd (omega (arith, h .1)));
+          taken = (λ h. (large, short), λ h. z);
+          nothing = λ n. absurd (n z);
+        }
+
+-- ---- UNSEAL
+-- behind the test of the room: taken or 7
+record Judged (s : Session) (o : Out) : Type 0 where
+  pub numbers : (o .refusal ≡ 0) ⊎ (o .refusal ≡ 7)
+  pub nothing : (o .refusal ≡ 0 → ⊥) → (o .session ≡ s) × (o .bytes ≡ [])
+
+judged-7 : (s : Session) → Judged s (refused s 7)
+judged-7 s = record { numbers = inr refl; nothing = λ n. (refl, refl) }
+
+judged : (s : Session) (field : List ℕ) (b : Bool) (o : Option (List ℕ)) → Judged s (cond b (unsealed s field o) (refused s 7))
+judged s field false o = judged-7 s
+judged s field true none = judged-7 s
+judged s field true (some p) =
+    by-test (Judged s) (ltb (length p) 2) (λ e. judged-7 s) (λ e. record { numbers = inl refl; nothing = λ n. absurd (n refl) })
+
+unseal-refuses : (s : Session) (response : List ℕ) (room : ℕ) → UnsealRefuses s response room
+unfolding unsealOut
+unseal-refuses s response room = go (ltb room 223) refl
+  where
+    inner : Out
+    inner =
+        cond (sameBytes (drop (length response - 2) response) plainSuccess)
+        (unsealed s (fieldOf response) (openField s responseHead (fieldOf response))) (refused s 7)
+
+    is : Judged s inner
+    is = judged s (fieldOf response) (sameBytes (drop (length response - 2) response) plainSuccess)
+        (openField s responseHead (fieldOf response))
+
+    go : (b : Bool) → ltb room 223 ≡ b → UnsealRefuses s response room
+    go true e =
+        let z : unsealOut s response room .refusal ≡ 2 = rw e in
+        record {
+          small = (λ h. ltb-true room 223 e, λ h. z);
+          numbers = inr (inl z);
+          genuine = λ k b h. absurd (omega arith);
+          taken = λ k r p b two most q. absurd (omega (arith, ltb-true room 223 e));
+          nothing = λ n. (rw e, rw e);
+        }
+    go false e =
+        let z : unsealOut s response room ≡ inner = ap (λ (b : Bool). cond b (refused s 2) inner) e in
+        let large = ltb-false room 223 e in
+        record {
+          small = (
+            λ h. ⊎-elim (λ t. absurd (omega (arith, ap (λ (o : Out). o .refusal) z)))
+                (λ t. absurd (omega (arith, ap (λ (o : Out). o .refusal) z))) (is .numbers),
+            λ h. absurd (omega arith),
+          );
+          numbers =
+              ⊎-elim (λ t. inl (ap (λ (o : Out). o .refusal) z ∙ t)) (λ t. inr (inr (ap (λ (o : Out). o .refusal) z ∙ t))) (is .numbers);
+          genuine = λ k b h. unseal-sound s k response b room h;
+          taken = λ k r p b two most q.
+              ap (λ (x : List ℕ). unsealOut s x room .refusal) q ∙ ap (λ (o : Out). o .refusal) (unseal-seals s k p b most room r two);
+          nothing = λ n. let h = is .nothing (λ t. n (ap (λ (o : Out). o .refusal) z ∙ t)) in
+              (ap (λ (o : Out). o .session) z ∙ h .0, ap (λ (o : Out). o .bytes) z ∙ h .1);
+        }
+
+-- ---- WALK
+walk-refuses : (s : List ℕ) → WalkRefuses s
+walk-refuses s = record { numbers = numbers (walkOf s); nothing = nothing (walkOf s) }
+  where
+    numbers : (w : Walked) → (report w .refusal ≡ 0) ⊎ ((report w .refusal ≡ 4) ⊎ (report w .refusal ≡ 5))
+    numbers (walked.Fields n) = inl refl
+    numbers (walked.Refused fault.Malformed) = inr (inl refl)
+    numbers (walked.Refused fault.TooDeep) = inr (inr refl)
+
+    nothing : (w : Walked) → (report w .refusal ≡ 0 → ⊥) → report w .count ≡ 0
+    nothing (walked.Fields n) h = absurd (h refl)
+    nothing (walked.Refused f) h = refl
+
+pub refusals : Refusals
+refusals = record {
+  ask = λ c cmd room. record {
+    unsound = ask-unsound c cmd room;
+    small = ask-room c cmd room;
+    others = ask-numbers c cmd room;
+    nothing = ask-refused c cmd room;
+  };
+  answer = λ c cmd s room. record {
+    unsound = answer-unsound c cmd s room;
+    small = answer-room c cmd s room;
+    supplied = answer-supply c cmd s room;
+    others = answer-numbers c cmd s room;
+    nothing = answer-refused c cmd s room;
+  };
+  reset = reset-refuses;
+  write = write-refuses;
+  read = read-refusal;
+  seal = seal-refuses;
+  unseal = unseal-refuses;
+  walk = walk-refuses;
+}

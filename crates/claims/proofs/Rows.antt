@@ -1,0 +1,139 @@
+-- The rows to settle, each from the rules that it speaks of.
+-- Assumes nothing.
+use mathlib.Core.Path.{_≡_, refl, sym, ap, ap₂, _∙_}
+use mathlib.Core.Bool.{Bool, true, false, _&&_, not, cond}
+use mathlib.Core.List.{List, [], _∷_, _++_, append-assoc}
+use mathlib.Core.Option.{none}
+use Prim.Native.Nat.{ℕ, _≤_}
+use native.Mathlib.Omega.{arith}
+use borrow.Author.Tests.{le-ltb}
+use lib.Dec.{eqb}
+use lib.ListN.{length, take, drop, length-append}
+use lib.Seq.{take-at, drop-at}
+use Rattle.padding.specs.Padding.{paddedBytes, pad, unpad}
+use Rattle.padding.proofs.Laws.{length-pad}
+use Rattle.template.specs.Template.{field}
+use Rattle.walk.specs.Walk.{fieldWith, fieldsOf, valueOf, WALK}
+use Rattle.answer_templates.specs.Answers.{status, signature}
+use Rattle.card.specs.declared.Pins.{Pins}
+use Rattle.card.specs.declared.Keys.{Keys}
+use Rattle.card.specs.declared.Card.{Card}
+use Rattle.card.specs.State.{zeros}
+use Rattle.card.specs.Slots.{isZero}
+use Rattle.card.specs.Sound.{isSound}
+use Rattle.rules.specs.declared.Report.the-variants as report
+use Rattle.rules.specs.declared.Command.{Command}
+use Rattle.rules.specs.declared.Command.the-variants as command
+use Rattle.rules.specs.Words.{word, success, fails}
+use Rattle.rules.specs.Supplies.{suits}
+use Rattle.rules.specs.Steps.{closed, forgotten, begins, kept, afterStep1, dataOf, isInitialised, nameOf, isPlain, inStage}
+use Rattle.rules.specs.Commands.{hasKey, statusReply, signReply, checksOf, supplyOf, replyOf}
+use Rattle.rules.specs.Engine.{plainText, plainly, ends, byName, step2, step3, step4, decide, answerOut}
+use Rattle.exchange_laws.specs.Opens.{Opens, atStep6, outcome}
+use Rattle.exchange_laws.proofs.Answers.{step1-pins, step1-keys}
+use Rattle.claims.specs.Rows.{Sent, Gives, Initialises, initialised, InChannel, number32, Rows}
+use Rattle.claims.proofs.Pins.{gives, first-wrong, third-wrong, right-then}
+use Rattle.claims.proofs.AfterInit.{Full, init-full}
+
+-- ---- padding
+pad-nothing : pad [] ≡ 0x80 ∷ zeros 15
+unfolding pad
+pad-nothing = refl
+
+pad-block : (s : List ℕ) → length s ≡ 16 → length (pad s) ≡ 32
+unfolding paddedBytes
+pad-block s e = length-pad s ∙ ap paddedBytes e
+
+unpad-zeros : unpad (zeros 16) ≡ none
+unfolding unpad pad
+unpad-zeros = refl
+
+-- ---- 80 F2 00 00 in stage 0
+abbrev bare : List ℕ
+bare = 0x80 ∷ 0xF2 ∷ 0 ∷ 0 ∷ []
+
+bare-step1 : (c : Card) → c .channel .stage ≡ 0 → afterStep1 bare c ≡ forgotten c
+unfolding afterStep1
+bare-step1 c z = ap (λ (n : ℕ). kept bare (cond (eqb n 1 && not (begins 0x11 bare)) (closed c) c)) z
+
+bare-step2 : (c : Card) → isInitialised c ≡ true → c .channel .stage ≡ 0 → step2 bare (forgotten c)
+    ≡ ends (plainly (fails (forgotten c) 0x6985))
+unfolding step2 dataOf step3 nameOf step4 isPlain inStage
+bare-step2 c i z = ap (λ (b : Bool). byName bare (forgotten c) [] (nameOf b 0x80 0xF2)) i ∙ rw z
+
+bare-status : (c : Card) (supply : List ℕ) (room : ℕ) → isSound c ≡ true → isInitialised c ≡ true → c .channel .stage ≡ 0 → 258 ≤ room
+    → (answerOut c bare supply room .refusal ≡ 0) × (answerOut c bare supply room .bytes ≡ 0x69 ∷ 0x85 ∷ [])
+unfolding answerOut decide suits
+bare-status c supply room e i z r = rw (e, le-ltb room 258 r, bare-step1 c z, bare-step2 c i z) (refl, refl)
+
+-- ---- GET STATUS after INIT
+abbrev said : List ℕ
+said = 0xA3 ∷ 0x09 ∷ 0x02 ∷ 0x01 ∷ 0x03 ∷ 0x02 ∷ 0x01 ∷ 0x05 ∷ 0x01 ∷ 0x01 ∷ 0x00 ∷ []
+
+status-full : (c : Card) (d s : List ℕ) → Full c → replyOf (command.Status report.Application) c d s .response ≡ said
+unfolding replyOf statusReply
+status-full c d s h = rw (h .pin, h .puk, h .key)
+
+init-is-full : (c : Card) (i : Initialises c) → Full (initialised c i)
+init-is-full c i = init-full c (i .bytes) (i .supply) (i .room) (i .sound) (i .fresh) (i .done)
+
+full-like : (n o : Card) → o .pins ≡ n .pins → o .keys ≡ n .keys → Full n → Full o
+full-like n o p k h = record {
+  pin = ap (λ (x : Pins). x .«pin_tries») p ∙ h .pin;
+  puk = ap (λ (x : Pins). x .«puk_tries») p ∙ h .puk;
+  key = ap (λ (x : Keys). x .kind) k ∙ h .key;
+}
+
+status-sent : (c : Card) (i : Initialises c) (o : Card) → InChannel (initialised c i) o → (q : Sent o)
+    → q .opens .command ≡ command.Status report.Application → Gives o q (said ++ word success)
+unfolding checksOf supplyOf suits replyOf statusReply
+status-sent c i o h q e =
+    gives o (h .sound) (h .stage) q (λ v. ap (λ (k : Command). suits (supplyOf k) (q .supply)) e) (said ++ word success)
+    (ap (λ (k : Command). plainText (outcome k x (q .opens .data′) (q .supply))) e ∙ replies)
+  where
+    x : Card
+    x = atStep6 o (q .bytes) (q .opens)
+
+    full : Full x
+    full = full-like o x (step1-pins (q .bytes) o) (step1-keys (q .bytes) o)
+        (full-like (initialised c i) o (h .pins) (h .keys) (init-is-full c i))
+
+    replies : plainText (outcome (command.Status report.Application) x (q .opens .data′) (q .supply)) ≡ said ++ word success
+    replies = ap (λ (r : List ℕ). r ++ word success) (status-full x (q .opens .data′) (q .supply) full)
+
+-- ---- SIGN
+abbrev r128 : List ℕ
+r128 = number32 128
+
+abbrev s1 : List ℕ
+s1 = number32 1
+
+sign-parts : (c : Card) (d key : List ℕ) → length key ≡ 65
+    → replyOf command.Sign c d (key ++ r128 ++ s1) .response ≡ signature key r128 s1
+unfolding replyOf signReply
+sign-parts c d key l =
+    let k : take 65 (key ++ (r128 ++ s1)) ≡ key = take-at key (r128 ++ s1) 65 l in
+    let rest : drop 65 (key ++ (r128 ++ s1)) ≡ r128 ++ s1 = drop-at key (r128 ++ s1) 65 l in
+    let far : drop 97 (key ++ (r128 ++ s1)) ≡ s1 = ap (λ (x : List ℕ). drop 97 x) (sym (append-assoc key r128 s1))
+    ∙ drop-at (key ++ r128) s1 97 (omega (arith, length-append key r128)) in
+    ap (λ (x : List ℕ). signature (take 65 x) (take 32 (drop 65 x)) (take 32 (drop 97 x))) (append-assoc key r128 s1)
+    ∙ ap (λ (x : List ℕ). signature x (take 32 (drop 65 (key ++ (r128 ++ s1)))) (take 32 (drop 97 (key ++ (r128 ++ s1))))) k
+    ∙ ap₂ (λ (x y : List ℕ). signature key (take 32 x) (take 32 y)) rest far
+
+-- ---- the table
+pub rows : Rows
+unfolding replyOf fieldsOf fieldWith valueOf
+rows = record {
+  padnothing = pad-nothing;
+  padblock = pad-block;
+  unpadzeros = unpad-zeros;
+  firstwrong = first-wrong;
+  thirdwrong = third-wrong;
+  rightthen = right-then;
+  barestatus = bare-status;
+  statusrule = λ c i d s. status-full (initialised c i) d s (init-is-full c i);
+  statussent = status-sent;
+  signed = sign-parts;
+  walkempty = refl;
+  walkmalformed = refl;
+}

@@ -1,0 +1,234 @@
+-- Entries that a terminal seals, one after the other; and the status row read from FRESH on, with keys and supplies of zeros.
+-- Assumes nothing.
+use mathlib.Core.Path.{_≡_, refl, sym, ap, _∙_, subst}
+use mathlib.Core.Bool.{Bool, true, false, not}
+use mathlib.Core.List.{List, [], _∷_}
+use mathlib.Core.Option.{some}
+use Prim.Native.Nat.{ℕ, _≤_}
+use native.Mathlib.Omega.{arith}
+use borrow.Author.Tests.{leb-true}
+use lib.Dec.{leb}
+use lib.ListN.{length}
+use Rattle.octets.specs.Bytes.{Bytes}
+use Rattle.octets.proofs.Lists.{bytes-replicate}
+use Rattle.message.specs.Terminal.{Out, sealedCommand}
+use Rattle.card.specs.declared.Card.{Card}
+use Rattle.card.specs.State.{zeros, noKeys, freshOf}
+use Rattle.card.specs.Slots.{allOf, someOf, isZero}
+use Rattle.card.specs.Sound.{isSound, isDigit}
+use Rattle.card.specs.Shape.{Shaped}
+use Rattle.card.proofs.Tests.{both}
+use Rattle.card.proofs.Rules.{pins-rules, parts-rules}
+use Rattle.card.proofs.SoundFacts.{fresh-sound}
+use Rattle.rules.specs.declared.Instruction.{Instruction}
+use Rattle.rules.specs.declared.Instruction.the-variants as ins
+use Rattle.rules.specs.declared.Named.the-variants as named
+use Rattle.rules.specs.declared.Report.the-variants as report
+use Rattle.rules.specs.declared.Command.{Command}
+use Rattle.rules.specs.declared.Command.the-variants as command
+use Rattle.rules.specs.Supplies.{suits}
+use Rattle.rules.specs.Steps.{isInitialised, nameOf, isPlain, inStage, commandOf}
+use Rattle.rules.specs.Commands.{statusReply, checksOf, supplyOf, replyOf}
+use Rattle.rules.specs.Engine.{sessionOf, Answered, answerOut}
+use Rattle.engine_laws.proofs.Sound.{answer-sound}
+use Rattle.exchange_laws.specs.Exchange.{Typed, Turn, sealedBy, answeredBy, unsealedBy, Names, InStage2}
+use Rattle.exchange_laws.proofs.Exchanges.{gives, is-after, opens-of, in-stage2}
+use Rattle.two_runs.specs.Runs.{Call, nextAt, endOf}
+use Rattle.two_runs.proofs.Reached.{fresh, initCommand, initialisedCard, init-reaches, inChannel, session-keyed, stage2-reached, reached-sound}
+use Rattle.claims.specs.Rows.{Sent, Entry, after, Entries, Initialises, initialised, InChannel}
+use Rattle.claims.specs.RowsMet.{StatusRead, RowsMet}
+
+-- ---- a turn 80 b 00 00 with no supply, and the command that it names in stage 2
+abbrev turnOf : (b : ℕ) (d : List ℕ) → Bytes (0x80 ∷ b ∷ 0 ∷ 0 ∷ []) → Bytes d → length d ≤ 223 → Turn
+turnOf b d h bytes fits = record {
+  header = 0x80 ∷ b ∷ 0 ∷ 0 ∷ [];
+  data′ = d;
+  supply = [];
+  sealroom = 261;
+  answerroom = 258;
+  unsealroom = 223;
+  four = refl;
+  most = fits;
+  headerbytes = h;
+  databytes = bytes;
+  supplybytes = tt;
+  sealenough = omega arith;
+  answerenough = omega arith;
+  unsealenough = omega arith;
+}
+
+header-bytes : (b : ℕ) → leb b 255 ≡ true → Bytes (0x80 ∷ b ∷ 0 ∷ 0 ∷ [])
+header-bytes b e = (omega arith, (omega (arith, leb-true b 255 e), (omega arith, (omega arith, tt))))
+
+module _ (c : Card) (sound : isSound c ≡ true) (in2 : c .channel .stage ≡ 2) (b : ℕ) (i : Instruction) (k : Command)
+    (name : nameOf true 0x80 b ≡ named.Known i) (sealed : isPlain i ≡ false) (staged : inStage i 2 ≡ true)
+    (listed : commandOf i 0 0 ≡ some k) where
+  abbrev names : Names c (0x80 ∷ b ∷ 0 ∷ 0 ∷ [])
+  names = record {
+    instruction = i;
+    command = k;
+    name = ap (λ (n : ℕ). nameOf (not (isZero n)) 0x80 b) (is-after c sound (λ z. omega (arith, in2)) .flag) ∙ name;
+    sealed = sealed;
+    stage = ap (λ (n : ℕ). inStage i n) in2 ∙ staged;
+    listed = listed;
+  }
+
+-- ---- an entry, sealed for the card
+verify-named : nameOf true 0x80 0x20 ≡ named.Known ins.Verify
+unfolding nameOf
+verify-named = refl
+
+verify-sealed : isPlain ins.Verify ≡ false
+unfolding isPlain
+verify-sealed = refl
+
+verify-staged : inStage ins.Verify 2 ≡ true
+unfolding inStage
+verify-staged = refl
+
+verify-listed : commandOf ins.Verify 0 0 ≡ some command.Verify
+unfolding commandOf
+verify-listed = refl
+
+record Ready (c : Card) : Type 0 where
+  pub sound : isSound c ≡ true
+  pub typed : Typed c
+  pub stage : c .channel .stage ≡ 2
+
+module _ (c : Card) (r : Ready c) (e : List ℕ) (bytes : Bytes e) (fits : length e ≤ 223) where
+  abbrev verifies : Names c (0x80 ∷ 0x20 ∷ 0 ∷ 0 ∷ [])
+  verifies = names c (r .sound) (r .stage) 0x20 ins.Verify command.Verify verify-named verify-sealed verify-staged verify-listed
+
+  abbrev turn : Turn
+  turn = turnOf 0x20 e (header-bytes 0x20 refl) bytes fits
+
+  abbrev entry : Entry c
+  entry = record {
+    sent = record {
+      bytes = sealedCommand (sessionOf (c .channel)) (0x80 ∷ 0x20 ∷ 0 ∷ 0 ∷ []) e;
+      supply = [];
+      room = 258;
+      enough = omega arith;
+      opens = opens-of c turn (r .typed) verifies;
+    };
+    verify = refl;
+  }
+
+  answered-same : after c entry ≡ answeredBy c turn .card
+  answered-same =
+      sym (ap (λ (o : Out). answerOut c (o .bytes) [] 258 .card) (gives (sessionOf (c .channel)) turn (r .typed .keyed)))
+
+  done : InStage2 c turn verifies
+  unfolding supplyOf suits
+  done = in-stage2 c turn verifies (r .sound) (r .typed) (r .stage) (λ v. refl)
+
+  ready-after : Ready (after c entry)
+  ready-after = record {
+    sound = answer-sound c (entry .sent .bytes) [] 258 (r .sound);
+    typed = subst (λ (n : Card). Typed n) (sym answered-same) (done .typed);
+    stage = ap (λ (n : Card). n .channel .stage) answered-same ∙ done .stays;
+  }
+
+-- digits are bytes
+digits-bytes : (s : List ℕ) → allOf isDigit s ≡ true → Bytes s
+unfolding allOf
+digits-bytes [] e = tt
+digits-bytes (x ∷ s) e =
+    let h = both (isDigit x) (allOf isDigit s) e in
+    let l = leb-true x 0x39 (both (leb 0x30 x) (leb x 0x39) (h .0) .1) in
+    (omega (arith, l), digits-bytes s (h .1))
+
+pin-bytes : (c : Card) → Ready c → Bytes (c .pins .pin)
+pin-bytes c r =
+    digits-bytes (c .pins .pin)
+    (pins-rules (c .pins) (parts-rules c (is-after c (r .sound) (λ z. omega (arith, r .stage)) .parts) .pins) .pin)
+
+entries : (c : Card) (e : List ℕ) → isSound c ≡ true → Typed c → c .channel .stage ≡ 2 → c .pins .«pin_tries» ≡ 3 → Bytes e → length e ≤ 223
+    → (e ≡ c .pins .pin → ⊥) → Entries c
+entries c e sound w in2 three bytes fits wrong =
+    let r0 : Ready c = record { sound = sound; typed = w; stage = in2 } in
+    let c1 = after c (entry c r0 e bytes fits) in
+    let r1 : Ready c1 = ready-after c r0 e bytes fits in
+    let c2 = after c1 (entry c1 r1 e bytes fits) in
+    let r2 : Ready c2 = ready-after c1 r1 e bytes fits in
+    let c3 = after c2 (entry c2 r2 e bytes fits) in
+    let r3 : Ready c3 = ready-after c2 r2 e bytes fits in
+    record {
+      sound = sound;
+      stage = in2;
+      tries = three;
+      first = entry c r0 e bytes fits;
+      second = entry c1 r1 e bytes fits;
+      third = entry c2 r2 e bytes fits;
+      fourth = entry c3 r3 (c .pins .pin) (pin-bytes c r0) (omega (arith, w .shaped .pin));
+      wrong1 = wrong;
+      wrong2 = wrong;
+      wrong3 = wrong;
+      right = refl;
+    }
+
+-- ---- the status, from FRESH on
+init-is : answerOut fresh initCommand (1 ∷ zeros 32) 258 .card ≡ initialisedCard
+unfolding nextAt
+init-is = init-reaches
+
+abbrev initialises : Initialises fresh
+initialises = record {
+  sound = fresh-sound (zeros 16) (zeros 65);
+  fresh = refl;
+  bytes = initCommand;
+  supply = 1 ∷ zeros 32;
+  room = 258;
+  done = ap isInitialised init-is;
+}
+
+abbrev opened : Card
+opened = inChannel 2 (stage2-reached .iv) 0 noKeys
+
+opened-typed : Typed opened
+opened-typed = record {
+  shaped = record {
+    uid = refl;
+    «public_key» = refl;
+    pin = refl;
+    puk = refl;
+    secret = refl;
+    slots = refl;
+    keys = (refl, (refl, (refl, (refl, (refl, tt)))));
+    expected = refl;
+    keyuid = refl;
+    current = refl;
+    pinless = refl;
+  };
+  keyed = session-keyed (stage2-reached .iv) (stage2-reached .block);
+  path = bytes-replicate 40 0 (omega arith);
+}
+
+abbrev statusTurn : Turn
+statusTurn = turnOf 0xF2 [] (header-bytes 0xF2 refl) tt (omega arith)
+
+reads : unsealedBy opened statusTurn .bytes
+    ≡ 0xA3 ∷ 0x09 ∷ 0x02 ∷ 0x01 ∷ 0x03 ∷ 0x02 ∷ 0x01 ∷ 0x05 ∷ 0x01 ∷ 0x01 ∷ 0x00 ∷ 0x90 ∷ 0x00 ∷ []
+unfolding nameOf isPlain inStage commandOf checksOf supplyOf suits replyOf statusReply
+reads =
+    in-stage2 opened statusTurn
+    (names opened (reached-sound (stage2-reached .iv) .0) refl 0xF2 ins.Status (command.Status report.Application) refl refl refl refl)
+    (reached-sound (stage2-reached .iv) .0) opened-typed refl (λ v. refl) .turn .plain
+
+pub rows-met : RowsMet
+rows-met = record {
+  entries = entries;
+  status = record {
+    init = initialises;
+    calls = stage2-reached .reached .calls;
+    channel = record {
+      sound = ap isSound (stage2-reached .reached .ends) ∙ reached-sound (stage2-reached .iv) .0;
+      stage = ap (λ (x : Card). x .channel .stage) (stage2-reached .reached .ends);
+      pins = ap (λ (x : Card). x .pins) (stage2-reached .reached .ends) ∙ sym (ap (λ (x : Card). x .pins) init-is);
+      keys = ap (λ (x : Card). x .keys) (stage2-reached .reached .ends) ∙ sym (ap (λ (x : Card). x .keys) init-is);
+    };
+    turn = statusTurn;
+    header = refl;
+    reads = ap (λ (x : Card). unsealedBy x statusTurn .bytes) (stage2-reached .reached .ends) ∙ reads;
+  };
+}

@@ -1,0 +1,128 @@
+-- Demand 3: the theorem of crate `two_runs`, and cards and lists of calls that show that it is not empty.
+-- Assumes nothing.
+use mathlib.Core.Path.{_≡_, refl, ap, ap₂, _∙_}
+use mathlib.Core.Bool.{true, false}
+use mathlib.Core.List.{List, [], _∷_, _++_}
+use mathlib.Core.Option.{Option, some}
+use Prim.Native.Nat.{ℕ}
+use native.Mathlib.Omega.{arith}
+use lib.ListN.{length, getD, replicate}
+use Rattle.octets.proofs.Lists.{bytes-append, bytes-replicate}
+use Rattle.card.specs.declared.Pins.{Pins}
+use Rattle.card.specs.declared.Card.{Card}
+use Rattle.card.specs.State.{zeros, noKeys, withPins, withSecrets}
+use Rattle.card.specs.Slots.{allOf, someOf}
+use Rattle.card.specs.Sound.{isSound}
+use Rattle.rules.specs.Commands.{keyWith}
+use Rattle.two_runs.specs.Comparison.{Comparison, pin, puk}
+use Rattle.two_runs.specs.Runs.{Call, comparisonAt}
+use Rattle.two_runs.proofs.TwoRuns.{two-runs}
+use Rattle.two_runs.proofs.Sealed.{InStage2}
+use Rattle.two_runs.proofs.Meets.{secrets-meet, Met, by, unblock-meets}
+use Rattle.two_runs.proofs.WrongEntries.{verifyCall, verifyCalls, AllCompare}
+use Rattle.two_runs.proofs.Reached.{Reachable, initialisedCard, initialised-sound, initialised-reached, stage1-reached, inChannel, session-keyed, stage2-reached, kind1-reached, kind2-reached, reached-sound}
+use Rattle.two_runs.proofs.Examples.{digits, card000000, card111111, cardOtherPuk, wrong-entry, right-entry, threeTimes, three-wrong}
+use Rattle.claims.specs.Secrecy.{Reaches, comparisonsOf, Meets, Secrecy}
+
+-- ---- what is reached from FRESH
+reaches : (c : Card) (n k : ℕ) → Reachable c → isSound c ≡ true → c .initialised ≡ 1 → c .channel .stage ≡ n → c .keys .kind ≡ k
+    → Reaches n k
+reaches c n k r e i s z = record {
+  uid = zeros 16;
+  key = zeros 65;
+  calls = r .calls;
+  sound = ap isSound (r .ends) ∙ e;
+  initialised = ap (λ (x : Card). x .initialised) (r .ends) ∙ i;
+  stage′ = ap (λ (x : Card). x .channel .stage) (r .ends) ∙ s;
+  kind′ = ap (λ (x : Card). x .keys .kind) (r .ends) ∙ z;
+}
+
+stage1-sound : isSound (inChannel 1 (zeros 16) 0 noKeys) ≡ true
+unfolding isSound allOf someOf
+stage1-sound = refl
+
+-- ---- lists that meet the premise
+-- other first digits are other secrets
+other-pin : (p q : Pins) → getD (p .pin) 0 0 ≡ 0x30 → getD (q .pin) 0 0 ≡ 0x31 → p ≡ q → ⊥
+other-pin p q a b e = omega (arith, ap (λ (x : Pins). getD (x .pin) 0 0) e)
+
+other-puk : (p q : Pins) → getD (p .puk) 0 0 ≡ 0x30 → getD (q .puk) 0 0 ≡ 0x31 → p ≡ q → ⊥
+other-puk p q a b e = omega (arith, ap (λ (x : Pins). getD (x .puk) 0 0) e)
+
+one-call : (c d : Card) (k : Call) (x : Comparison) → Met c d k x → (c .pins ≡ d .pins → ⊥) → Meets (some x ∷ [])
+unfolding comparisonsOf
+one-call c d k x m n = record {
+  card = c;
+  card′ = d;
+  calls = k ∷ [];
+  premise = m .premise;
+  compared = ap (λ (o : Option Comparison). o ∷ []) (m .here);
+  differ = n;
+}
+
+all-compared : (c : Card) (calls : List Call) → AllCompare c calls → comparisonsOf c calls ≡ replicate (length calls) (some (by pin false))
+unfolding AllCompare comparisonsOf
+all-compared c [] h = refl
+all-compared c (k ∷ more) h = ap₂ (λ (o : Option Comparison) (l : List (Option Comparison)). o ∷ l) (h .0) (all-compared _ more (h .1))
+
+three-calls : Meets (some (by pin false) ∷ some (by pin false) ∷ some (by pin false) ∷ [])
+unfolding verifyCalls
+three-calls = record {
+  card = card000000;
+  card′ = card111111;
+  calls = verifyCalls card000000 threeTimes;
+  premise = three-wrong .0;
+  compared = all-compared card000000 (verifyCalls card000000 threeTimes) (three-wrong .1);
+  differ = other-pin (card000000 .pins) (card111111 .pins) refl refl;
+}
+
+-- ---- a card with no PIN tries left, and UNBLOCK
+abbrev blocked : Card
+blocked = withPins card000000
+    (record { pin = digits 6 0x30; puk = digits 12 0x30; «pin_tries» = 0; «puk_tries» = 5; verified = 0 })
+
+blocked-in2 : InStage2 blocked
+unfolding isSound allOf someOf
+blocked-in2 = record {
+  sound = refl;
+  initialised = refl;
+  stage = refl;
+  keyed = session-keyed (stage2-reached .iv) (stage2-reached .block);
+}
+
+wrong-puk : Meets (some (by puk false) ∷ [])
+unfolding allOf
+wrong-puk = one-call blocked (withSecrets (digits 6 0x31) (digits 12 0x31) blocked) _ (by puk false)
+    (unblock-meets blocked blocked-in2 (digits 6 0x31) (digits 12 0x31) refl refl (digits 18 0x32) [] (zeros 258)
+    (bytes-replicate 18 0x32 (omega arith)) (omega arith) (omega arith) refl refl refl false refl refl)
+    (other-pin (blocked .pins) (withSecrets (digits 6 0x31) (digits 12 0x31) blocked .pins) refl refl)
+
+right-puk : Meets (some (by puk true) ∷ [])
+unfolding allOf
+right-puk = one-call blocked (withSecrets (digits 6 0x31) (digits 12 0x30) blocked) _ (by puk true)
+    (unblock-meets blocked blocked-in2 (digits 6 0x31) (digits 12 0x30) refl refl (digits 18 0x30) [] (zeros 258)
+    (bytes-replicate 18 0x30 (omega arith)) (omega arith) (omega arith) refl refl refl true refl refl)
+    (other-pin (blocked .pins) (withSecrets (digits 6 0x31) (digits 12 0x30) blocked .pins) refl refl)
+
+pub secrecy : Secrecy
+secrecy = record {
+  runs = two-runs;
+  digits = secrets-meet;
+  stage0 = reaches initialisedCard 0 0 initialised-reached initialised-sound refl refl refl;
+  stage1 = reaches (inChannel 1 (zeros 16) 0 noKeys) 1 0 stage1-reached stage1-sound refl refl refl;
+  stage2 = reaches (inChannel 2 (stage2-reached .iv) 0 noKeys) 2 0 (stage2-reached .reached)
+      (reached-sound (stage2-reached .iv) .0) refl refl refl;
+  kind1 =
+      reaches (inChannel 2 (kind1-reached .iv) 1 (keyWith 1 (zeros 32))) 2 1 (kind1-reached .reached) (reached-sound (kind1-reached .iv) .1)
+      refl refl refl;
+  kind2 =
+      reaches (inChannel 2 (kind2-reached .iv) 1 (keyWith 2 (zeros 32))) 2 2 (kind2-reached .reached) (reached-sound (kind2-reached .iv) .2)
+      refl refl refl;
+  wrongpin = one-call card000000 card111111 (verifyCall card000000 (digits 6 0x32)) (by pin false) wrong-entry
+      (other-pin (card000000 .pins) (card111111 .pins) refl refl);
+  wrongpins = three-calls;
+  rightpin = one-call card000000 cardOtherPuk (verifyCall card000000 (digits 6 0x30)) (by pin true) right-entry
+      (other-puk (card000000 .pins) (cardOtherPuk .pins) refl refl);
+  wrongpuk = wrong-puk;
+  rightpuk = right-puk;
+}

@@ -1,0 +1,81 @@
+-- Demand 2: each part is a law of the crate whose definitions it speaks of.
+-- Assumes nothing.
+use mathlib.Core.Path.{_≡_, refl, sym, ap, ap₂, _∙_}
+use mathlib.Core.Bool.{Bool, true, false, cond}
+use mathlib.Core.List.{List, _++_}
+use Prim.Native.Nat.{ℕ, _+_}
+use native.Mathlib.Omega.{arith}
+use Rattle.message.proofs.Trips.{unseal-seals}
+use Rattle.walk.specs.declared.Fault.the-variants as fault
+use Rattle.walk.specs.declared.Walked.{Walked}
+use Rattle.walk.specs.declared.Walked.the-variants as walked
+use Rattle.walk.specs.Walk.{walkOf, Report, report, WALK}
+use Rattle.walk.proofs.Joining.{walk-sum}
+use Rattle.answer_templates.proofs.Walks.{walk-pre-initialised, walk-application-info, walk-status, walk-signature}
+use Rattle.card.specs.declared.Card.{Card}
+use Rattle.card.specs.State.{resetOf}
+use Rattle.card.specs.Sound.{isSound}
+use Rattle.card.specs.Shape.{Shaped}
+use Rattle.card.proofs.SoundFacts.{fresh-sound, reset-sound}
+use Rattle.sound.specs.declared.Answer.{Answer}
+use Rattle.sound.specs.Reset.{done, resetAnswer}
+use Rattle.record.specs.Answers.{writeRefusal, writeBytes, readAnswer}
+use Rattle.record.proofs.ReadFacts.{read-write, write-read, read-sound}
+use Rattle.engine_laws.proofs.Sound.{answer-sound}
+use Rattle.engine_laws.proofs.Agreement.{unread-same, unread-taken, ask-empty, read-refused, read-taken, ask-data}
+use Rattle.claims.specs.Refusals.{WriteRefuses}
+use Rattle.claims.specs.Trips.{Trips}
+use Rattle.claims.proofs.Refusals.{refusals}
+
+-- ---- RESET
+reset-is : (c : Card) → isSound c ≡ true → resetAnswer c ≡ done (resetOf c)
+unfolding resetAnswer
+reset-is c e = rw e
+
+-- a card that WRITE takes is sound
+written-sound : (c : Card) (room : ℕ) → writeRefusal c room ≡ 0 → isSound c ≡ true
+written-sound c room h = go (isSound c) refl
+  where
+    go : (b : Bool) → isSound c ≡ b → b ≡ true
+    go true e = refl
+    go false e = absurd (omega (arith, refusals .write c room .unsound .1 e))
+
+-- ---- WALK
+counted : (w : Walked) (n : ℕ) → report w ≡ record { refusal = 0; count = n } → w ≡ walked.Fields n
+counted (walked.Fields m) n e = ap (λ (r : Report). walked.Fields (r .count)) e
+counted (walked.Refused fault.Malformed) n e = absurd (omega (arith, ap (λ (r : Report). r .refusal) e))
+counted (walked.Refused fault.TooDeep) n e = absurd (omega (arith, ap (λ (r : Report). r .refusal) e))
+
+joined : (s t : List ℕ) (m n : ℕ) → WALK s ≡ record { refusal = 0; count = m } → WALK t ≡ record { refusal = 0; count = n }
+    → WALK (s ++ t) ≡ record { refusal = 0; count = m + n }
+joined s t m n e f = ap report (walk-sum s t m n (counted (walkOf s) m e) (counted (walkOf t) n f))
+
+pub trips : Trips
+trips = record {
+  responses = record { unseals = λ s p room k b two most r. unseal-seals s k p b most room r two };
+  records = record {
+    readwrite = λ c room w h. read-write c room w h ∙ sym (reset-is c (written-sound c room h));
+    writeread = write-read;
+  };
+  walks = record {
+    joined = joined;
+    preinitialised = λ key. ap report (walk-pre-initialised key);
+    application = λ uid key free keyUid. ap report (walk-application-info uid key free keyUid);
+    status = λ pin puk key. ap report (walk-status pin puk key);
+    signature = λ key r s. ap report (walk-signature key r s);
+  };
+  agree = λ c cmd asks answers e a b. record {
+    unread = unread-same c cmd asks answers e a b;
+    untouched = unread-taken c cmd asks answers e a b;
+    nothing = ask-empty c cmd asks e a;
+    refused = read-refused c cmd asks answers e a b;
+    taken = read-taken c cmd asks answers e a b;
+    told = ask-data c cmd asks e a;
+  };
+  soundness = record {
+    fresh = fresh-sound;
+    reset = λ c e. ap (λ (a : Answer). isSound (a .card)) (reset-is c e) ∙ reset-sound c e;
+    read = read-sound;
+    answer = answer-sound;
+  };
+}

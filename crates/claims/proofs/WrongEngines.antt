@@ -1,0 +1,99 @@
+-- The wrong engines, each by a call that the rules answer otherwise. The card of the examples is the one that INIT makes of FRESH, with
+-- keys and supplies of zeros; the calls are the two steps of PAIR. Assumes nothing.
+use mathlib.Core.Path.{_≡_, refl, sym, ap, _∙_}
+use mathlib.Core.Bool.{true, false}
+use mathlib.Core.List.{List, [], _∷_, _++_}
+use Prim.Native.Nat.{ℕ, _≤_}
+use native.Mathlib.Omega.{arith}
+use borrow.Author.Tests.{le-ltb}
+use lib.ListN.{length}
+use Rattle.card.specs.declared.Card.{Card}
+use Rattle.card.specs.State.{zeros, withPairing}
+use Rattle.card.specs.Slots.{allOf, someOf}
+use Rattle.card.specs.Sound.{isSound}
+use Rattle.slots.specs.Free.{firstFree}
+use Rattle.rules.specs.Supplies.{suits}
+use Rattle.rules.specs.Steps.{afterStep1, dataOf, nameOf, isPlain, atStake, commandOf}
+use Rattle.rules.specs.Commands.{pendingWith, withSlot, filledWith, pairFirstChecks, pairFirstReply, pairFinalChecks, pairInto, pairFinalReply, checksOf, supplyOf, replyOf}
+use Rattle.rules.specs.Engine.{step2, step3, step4, step5, step6, decide, Answered, answerOut}
+use Rattle.two_runs.proofs.Reached.{initialisedCard, initialised-sound}
+use Rattle.claims.specs.WrongEngines.{Changing, SecondAnswer, WrongEngines}
+
+-- ---- the empty command
+nothing-answers : (c : Card) (supply : List ℕ) (room : ℕ) → isSound c ≡ true → 258 ≤ room
+    → (answerOut c [] supply room .refusal ≡ 0) × (answerOut c [] supply room .bytes ≡ 0x67 ∷ 0x00 ∷ [])
+unfolding answerOut decide step2 dataOf suits
+nothing-answers c supply room e r = (rw (e, le-ltb room 258 r), rw (e, le-ltb room 258 r))
+
+-- ---- PAIR, both steps
+abbrev card : Card
+card = initialisedCard
+
+abbrev pairFirst : List ℕ
+pairFirst = 0x80 ∷ 0x12 ∷ 0 ∷ 0 ∷ 32 ∷ zeros 32
+
+abbrev pairFinal : List ℕ
+pairFinal = 0x80 ∷ 0x12 ∷ 1 ∷ 0 ∷ 32 ∷ zeros 32
+
+abbrev pending : Card
+pending = withPairing card (pendingWith (card .pairing) (zeros 32))
+
+abbrev paired : Card
+paired = withPairing card (withSlot (card .pairing) 0 (filledWith (zeros 32)))
+
+first-answer : answerOut card pairFirst (zeros 96) 258 ≡ record { refusal = 0; card = pending; bytes = zeros 64 ++ (0x90 ∷ 0x00 ∷ []) }
+unfolding answerOut isSound allOf someOf decide afterStep1 step2 dataOf step3 nameOf step4 isPlain step5 commandOf atStake step6 checksOf pairFirstChecks supplyOf suits replyOf pairFirstReply
+first-answer = refl
+
+second-answer : answerOut pending pairFinal (zeros 64) 258
+    ≡ record { refusal = 0; card = paired; bytes = 0 ∷ zeros 32 ++ (0x90 ∷ 0x00 ∷ []) }
+unfolding answerOut isSound allOf someOf decide afterStep1 step2 dataOf step3 nameOf step4 isPlain step5 commandOf atStake step6 checksOf pairFinalChecks supplyOf suits replyOf pairFinalReply pairInto firstFree
+second-answer = refl
+
+-- without the first step: 6A86
+alone-answer : answerOut card pairFinal (zeros 64) 258 .bytes ≡ 0x6A ∷ 0x86 ∷ []
+unfolding answerOut isSound allOf someOf decide afterStep1 step2 dataOf step3 nameOf step4 isPlain step5 commandOf atStake step6 checksOf pairFinalChecks supplyOf suits
+alone-answer = refl
+
+-- lists of other lengths are not the same
+longer : (s t : List ℕ) (m n : ℕ) → length s ≡ m → length t ≡ n → (m ≡ n → ⊥) → s ≡ t → ⊥
+longer s t m n p q d e = d (sym p ∙ ap length e ∙ q)
+
+second-is : answerOut (answerOut card pairFirst (zeros 96) 258 .card) pairFinal (zeros 64) 258
+    ≡ record { refusal = 0; card = paired; bytes = 0 ∷ zeros 32 ++ (0x90 ∷ 0x00 ∷ []) }
+second-is = ap (λ (a : Answered). answerOut (a .card) pairFinal (zeros 64) 258) first-answer ∙ second-answer
+
+bytes-are : answerOut (answerOut card pairFirst (zeros 96) 258 .card) pairFinal (zeros 64) 258 .bytes ≡ 0 ∷ zeros 32 ++ (0x90 ∷ 0x00 ∷ [])
+bytes-are = ap (λ (a : Answered). a .bytes) second-is
+
+pub wrong-engines : WrongEngines
+wrong-engines = record {
+  refuses = λ c s room e r. nothing-answers c s room e r .0;
+  agrees = λ c s room e r. nothing-answers c s room e r .1;
+  stays = record {
+    card = card;
+    bytes = pairFirst;
+    supply = zeros 96;
+    room = 258;
+    sound = initialised-sound;
+    taken = ap (λ (a : Answered). a .refusal) first-answer;
+    changed = λ e. omega (arith, ap (λ (x : Card). x .pairing .pending) (sym (ap (λ (a : Answered). a .card) first-answer) ∙ e));
+  };
+  echoes = record {
+    card = card;
+    first = pairFirst;
+    supply = zeros 96;
+    second = pairFinal;
+    supply′ = zeros 64;
+    room = 258;
+    sound = initialised-sound;
+    taken = ap (λ (a : Answered). a .refusal) first-answer;
+    taken′ = ap (λ (a : Answered). a .refusal) second-is;
+    nofirst = λ e. longer (0 ∷ zeros 32 ++ (0x90 ∷ 0x00 ∷ [])) (zeros 64 ++ (0x90 ∷ 0x00 ∷ [])) 35 66 refl refl (λ z. omega arith)
+        (sym bytes-are ∙ e ∙ ap (λ (a : Answered). a .bytes) first-answer);
+    noecho = λ e. longer (0 ∷ zeros 32 ++ (0x90 ∷ 0x00 ∷ [])) pairFinal 35 37 refl refl (λ z. omega arith) (sym bytes-are ∙ e);
+    nosupply = λ e. longer (0 ∷ zeros 32 ++ (0x90 ∷ 0x00 ∷ [])) (zeros 64) 35 64 refl refl (λ z. omega arith) (sym bytes-are ∙ e);
+    onward = λ e. longer (0 ∷ zeros 32 ++ (0x90 ∷ 0x00 ∷ [])) (0x6A ∷ 0x86 ∷ []) 35 2 refl refl (λ z. omega arith)
+        (sym bytes-are ∙ e ∙ alone-answer);
+  };
+}

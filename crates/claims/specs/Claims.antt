@@ -1,0 +1,23 @@
+-- The claims, to be read first: what 01 demands of the card, the terminal's end and the stored record, as one statement. Each field names a
+-- statement of this crate (Rows, RowsMet, WrongEngines, Refusals, Trips, Secrecy) or of crate `exchange_laws`; those cite nothing but
+-- definitions, and the code's contracts cite the same definitions. The proof is `claims` of proofs/Claims.
+use Rattle.exchange_laws.specs.Exchange.{Together}
+use Rattle.claims.specs.Rows.{Rows}
+use Rattle.claims.specs.RowsMet.{RowsMet}
+use Rattle.claims.specs.WrongEngines.{WrongEngines}
+use Rattle.claims.specs.Refusals.{Refusals}
+use Rattle.claims.specs.Trips.{Trips}
+use Rattle.claims.specs.Secrecy.{Secrecy}
+
+pub record Claims : Type 0 where
+  -- demand 1: refusals, exactly when, and what a refusal leaves
+  pub refusals : Refusals
+  -- demand 2: round trips, agreement of ASK and ANSWER, soundness; terminal and card together
+  pub trips : Trips
+  pub together : Together
+  -- demand 3: the two runs
+  pub secrecy : Secrecy
+  -- the rows to settle, what they suppose being met; and the wrong engines that the rules shut out
+  pub rows : Rows
+  pub rowsmet : RowsMet
+  pub wrongengines : WrongEngines

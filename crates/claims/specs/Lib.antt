@@ -1,0 +1,7 @@
+pub mod Rows
+pub mod RowsMet
+pub mod WrongEngines
+pub mod Refusals
+pub mod Trips
+pub mod Secrecy
+pub mod Claims

@@ -1,0 +1,97 @@
+-- Demand 1: which refusal each operation gives and exactly when, and that a refusal hands back what it was given and writes nothing (01,
+-- Operations and numbered refusals). What an operation gives beside refusals is its definition. Every length and room is in bytes.
+use Prim.Native.Nat.{ℕ, _≤_, _<_}
+use mathlib.Core.Path.{_≡_}
+use mathlib.Core.Bool.{true, false}
+use mathlib.Core.List.{List, []}
+use mathlib.Core.Logic.{_↔_, _⊎_}
+use lib.ListN.{length}
+use Rattle.octets.specs.Bytes.{Bytes}
+use Rattle.message.specs.declared.Session.{Session}
+use Rattle.message.specs.Message.{Keyed}
+use Rattle.message.specs.Terminal.{sealOut, sealedResponse, unsealOut}
+use Rattle.walk.specs.Walk.{WALK}
+use Rattle.card.specs.declared.Card.{Card}
+use Rattle.card.specs.State.{zeros, freshOf, resetOf}
+use Rattle.card.specs.Sound.{isSound}
+use Rattle.card.specs.Shape.{Shaped}
+use Rattle.sound.specs.Reset.{resetAnswer}
+use Rattle.record.specs.Fields.{recordOf}
+use Rattle.record.specs.Answers.{writeRefusal, writeBytes, readAnswer}
+use Rattle.rules.specs.Supplies.{suits}
+use Rattle.rules.specs.Engine.{decide, askOut, answerOut}
+
+-- ---- ASK: 1, 2
+pub record AskRefuses (c : Card) (cmd : List ℕ) (room : ℕ) : Type 0 where
+  pub unsound : askOut c cmd room .refusal ≡ 1 ↔ isSound c ≡ false
+  pub small : askOut c cmd room .refusal ≡ 2 ↔ (isSound c ≡ true) × (room < 255)
+  pub others : askOut c cmd room .refusal ≤ 2
+  pub nothing : (askOut c cmd room .refusal ≡ 0 → ⊥) → (askOut c cmd room .kind ≡ 0) × (askOut c cmd room .bytes ≡ [])
+
+-- ---- ANSWER: 1, 2, 3
+pub record AnswerRefuses (c : Card) (cmd supply : List ℕ) (room : ℕ) : Type 0 where
+  pub unsound : answerOut c cmd supply room .refusal ≡ 1 ↔ isSound c ≡ false
+  pub small : answerOut c cmd supply room .refusal ≡ 2 ↔ (isSound c ≡ true) × (room < 258)
+  pub supplied : answerOut c cmd supply room .refusal ≡ 3
+      ↔ (isSound c ≡ true) × (258 ≤ room) × (suits (decide c cmd .supply) supply ≡ false)
+  pub others : answerOut c cmd supply room .refusal ≤ 3
+  pub nothing : (answerOut c cmd supply room .refusal ≡ 0 → ⊥)
+      → (answerOut c cmd supply room .card ≡ c) × (answerOut c cmd supply room .bytes ≡ [])
+
+-- ---- RESET: 1
+pub record ResetRefuses (c : Card) : Type 0 where
+  pub unsound : resetAnswer c .refusal ≡ 1 ↔ isSound c ≡ false
+  pub taken : resetAnswer c .refusal ≡ 0 ↔ isSound c ≡ true
+  pub others : resetAnswer c .refusal ≤ 1
+  pub nothing : (resetAnswer c .refusal ≡ 0 → ⊥) → resetAnswer c .card ≡ c
+
+-- ---- WRITE: 1, 2
+pub record WriteRefuses (c : Card) (room : ℕ) : Type 0 where
+  pub unsound : writeRefusal c room ≡ 1 ↔ isSound c ≡ false
+  pub small : writeRefusal c room ≡ 2 ↔ (isSound c ≡ true) × (room < 448)
+  pub others : writeRefusal c room ≤ 2
+  pub nothing : (writeRefusal c room ≡ 0 → ⊥) → writeBytes c room ≡ []
+
+-- ---- READ: 8. What is taken is the record of a sound card, what is refused is that of none
+abbrev pub IsRecord : List ℕ → Type 0
+IsRecord s = (c : Card) × Shaped c × (isSound c ≡ true) × (recordOf c ≡ s)
+
+pub record ReadRefuses (s : List ℕ) : Type 0 where
+  pub taken : readAnswer s .refusal ≡ 0 ↔ IsRecord s
+  pub refused : readAnswer s .refusal ≡ 8 ↔ (IsRecord s → ⊥)
+  pub others : (readAnswer s .refusal ≡ 0) ⊎ (readAnswer s .refusal ≡ 8)
+  pub nothing : readAnswer s .refusal ≡ 8 → readAnswer s .card ≡ freshOf (zeros 16) (zeros 65)
+
+-- ---- SEAL: 2, 6
+pub record SealRefuses (s : Session) (header d : List ℕ) (room : ℕ) : Type 0 where
+  pub small : sealOut s header d room .refusal ≡ 2 ↔ room < 261
+  pub long : sealOut s header d room .refusal ≡ 6 ↔ (261 ≤ room) × (223 < length d)
+  pub taken : sealOut s header d room .refusal ≡ 0 ↔ (261 ≤ room) × (length d ≤ 223)
+  pub nothing : (sealOut s header d room .refusal ≡ 0 → ⊥) → (sealOut s header d room .session ≡ s) × (sealOut s header d room .bytes ≡ [])
+
+-- ---- UNSEAL: 2, 7. Taken is what was sealed under this session, two bytes or more, and nothing else
+pub record UnsealRefuses (s : Session) (response : List ℕ) (room : ℕ) : Type 0 where
+  pub small : unsealOut s response room .refusal ≡ 2 ↔ room < 223
+  pub numbers : (unsealOut s response room .refusal ≡ 0)
+      ⊎ ((unsealOut s response room .refusal ≡ 2) ⊎ (unsealOut s response room .refusal ≡ 7))
+  pub genuine : Keyed s → Bytes response → unsealOut s response room .refusal ≡ 0
+      → response ≡ sealedResponse s (unsealOut s response room .bytes)
+  pub taken : Keyed s → 223 ≤ room → (p : List ℕ) → Bytes p → 2 ≤ length p → length p ≤ 223 → response ≡ sealedResponse s p
+      → unsealOut s response room .refusal ≡ 0
+  pub nothing : (unsealOut s response room .refusal ≡ 0 → ⊥)
+      → (unsealOut s response room .session ≡ s) × (unsealOut s response room .bytes ≡ [])
+
+-- ---- WALK: 4, 5
+pub record WalkRefuses (s : List ℕ) : Type 0 where
+  pub numbers : (WALK s .refusal ≡ 0) ⊎ ((WALK s .refusal ≡ 4) ⊎ (WALK s .refusal ≡ 5))
+  pub nothing : (WALK s .refusal ≡ 0 → ⊥) → WALK s .count ≡ 0
+
+pub record Refusals : Type 0 where
+  pub ask : (c : Card) (cmd : List ℕ) (room : ℕ) → AskRefuses c cmd room
+  pub answer : (c : Card) (cmd supply : List ℕ) (room : ℕ) → AnswerRefuses c cmd supply room
+  pub reset : (c : Card) → ResetRefuses c
+  pub write : (c : Card) (room : ℕ) → WriteRefuses c room
+  pub read : (s : List ℕ) → ReadRefuses s
+  pub seal : (s : Session) (header d : List ℕ) (room : ℕ) → SealRefuses s header d room
+  pub unseal : (s : Session) (response : List ℕ) (room : ℕ) → UnsealRefuses s response room
+  pub walk : (s : List ℕ) → WalkRefuses s

@@ -1,0 +1,122 @@
+-- Rows to settle (01, the paragraph of that name): one table, each row a field of one claim about the defining rules. Byte values are hex
+-- as in 01; every length and room is in bytes.
+use Prim.Native.Nat.{ℕ, _≤_}
+use mathlib.Core.Path.{_≡_}
+use mathlib.Core.Bool.{true, false}
+use mathlib.Core.List.{List, [], _∷_, _++_}
+use mathlib.Core.Option.{none}
+use lib.ListN.{length, take}
+use Rattle.padding.specs.Padding.{pad, unpad}
+use Rattle.message.specs.Message.{withIv}
+use Rattle.message.specs.Terminal.{sealedResponse}
+use Rattle.template.specs.Template.{field}
+use Rattle.walk.specs.Walk.{WALK}
+use Rattle.card.specs.declared.Card.{Card}
+use Rattle.card.specs.State.{zeros}
+use Rattle.card.specs.Sound.{isSound}
+use Rattle.rules.specs.declared.Report.the-variants as report
+use Rattle.rules.specs.declared.Command.{Command}
+use Rattle.rules.specs.declared.Command.the-variants as command
+use Rattle.rules.specs.Words.{word, success}
+use Rattle.rules.specs.Steps.{isInitialised}
+use Rattle.rules.specs.Commands.{replyOf}
+use Rattle.rules.specs.Engine.{sessionOf, answerOut}
+use Rattle.exchange_laws.specs.Opens.{Opens}
+
+-- ---- a call of ANSWER with a command over the channel, which opens on this card; any supply, and room enough
+pub record Sent (c : Card) : Type 0 where
+  pub bytes : List ℕ
+  pub supply : List ℕ
+  pub room : ℕ
+  pub enough : 258 ≤ room
+  pub opens : Opens c bytes
+
+-- the card that the call leaves
+abbrev pub next : (c : Card) → Sent c → Card
+next c v = answerOut c (v .bytes) (v .supply) (v .room) .card
+
+-- the answer is not refused, and is this plain text sealed under the card's session, its IV the MAC of the command
+pub record Gives (c : Card) (v : Sent c) (plain : List ℕ) : Type 0 where
+  pub taken : answerOut c (v .bytes) (v .supply) (v .room) .refusal ≡ 0
+  pub answer : answerOut c (v .bytes) (v .supply) (v .room) .bytes
+      ≡ sealedResponse (withIv (sessionOf (c .channel)) (take 16 (v .opens .field))) plain
+
+-- ---- a VERIFY with this entry, on this card
+pub record Entry (c : Card) : Type 0 where
+  pub sent : Sent c
+  pub verify : sent .opens .command ≡ command.Verify
+
+abbrev pub entered : (c : Card) → Entry c → List ℕ
+entered c v = v .sent .opens .data′
+
+abbrev pub after : (c : Card) → Entry c → Card
+after c v = next c (v .sent)
+
+-- a sound card in stage 2 with three tries, and four entries in a row: three that are not its PIN, then its PIN. Each stands on the card
+-- that ANSWER to the one before leaves
+pub record Entries (c : Card) : Type 0 where
+  pub sound : isSound c ≡ true
+  pub stage : c .channel .stage ≡ 2
+  pub tries : c .pins .«pin_tries» ≡ 3
+  pub first : Entry c
+  pub second : Entry (after c first)
+  pub third : Entry (after (after c first) second)
+  pub fourth : Entry (after (after (after c first) second) third)
+  pub wrong1 : entered c first ≡ c .pins .pin → ⊥
+  pub wrong2 : entered (after c first) second ≡ c .pins .pin → ⊥
+  pub wrong3 : entered (after (after c first) second) third ≡ c .pins .pin → ⊥
+  pub right : entered (after (after (after c first) second) third) fourth ≡ c .pins .pin
+
+-- ---- INIT: a call that makes an initialised card of a sound one that was not
+pub record Initialises (c : Card) : Type 0 where
+  pub sound : isSound c ≡ true
+  pub fresh : isInitialised c ≡ false
+  pub bytes : List ℕ
+  pub supply : List ℕ
+  pub room : ℕ
+  pub done : isInitialised (answerOut c bytes supply room .card) ≡ true
+
+abbrev pub initialised : (c : Card) → Initialises c → Card
+initialised c i = answerOut c (i .bytes) (i .supply) (i .room) .card
+
+-- a sound card in stage 2 with the tries and the key of another
+pub record InChannel (before c : Card) : Type 0 where
+  pub sound : isSound c ≡ true
+  pub stage : c .channel .stage ≡ 2
+  pub pins : c .pins ≡ before .pins
+  pub keys : c .keys ≡ before .keys
+
+-- ---- the supply of SIGN: public key 65, r and s of 32 bytes each, high byte first
+abbrev pub number32 : ℕ → List ℕ
+number32 n = zeros 31 ++ (n ∷ [])
+
+-- ---- the table
+pub record Rows : Type 0 where
+  -- pad of nothing; of 16 bytes; sixteen zeros do not unpad
+  pub padnothing : pad [] ≡ 0x80 ∷ zeros 15
+  pub padblock : (s : List ℕ) → length s ≡ 16 → length (pad s) ≡ 32
+  pub unpadzeros : unpad (zeros 16) ≡ none
+  -- first wrong PIN; third wrong PIN; right PIN then
+  pub firstwrong : (c : Card) (x : Entries c) → Gives c (x .first .sent) (0x63 ∷ 0xC2 ∷ [])
+  pub thirdwrong : (c : Card) (x : Entries c)
+      → Gives (after (after c (x .first)) (x .second)) (x .third .sent) (0x63 ∷ 0xC0 ∷ [])
+  pub rightthen : (c : Card) (x : Entries c)
+      → Gives (after (after (after c (x .first)) (x .second)) (x .third)) (x .fourth .sent) (0x63 ∷ 0xC0 ∷ [])
+  -- 80 F2 00 00 on an initialised card in stage 0, plain
+  pub barestatus : (c : Card) (supply : List ℕ) (room : ℕ) → isSound c ≡ true → isInitialised c ≡ true → c .channel .stage ≡ 0 → 258 ≤ room
+      → (answerOut c (0x80 ∷ 0xF2 ∷ 0 ∷ 0 ∷ []) supply room .refusal ≡ 0)
+      × (answerOut c (0x80 ∷ 0xF2 ∷ 0 ∷ 0 ∷ []) supply room .bytes ≡ 0x69 ∷ 0x85 ∷ [])
+  -- GET STATUS after INIT: on INIT's own next card, and over the channel that is opened later
+  pub statusrule : (c : Card) (i : Initialises c) (d s : List ℕ)
+      → replyOf (command.Status report.Application) (initialised c i) d s .response
+      ≡ 0xA3 ∷ 0x09 ∷ 0x02 ∷ 0x01 ∷ 0x03 ∷ 0x02 ∷ 0x01 ∷ 0x05 ∷ 0x01 ∷ 0x01 ∷ 0x00 ∷ []
+  pub statussent : (c : Card) (i : Initialises c) (o : Card) → InChannel (initialised c i) o → (q : Sent o)
+      → q .opens .command ≡ command.Status report.Application
+      → Gives o q (0xA3 ∷ 0x09 ∷ 0x02 ∷ 0x01 ∷ 0x03 ∷ 0x02 ∷ 0x01 ∷ 0x05 ∷ 0x01 ∷ 0x01 ∷ 0x00 ∷ 0x90 ∷ 0x00 ∷ [])
+  -- r = 128 and s = 1, in what SIGN answers
+  pub signed : (c : Card) (d key : List ℕ) → length key ≡ 65
+      → replyOf command.Sign c d (key ++ number32 128 ++ number32 1) .response
+      ≡ field 0xA0 (field 0x80 key ++ (0x30 ∷ 0x07 ∷ 0x02 ∷ 0x02 ∷ 0x00 ∷ 0x80 ∷ 0x02 ∷ 0x01 ∷ 0x01 ∷ []))
+  -- WALK of A1 00, and of 80 81 05
+  pub walkempty : WALK (0xA1 ∷ 0x00 ∷ []) ≡ record { refusal = 0; count = 0 }
+  pub walkmalformed : WALK (0x80 ∷ 0x81 ∷ 0x05 ∷ []) ≡ record { refusal = 4; count = 0 }

@@ -1,0 +1,61 @@
+-- Demand 3: the two runs (01, The two runs of demand 3), one claim about the list of calls; and that it is not empty. The definitions of
+-- calls, runs, premise and comparisons are those of crate `two_runs`, Runs and Comparison.
+use Prim.Native.Nat.{ℕ}
+use mathlib.Core.Path.{_≡_}
+use mathlib.Core.Bool.{Bool, true, false}
+use mathlib.Core.List.{List, [], _∷_}
+use mathlib.Core.Option.{Option, some}
+use Rattle.card.specs.declared.Card.{Card}
+use Rattle.card.specs.State.{freshOf, withSecrets}
+use Rattle.card.specs.Slots.{allOf}
+use Rattle.card.specs.Sound.{isSound, isDigit}
+use Rattle.two_runs.specs.Comparison.{Secret, Comparison, pin, puk}
+use Rattle.two_runs.specs.Runs.{Call, comparisonAt, nextAt, endOf, Agree, Premise, SameRuns}
+
+-- ---- what keeps the claim from being empty
+-- some list of calls leads from FRESH to a sound, initialised card in this stage and with this kind of key
+pub record Reaches (stage kind : ℕ) : Type 0 where
+  pub uid : List ℕ
+  pub key : List ℕ
+  pub calls : List Call
+  pub sound : isSound (endOf (freshOf uid key) calls) ≡ true
+  pub initialised : endOf (freshOf uid key) calls .initialised ≡ 1
+  pub stage′ : endOf (freshOf uid key) calls .channel .stage ≡ stage
+  pub kind′ : endOf (freshOf uid key) calls .keys .kind ≡ kind
+
+-- the comparisons that a run makes, call by call
+unfoldable pub comparisonsOf : Card → List Call → List (Option Comparison)
+comparisonsOf c [] = []
+comparisonsOf c (k ∷ more) = comparisonAt c k ∷ comparisonsOf (nextAt c k) more
+
+-- a comparison of this secret that comes out so
+abbrev pub made : Secret → Bool → Option Comparison
+made of right = some (record { of = of; right = right })
+
+-- two cards with other secrets and a list of calls that meet the premise, and the comparisons that the list makes
+pub record Meets (comparisons : List (Option Comparison)) : Type 0 where
+  pub card : Card
+  pub card′ : Card
+  pub calls : List Call
+  pub premise : Premise card card′ calls
+  pub compared : comparisonsOf card calls ≡ comparisons
+  pub differ : card .pins ≡ card′ .pins → ⊥
+
+pub record Secrecy : Type 0 where
+  -- the claim
+  pub runs : (calls : List Call) (c d : Card) → Premise c d calls → SameRuns c d calls
+  -- any digits may stand for PIN and PUK of a sound initialised card: the result is sound and agrees with it
+  pub digits : (c : Card) (p q : List ℕ) → allOf isDigit p ≡ true → allOf isDigit q ≡ true → isSound c ≡ true → c .initialised ≡ 1
+      → (isSound (withSecrets p q c) ≡ true) × Agree c (withSecrets p q c)
+  -- each stage and each kind of key is reached
+  pub stage0 : Reaches 0 0
+  pub stage1 : Reaches 1 0
+  pub stage2 : Reaches 2 0
+  pub kind1 : Reaches 2 1
+  pub kind2 : Reaches 2 2
+  -- the premise is met with comparisons of each outcome: a wrong PIN, once and three times, the right PIN, a wrong PUK, the right PUK
+  pub wrongpin : Meets (made pin false ∷ [])
+  pub wrongpins : Meets (made pin false ∷ made pin false ∷ made pin false ∷ [])
+  pub rightpin : Meets (made pin true ∷ [])
+  pub wrongpuk : Meets (made puk false ∷ [])
+  pub rightpuk : Meets (made puk true ∷ [])

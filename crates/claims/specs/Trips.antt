@@ -1,0 +1,72 @@
+-- Demand 2: what goes out comes back, what ASK says ANSWER does, and soundness is kept. Terminal and card together stand in crate
+-- `exchange_laws`, Exchange. Every length, room and count is in bytes.
+use Prim.Native.Nat.{ℕ, _+_, _≤_}
+use mathlib.Core.Path.{_≡_}
+use mathlib.Core.Bool.{Bool, true, false}
+use mathlib.Core.List.{List, [], _++_}
+use mathlib.Core.Logic.{_↔_}
+use mathlib.Core.Option.{some}
+use lib.ListN.{length}
+use Rattle.octets.specs.Bytes.{Bytes}
+use Rattle.message.specs.declared.Session.{Session}
+use Rattle.message.specs.Message.{Keyed, withIv, responseHead, fieldMac}
+use Rattle.message.specs.Terminal.{sealedResponse, unsealOut}
+use Rattle.walk.specs.Walk.{WALK}
+use Rattle.answer_templates.specs.Answers.{preInitialised, applicationInfo, status, signature}
+use Rattle.card.specs.declared.Card.{Card}
+use Rattle.card.specs.State.{freshOf, resetOf}
+use Rattle.card.specs.Sound.{isSound}
+use Rattle.card.specs.Shape.{Shaped}
+use Rattle.sound.specs.Reset.{resetAnswer}
+use Rattle.record.specs.Answers.{writeRefusal, writeBytes, readAnswer}
+use Rattle.rules.specs.Steps.{afterStep1}
+use Rattle.rules.specs.Engine.{askOut, answerOut}
+use Rattle.rule_laws.specs.Forms.{hasForm}
+use Rattle.engine_laws.specs.CommandData.{commandData}
+
+-- ---- sealed messages, from card to terminal: UNSEAL gives the bytes that were sealed, and the session of the card that sealed them
+pub record Responses : Type 0 where
+  pub unseals : (s : Session) (p : List ℕ) (room : ℕ) → Keyed s → Bytes p → 2 ≤ length p → length p ≤ 223 → 223 ≤ room
+      → unsealOut s (sealedResponse s p) room ≡ record { refusal = 0; session = withIv s (fieldMac s responseHead p); bytes = p }
+
+-- ---- the stored record: READ of WRITE is RESET, WRITE of READ is the record
+pub record Records : Type 0 where
+  pub readwrite : (c : Card) (room : ℕ) → Shaped c → writeRefusal c room ≡ 0 → readAnswer (writeBytes c room) ≡ resetAnswer c
+  pub writeread : (s : List ℕ) (room : ℕ) → readAnswer s .refusal ≡ 0 → 448 ≤ room
+      → (writeRefusal (readAnswer s .card) room ≡ 0) × (writeBytes (readAnswer s .card) room ≡ s)
+
+-- ---- WALK: fields one behind the other add up, and each template that a command answers has the fields that it is made of
+pub record Walks : Type 0 where
+  pub joined : (s t : List ℕ) (m n : ℕ) → WALK s ≡ record { refusal = 0; count = m } → WALK t ≡ record { refusal = 0; count = n }
+      → WALK (s ++ t) ≡ record { refusal = 0; count = m + n }
+  pub preinitialised : (key : List ℕ) → WALK (preInitialised key) ≡ record { refusal = 0; count = 1 }
+  pub application : (uid key : List ℕ) (free : ℕ) (keyUid : List ℕ)
+      → WALK (applicationInfo uid key free keyUid) ≡ record { refusal = 0; count = 5 }
+  pub status : (pin puk : ℕ) (key : Bool) → WALK (status pin puk key) ≡ record { refusal = 0; count = 3 }
+  pub signature : (key r s : List ℕ) → WALK (signature key r s) ≡ record { refusal = 0; count = 3 }
+
+-- ---- ASK and ANSWER, for a sound card and room for both. Kind 0: no supply is read, and ASK writes nothing. Another kind: exactly the
+-- supplies of its form are taken, and ASK writes the command's data
+pub record Agreement (c : Card) (cmd : List ℕ) (asks answers : ℕ) : Type 0 where
+  pub unread : askOut c cmd asks .kind ≡ 0 → (s t : List ℕ) → answerOut c cmd s answers ≡ answerOut c cmd t answers
+  pub untouched : askOut c cmd asks .kind ≡ 0 → (s : List ℕ) → answerOut c cmd s answers .refusal ≡ 0
+  pub nothing : askOut c cmd asks .kind ≡ 0 → askOut c cmd asks .bytes ≡ []
+  pub refused : (askOut c cmd asks .kind ≡ 0 → ⊥) → (s : List ℕ)
+      → answerOut c cmd s answers .refusal ≡ 3 ↔ hasForm (askOut c cmd asks .kind) s ≡ false
+  pub taken : (askOut c cmd asks .kind ≡ 0 → ⊥) → (s : List ℕ)
+      → answerOut c cmd s answers .refusal ≡ 0 ↔ hasForm (askOut c cmd asks .kind) s ≡ true
+  pub told : (askOut c cmd asks .kind ≡ 0 → ⊥) → commandData (afterStep1 cmd c) cmd ≡ some (askOut c cmd asks .bytes)
+
+-- ---- every card that an operation gives is sound, if the one that it was given is
+pub record Soundness : Type 0 where
+  pub fresh : (uid key : List ℕ) → isSound (freshOf uid key) ≡ true
+  pub reset : (c : Card) → isSound c ≡ true → isSound (resetAnswer c .card) ≡ true
+  pub read : (s : List ℕ) → isSound (readAnswer s .card) ≡ true
+  pub answer : (c : Card) (cmd s : List ℕ) (room : ℕ) → isSound c ≡ true → isSound (answerOut c cmd s room .card) ≡ true
+
+pub record Trips : Type 0 where
+  pub responses : Responses
+  pub records : Records
+  pub walks : Walks
+  pub agree : (c : Card) (cmd : List ℕ) (asks answers : ℕ) → isSound c ≡ true → 255 ≤ asks → 258 ≤ answers → Agreement c cmd asks answers
+  pub soundness : Soundness

@@ -1,0 +1,5 @@
+pub mod Listed
+pub mod Answers
+pub mod Texts
+pub mod Paths
+pub mod Exchanges
