@@ -14,9 +14,10 @@ use Rattle.octets.proofs.Lists.{overwritten}
 use Rattle.message.specs.declared.Session.{Session}
 use Rattle.message.specs.declared.Opening.{Opening}
 use Rattle.message.specs.declared.Opening.the-variants as opening
-use Rattle.message.specs.Message.{fieldForm, opened, openField, openingOf, commandHead}
-use Rattle.message.proofs.Fields.{provided-some, form-is}
+use Rattle.message.specs.Message.{openField, commandHead}
 use Rattle.sealing.specs.Promise.{Opens}
+use Rattle.sealing.proofs.Openings.{Holds, holds, held-short, field-long}
+use Rattle.sealing.proofs.Openings.{closed as closed-none}
 use Rattle.card.specs.declared.Card.{Card}
 use Rattle.card.specs.declared.Keys.{Keys}
 use Rattle.card.specs.State.{slotCount}
@@ -42,25 +43,6 @@ use Rattle.decode.proofs.Decoding.{stake-is}
 use Rattle.route.specs.declared.Way.{Way}
 use Rattle.route.specs.Routes.{tellBy, endsWith, decisionOf, Ready, Routes}
 use Rattle.route.specs.Routes.{opening as way}
-
--- ---- what an opening's answer says of the option that it stands for
-refused-none : (o : Option (List ℕ)) → opening.Refused ≡ openingOf o → o ≡ none
-refused-none none e = refl
-refused-none (some x) e = let z : _≡_ {A = ℕ} 0 1 = cc in absurd (omega arith)
-
-record Holds (o : Option (List ℕ)) (n : ℕ) : Type 0 where
-  pub plain : List ℕ
-  pub is : o ≡ some plain
-  pub long : length plain ≡ n
-
-holds : (o : Option (List ℕ)) (n : ℕ) → opening.Bytes n ≡ openingOf o → Holds o n
-holds none n e = let z : _≡_ {A = ℕ} 0 1 = cc in absurd (omega arith)
-holds (some x) n e = record { plain = x; is = refl; long = cc }
-
-opens-long : (s : Session) (head : ℕ → List ℕ) (field x : List ℕ) → openField s head field ≡ some x → 32 ≤ length field
-unfolding openField
-opens-long s head field x e =
-    form-is (length field) (provided-some (fieldForm (length field)) (opened s (head (length field - 16)) field) x e) .low
 
 -- ---- the keys are the card's own through steps 1 to 5
 without-keys : (s : Stake) (c : Card) → without s c .keys ≡ c .keys
@@ -218,7 +200,7 @@ module _ (i : Instruction) (cmd : List ℕ) (c : Card) (field : List ℕ) where
   -- the opening's answer r, which left the data at the start of `opened-at`
   module _ (r : Opening) (opened-at : List ℕ) (p : Opens (openField (sessionOf (c .channel)) (commandHead (headerOf cmd)) field) r opened-at) where
     pub open-none : r ≡ opening.Refused → way i cmd c field ≡ ends (plainly (fails (closed c) securityNotMet))
-    open-none e = ap (byOpening i (p1Of cmd) (p2Of cmd) c field) (refused-none (openField (sessionOf (c .channel)) (commandHead (headerOf cmd)) field) (sym e ∙ p .told))
+    open-none e = ap (byOpening i (p1Of cmd) (p2Of cmd) c field) (closed-none (openField (sessionOf (c .channel)) (commandHead (headerOf cmd)) field) (sym e ∙ p .told))
 
     module _ (n : ℕ) (e : r ≡ opening.Bytes n) where
       held : Holds (openField (sessionOf (c .channel)) (commandHead (headerOf cmd)) field) n
@@ -232,10 +214,10 @@ module _ (i : Instruction) (cmd : List ℕ) (c : Card) (field : List ℕ) where
           (p .left (held .plain) (held .is) ∙ ap (λ (k : ℕ). take k opened-at) (held .long ∙ sym f))
 
       pub open-short : n ≤ 223
-      open-short = omega (arith, held .long, p .short (held .plain) (held .is))
+      open-short = held-short (openField (sessionOf (c .channel)) (commandHead (headerOf cmd)) field) n r opened-at p e
 
       pub open-long : 32 ≤ length field
-      open-long = opens-long _ (commandHead (headerOf cmd)) field (held .plain) (held .is)
+      open-long = field-long (sessionOf (c .channel)) (commandHead (headerOf cmd)) field n r opened-at p e
 
 -- ---- step 3
 module _ (cmd : List ℕ) (c : Card) (field : List ℕ) where

@@ -1,3 +1,4 @@
+pub mod Openings
 pub mod Sealed
 pub mod Unsealed
 pub mod Responses

@@ -12,33 +12,12 @@ use Rattle.octets.specs.Bytes.{overwrite, sameBytes}
 use Rattle.octets.proofs.Lists.{same-lengths}
 use Rattle.message.specs.declared.Session.{Session}
 use Rattle.message.specs.declared.Opening.{Opening}
-use Rattle.message.specs.declared.Opening.the-variants as opening
-use Rattle.message.specs.Message.{withIv, responseHead, fieldForm, opened, openField, openingOf}
+use Rattle.message.specs.Message.{withIv}
 use Rattle.message.specs.Terminal.{Out, refused, plainSuccess, unsealed}
-use Rattle.message.proofs.Fields.{provided-some, Form, form-is}
 use Rattle.sealing.specs.Promise.{Opens}
+use Rattle.sealing.proofs.Openings.{Holds}
 use Rattle.terminal.specs.declared.Outcome.{Outcome}
 use Rattle.terminal.specs.Did.{Did}
-
--- ---- what an opening's answer says of the option that it stands for
-pub closed : (o : Option (List ℕ)) → opening.Refused ≡ openingOf o → o ≡ none
-closed none e = refl
-closed (some x) e = let z : _≡_ {A = ℕ} 0 1 = cc in absurd (omega arith)
-
-pub record Holds (o : Option (List ℕ)) (n : ℕ) : Type 0 where
-  pub plain : List ℕ
-  pub is : o ≡ some plain
-  pub long : length plain ≡ n
-
-pub holds : (o : Option (List ℕ)) (n : ℕ) → opening.Bytes n ≡ openingOf o → Holds o n
-holds none n e = let z : _≡_ {A = ℕ} 0 1 = cc in absurd (omega arith)
-holds (some x) n e = record { plain = x; is = refl; long = cc }
-
--- a field that opens has a right length
-pub opens-long : (s : Session) (field x : List ℕ) → openField s responseHead field ≡ some x → 32 ≤ length field
-unfolding openField
-opens-long s field x e =
-    form-is (length field) (provided-some (fieldForm (length field)) (opened s (responseHead (length field - 16)) field) x e) .low
 
 -- ---- the cases
 module _ (s : Session) (field : List ℕ) (o : Option (List ℕ)) where
@@ -69,17 +48,6 @@ module _ (s : Session) (field : List ℕ) (o : Option (List ℕ)) where
 
       none-before : 0 + length (h .plain) ≡ length (h .plain)
       none-before = omega arith
-
--- the opened length is at most 223, and the field at least 32
-pub held-short : (o : Option (List ℕ)) (n : ℕ) (r : Opening) (scratch : List ℕ) → Opens o r scratch → r ≡ opening.Bytes n → n ≤ 223
-held-short o n r scratch p e =
-    let h : Holds o n = holds o n (sym e ∙ p .told) in
-    omega (arith, h .long, p .short (h .plain) (h .is))
-
-pub field-long : (s : Session) (field : List ℕ) (n : ℕ) (r : Opening) (scratch : List ℕ) → Opens (openField s responseHead field) r scratch → r ≡ opening.Bytes n → 32 ≤ length field
-field-long s field n r scratch p e =
-    let h : Holds (openField s responseHead field) n = holds (openField s responseHead field) n (sym e ∙ p .told) in
-    opens-long s field (h .plain) (h .is)
 
 -- a response of fewer than two bytes does not end in 9000
 pub too-short : (response : List ℕ) → length response < 2 → sameBytes (drop (length response - 2) response) plainSuccess ≡ false

@@ -8,7 +8,8 @@ use lib.ListN.{length, take, length-take}
 use Rattle.message.specs.Message.{responseHead, openField}
 use Rattle.message.specs.Terminal.{unsealed}
 use Rattle.terminal.proofs.Outcomes.{did-refuse}
-use Rattle.terminal.proofs.Openings.{closed, Holds, holds, unseal-closed, unseal-short, did-unseal, held-short, field-long}
+use Rattle.sealing.proofs.Openings.{closed, Holds, holds, held-short, field-long}
+use Rattle.terminal.proofs.Openings.{unseal-closed, unseal-short, did-unseal}
 use borrow.Author.Needs.{needs}
 use Rattle.terminal.proofs.unseal_field.Statement.{statement}
 use Rattle.terminal.proofs.unseal_field.Tie as tie
@@ -64,7 +65,7 @@ part-block-start c = search needs
 part-block-end : tie.Need-part-block-end
 part-block-end c = let g = c .before .before .before .before .before .before .before .before .before .before .before .before .before .before .before .args in
     let p = c .before .before .before .before .before .before .before .before .before .before .before .open-response in
-    omega (arith, field-long (g .s) (g .field .now) (c .before .before .before .before .before .before .before .before .count .given .0 .0) (p .result) (p .last .1 .1 .0) (p .ensures) (c .before .before .before .before .before .before .before .before .count .given .1))
+    omega (arith, field-long (g .s) responseHead (g .field .now) (c .before .before .before .before .before .before .before .before .count .given .0 .0) (p .result) (p .last .1 .1 .0) (p .ensures) (c .before .before .before .before .before .before .before .before .count .given .1))
 
 block-requires : tie.Need-block-requires
 block-requires c κs = search needs
