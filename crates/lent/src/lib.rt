@@ -42,3 +42,20 @@ pub fn answer_lent(card: &mut Card, cmd: &[u8], supply: &[u8], buf: &mut [u8]) -
         count: told.count,
     }
 }
+
+// ASK of a record that is only read.
+pub fn ask_lent(card: &Card, cmd: &[u8], buf: &mut [u8]) -> Asked
+    ensures { λ r. ⌜ AskDid (askOut (now (card .entry)) (now (cmd .entry)) (length (now (buf .entry)))) r (now (buf .entry)) (now (buf .exit))
+        × (now (card .exit) ≡ now (card .entry)) ⌝ }
+{
+    let found = *card;
+    engine::ask(found, cmd, buf)
+}
+
+// WRITE of a record that is only read.
+pub fn write_lent(card: &Card, buf: &mut [u8]) -> Written
+    ensures { λ r. ⌜ Wrote (now (card .entry)) r (now (buf .entry)) (now (buf .exit)) × (now (card .exit) ≡ now (card .entry)) ⌝ }
+{
+    let found = *card;
+    record_write::write(found, buf)
+}
