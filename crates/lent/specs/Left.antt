@@ -6,8 +6,8 @@ use Rattle.engine.specs.declared.Answered.{Answered}
 use Rattle.lent.specs.declared.Report.{Report}
 
 -- RESET tells the refusal's number
-abbrev pub resetOf : ℕ → Card → Answer
-resetOf n c = record { refusal = n; card = c }
+abbrev pub toldOf : ℕ → Card → Answer
+toldOf n c = record { refusal = n; card = c }
 
 -- ANSWER tells the refusal's number and the count
 abbrev pub reportOf : Report → Card → Answered

@@ -7,7 +7,7 @@ ghost use Rattle.sound.specs.Reset.{resetAnswer};
 ghost use Rattle.rules.specs.Engine.{askOut, answerOut};
 ghost use Rattle.engine.specs.Did.{AskDid, AnswerDid};
 ghost use Rattle.record_write.specs.Wrote.{Wrote};
-ghost use Rattle.lent.specs.Left.{resetOf, reportOf};
+ghost use Rattle.lent.specs.Left.{toldOf, reportOf};
 use card::Card;
 use engine::Asked;
 use record_write::Written;
@@ -21,7 +21,7 @@ pub struct Report {
 
 // RESET where the record lies.
 pub fn reset_lent(card: &mut Card) -> u8
-    ensures { λ r. ⌜ resetOf r (now (card .exit)) ≡ resetAnswer (now (card .entry)) ⌝ }
+    ensures { λ r. ⌜ toldOf r (now (card .exit)) ≡ resetAnswer (now (card .entry)) ⌝ }
 {
     let found = *card;
     let told = sound::reset(found);

@@ -20,17 +20,14 @@ use contract.Running.{givenOf, tables, tablesOf}
 use types.Kit.{Given, ‵, raw, _⊛_, ⋆, some, later, _$_, _∵_, !, qed, by, move, keep, drop, use1, use2, split, join, pick, fsplit, fsplit3, fjoin, fjoin3, feqI, feqL, suffices, frame, await, rewrite, done}
 use types.Run.{look, look-raw, init, store-raw, forget, stop, hop, fld, from, load, addr, of-opd, and-then, no-more, land, assigns, returns, enter, alloc1, alloc0, params1, pass1, pass0, free1, free0}
 use types.Part.{agg, whole, sub, look-in}
-use types.SemTy.{Body}
 use sound.WpLaws.{FmC, fmOf, WpFn-mono}
 use denote.RattleType.{owns}
 use denote.Laws.{Is, shows}
-use denote.Memory.{mem}
 use denote.Builtin.{u8}
 use denote.Ref.{RefT, MutRef, ptr-vals, mut-tells, now}
 use denote.Slice.{sliceVal, MutSlice, ShrSlice, Room, finally, slice-vals, shr-slice-tells, mut-slice-tells, shr-slice-lawful, mut-slice-lawful, shr-slice-copy}
 use denote.Signature.{plain}
-use denote.Steps.{only, opens, closes, owned, peeks, heard, nothing}
-use denote.Struct.Steps.{spelt}
+use denote.Steps.{only, owned, heard, nothing}
 use denote.Struct.Laws as LL
 use denote.Triple.Statement.{Contract, Triple}
 use denote.Triple.Call.{calls-at}
@@ -55,6 +52,7 @@ use Rattle.engine.proofs.answer.Met as g-thm
 use Rattle.lent.specs.declared.Report.{Report}
 use Rattle.lent.proofs.Report as R
 use Rattle.lent.proofs.Report.Laws as R′
+use Rattle.lent.proofs.Lending.{mach, seen, lent, fits, opened, closed, given}
 use Rattle.lent.proofs.answer_lent.Key.{name as #f}
 use Rattle.lent.proofs.answer_lent as f
 use Rattle.lent.proofs.answer_lent.Statement as stated
@@ -92,9 +90,6 @@ module _ {M : Type 1} (𝓤 : URA M) (H : Heap 𝓤) (A : Atoms 𝓤) (W : Given
   abbrev κs : Lfts 4
   κs = (κ, (κ₁, (κ₂, (κ₃, tt))))
 
-  abbrev mach : Val
-  mach = LL.tuple-val T.the-type T′.the-laws (T.the-type .to h)
-
   abbrev machS : Answered → Val
   machS r = LL.tuple-val S.the-type S′.the-laws (S.the-type .to r)
 
@@ -120,19 +115,19 @@ module _ {M : Type 1} (𝓤 : URA M) (H : Heap 𝓤) (A : Atoms 𝓤) (W : Given
   O₂ = ShrSlice (named 2) κ₂ u8 .own sup (v₂ ∷ [])
 
   exits : (r : Answered) (zs : List ℕ) → Says r zs → length zs ≡ length ys → Is S.the-row r (machS r ∷ [])
-      → ent 𝓤 (⋆ 𝓤 H A (‵ (flft κ q) ∷ (‵ (flft κ₁ q₁) ⊛ ‵ (flft κ₂ q₂) ⊛ ‵ (flft κ₃ q₃) ⊛ ‵ ftrue) ∷ ‵ (fobs γ (T.the-row .coded .code (r .card))) ∷ ‵ (fbor κ (Body (mem T.the-row) b o γ)) ∷ ‵ O₁ ∷ ‵ O₂ ∷ ‵ (finally u8 γ₃ zs) ∷ [])) (Post (machR r))
+      → ent 𝓤 (⋆ 𝓤 H A (‵ (flft κ q) ∷ (‵ (flft κ₁ q₁) ⊛ ‵ (flft κ₂ q₂) ⊛ ‵ (flft κ₃ q₃) ⊛ ‵ ftrue) ∷ ‵ (seen γ (r .card)) ∷ ‵ (lent κ b o γ) ∷ ‵ O₁ ∷ ‵ O₂ ∷ ‵ (finally u8 γ₃ zs) ∷ [])) (Post (machR r))
   exits r zs e l is =
-      qed W (‵ (flft κ q) ∷ (‵ (flft κ₁ q₁) ⊛ ‵ (flft κ₂ q₂) ⊛ ‵ (flft κ₃ q₃) ⊛ ‵ ftrue) ∷ ‵ (fobs γ (T.the-row .coded .code (r .card))) ∷ ‵ (fbor κ (Body (mem T.the-row) b o γ)) ∷ ‵ O₁ ∷ ‵ O₂ ∷ ‵ (finally u8 γ₃ zs) ∷ []) ∵
+      qed W (‵ (flft κ q) ∷ (‵ (flft κ₁ q₁) ⊛ ‵ (flft κ₂ q₂) ⊛ ‵ (flft κ₃ q₃) ⊛ ‵ ftrue) ∷ ‵ (seen γ (r .card)) ∷ ‵ (lent κ b o γ) ∷ ‵ O₁ ∷ ‵ O₂ ∷ ‵ (finally u8 γ₃ zs) ∷ []) ∵
       suffices ! _ (ends-at 𝓤 H A f.ended stayed (f.clauses 𝓤 H A at-mem run) W ((κs, (q, (q₁, (q₂, (q₃, tt)))), tt, x, at), tt) (machR r) (rep r) (r .card, (tt, (tt, (zs, tt)))) (tt, (tt, (tt, (l, tt))))) $ says ! e $
       join ! $ frame ! $ nothing ! $ move ! (5 ∷ 0 ∷ []) $ fjoin ! $ move ! (4 ∷ 0 ∷ []) $ fjoin ! $ move ! (3 ∷ 0 ∷ []) $ fjoin ! $ move ! (1 ∷ 2 ∷ []) $
       feqI ! (List Val) (vptr b o ∷ []) (vptr b o ∷ []) refl $ fjoin3 ! $ fjoin ! $
       owned ! R.the-row (Is R.the-row) (LL.makes R.the-type R′.the-plain 𝓤 H A) (rep r) _ (made r is) $ move ! (1 ∷ 0 ∷ []) $ done !
 
   abbrev to : G 𝓤 H A at-mem run .Ghost
-  to = (((κ₁, (κ₂, (κ₃, tt))), (q₁, (q₂, (q₃, tt))), tt, (h, (cmd, (sup, (buf, tt)))), (mach ∷ [], (v₁ ∷ [], (v₂ ∷ [], (v₃ ∷ [], tt))))), tt)
+  to = (((κ₁, (κ₂, (κ₃, tt))), (q₁, (q₂, (q₃, tt))), tt, (h, (cmd, (sup, (buf, tt)))), (mach h ∷ [], (v₁ ∷ [], (v₂ ∷ [], (v₃ ∷ [], tt))))), tt)
 
-  asked : ent 𝓤 (onEntry 𝓤 H A g.signature (κ₁, (κ₂, (κ₃, tt))) (q₁, (q₂, (q₃, tt))) (h, (cmd, (sup, (buf, tt)))) (mach ∷ [], (v₁ ∷ [], (v₂ ∷ [], (v₃ ∷ [], tt))))) (G 𝓤 H A at-mem run .pre to)
-  asked = qed W ((‵ (flft κ₁ q₁) ⊛ ‵ (flft κ₂ q₂) ⊛ ‵ (flft κ₃ q₃) ⊛ ‵ ftrue) ∷ ‵ (owns (T.the-row ∷ ShrSlice (named 0) κ₁ u8 ∷ ShrSlice (named 1) κ₂ u8 ∷ MutSlice (named 2) κ₃ u8 ∷ []) (h, (cmd, (sup, (buf, tt)))) (mach ∷ [], (v₁ ∷ [], (v₂ ∷ [], (v₃ ∷ [], tt))))) ∷ []) ∵ join ! $ frame ! $ done !
+  asked : ent 𝓤 (onEntry 𝓤 H A g.signature (κ₁, (κ₂, (κ₃, tt))) (q₁, (q₂, (q₃, tt))) (h, (cmd, (sup, (buf, tt)))) (mach h ∷ [], (v₁ ∷ [], (v₂ ∷ [], (v₃ ∷ [], tt))))) (G 𝓤 H A at-mem run .pre to)
+  asked = qed W ((‵ (flft κ₁ q₁) ⊛ ‵ (flft κ₂ q₂) ⊛ ‵ (flft κ₃ q₃) ⊛ ‵ ftrue) ∷ ‵ (owns (T.the-row ∷ ShrSlice (named 0) κ₁ u8 ∷ ShrSlice (named 1) κ₂ u8 ∷ MutSlice (named 2) κ₃ u8 ∷ []) (h, (cmd, (sup, (buf, tt)))) (mach h ∷ [], (v₁ ∷ [], (v₂ ∷ [], (v₃ ∷ [], tt))))) ∷ []) ∵ join ! $ frame ! $ done !
 
   module _ (C : Calls 𝓤 H) (Λ : Loops 𝓤 H) (fm : FmC 𝓤 H (W .laws) C) (known : Triple 𝓤 (C #g) (G 𝓤 H A at-mem run)) where
     walk : Is (ShrSlice (named 1) κ₁ u8) cmd (v₁ ∷ []) → Is (ShrSlice (named 2) κ₂ u8) sup (v₂ ∷ []) → Is (MutSlice (named 3) κ₃ u8) buf (v₃ ∷ []) → ent 𝓤 (onEntry 𝓤 H A f.signature κs (q, (q₁, (q₂, (q₃, tt)))) x at) (WpFn 𝓤 H C Λ code.function (vptr b o ∷ v₁ ∷ v₂ ∷ v₃ ∷ []) Post)
@@ -146,10 +141,9 @@ module _ {M : Type 1} (𝓤 : URA M) (H : Heap 𝓤) (A : Atoms 𝓤) (W : Given
         enter ! C Λ code.function (vptr b o ∷ v₁ ∷ v₂ ∷ v₃ ∷ []) _ $
         alloc1 ! (λ l₀. alloc1 ! (λ l₁. alloc1 ! (λ l₂. alloc1 ! (λ l₃. alloc1 ! (λ l₄. alloc1 ! (λ l₅. alloc1 ! (λ l₆. alloc1 ! (λ l₇. alloc1 ! (λ l₈. alloc0 ! $ params1 ! $
         pass1 ! (init ! 14 refl (tt, tt)) $ pass1 ! (init ! 12 refl (shr-slice-lawful 𝓤 H A W (named 1) κ₁ u8 .typed cmd _ p₁ .0)) $ pass1 ! (init ! 10 refl (shr-slice-lawful 𝓤 H A W (named 2) κ₂ u8 .typed sup _ p₂ .0)) $ pass1 ! (init ! 8 refl (mut-slice-lawful 𝓤 H A W (named 3) κ₃ u8 .typed buf _ p₃ .0)) $ pass0 ! $
-        move ! (18 ∷ 19 ∷ 20 ∷ []) $ opens ! tt T.the-row {h = h} b o (λ vs. spelt ! T.the-row (Is T.the-row) (shows 𝓤 H A T.the-row) (LL.vals T.the-type T′.the-laws) (LL.tells T.the-type T′.the-laws) fullShare h vs b o $
-        move ! (1 ∷ []) $ peeks ! T.the-row (Is T.the-row) (shows 𝓤 H A T.the-row) h (mach ∷ []) (λ p. move ! (1 ∷ 0 ∷ []) $
+        move ! (18 ∷ 19 ∷ 20 ∷ []) $ opened ! tt h b o (λ p.
         -- [the card's cell; what it owns; the open borrow; obs; auth; _8; …; _0 at 21; …; what the slices own at 23; tokens; supply; cmd]
-        assigns ! (of-opd ! (load ! (from ! (hop ! (look ! 19 refl) (stop !))) (look-raw ! 0 refl))) (from ! (stop !)) (init ! 11 refl (LL.lawful T.the-type T′.the-laws 𝓤 H A W .typed h _ p .0)) $
+        assigns ! (of-opd ! (load ! (from ! (hop ! (look ! 19 refl) (stop !))) (look-raw ! 0 refl))) (from ! (stop !)) (init ! 11 refl (fits 𝓤 H A W h p)) $
         assigns ! (addr ! (from ! (fld ! refl (hop ! (look-in ! 13 (sub ! 0 refl (whole !))) (stop !))))) (from ! (stop !)) (init ! 7 refl (tt, tt)) $
         assigns ! (agg ! (and-then ! (load ! (from ! (stop !)) (look ! 7 refl)) (and-then ! (load ! (from ! (fld ! refl (stop !))) (look-in ! 13 (sub ! 1 refl (whole !)))) (no-more !)))) (from ! (stop !)) (init ! 5 refl (tt, (tt, (record { fits = p₃ .0 .1 .0 }, tt)))) $
         move ! (1 ∷ 23 ∷ []) $ fjoin ! $ move ! (23 ∷ 0 ∷ []) $ use2 W (raw (G 𝓤 H A at-mem run .pre to)) asked $
@@ -158,20 +152,17 @@ module _ {M : Type 1} (𝓤 : URA M) (H : Heap 𝓤) (A : Atoms 𝓤) (W : Given
         split ! $ move ! (1 ∷ []) $ use1 W (some (λ (zs : Unit {0} × (Unit {0} × (Unit {0} × (List ℕ × Unit {0})))). ‵ (lasts g.ended (κ₁, (κ₂, (κ₃, tt))) (h, (cmd, (sup, (buf, tt)))) zs) ⊛ raw (fact 𝓤 (Says r (zs .1 .1 .1 .0))))) (id⊢ 𝓤 _) $ pick ! (λ zs.
         split ! $ move ! (1 ∷ []) $ heard ! (Says r (zs .1 .1 .1 .0)) (λ e. fsplit ! $ drop ! $ fsplit ! $ drop ! $ fsplit ! $ drop ! $ fsplit ! $ fsplit ! $ move ! (1 ∷ []) $ feqL ! (λ l.
         -- [the last list; true; the tokens and the result; the card's cell; …]
-        move ! (1 ∷ []) $ drop ! $ move ! (1 ∷ []) $ split ! $ move ! (1 ∷ []) $ peeks ! S.the-row (Is S.the-row) (shows 𝓤 H A S.the-row) r (v ∷ []) (λ is₀.
-        rewrite ! 0 (λ (us : List Val). ‵ (S.the-row .own r us)) (LL.tells S.the-type S′.the-laws r (v ∷ []) is₀) refl $ peeks ! S.the-row (Is S.the-row) (shows 𝓤 H A S.the-row) r (machS r ∷ []) (λ is.
+        move ! (1 ∷ []) $ drop ! $ move ! (1 ∷ []) $ split ! $ move ! (1 ∷ []) $ given ! S.the-row (Is S.the-row) (shows 𝓤 H A S.the-row) (LL.vals S.the-type S′.the-laws) (LL.tells S.the-type S′.the-laws) r (v ∷ []) (λ is₀ told is.
         -- [what the result owns; the tokens; the last list; the card's cell; the open borrow; obs; auth; _8 at 7; …; _6 at 11; …; _1 at 21; _0 at 23]
         land ! (from ! (stop !)) (init ! 11 refl (LL.lawful S.the-type S′.the-laws 𝓤 H A W .typed r _ is₀ .0)) $
-        rewrite ! 11 (λ (u : Val). ‵ (fat fullShare S′.mir l₆ 0 u)) (ap only (LL.tells S.the-type S′.the-laws r (v ∷ []) is₀)) refl $
-        assigns ! (of-opd ! (load ! (from ! (fld ! refl (stop !))) (look-in ! 11 (sub ! 2 refl (whole !))))) (from ! (hop ! (look ! 21 refl) (stop !))) (store-raw ! 3 refl (LL.lawful T.the-type T′.the-laws 𝓤 H A W .typed (r .card) _ (LL.owed S.the-type S′.the-laws r _ is .1 .1 .0) .0)) $
+        rewrite ! 11 (λ (u : Val). ‵ (fat fullShare S′.mir l₆ 0 u)) (ap only told) refl $
+        assigns ! (of-opd ! (load ! (from ! (fld ! refl (stop !))) (look-in ! 11 (sub ! 2 refl (whole !))))) (from ! (hop ! (look ! 21 refl) (stop !))) (store-raw ! 3 refl (fits 𝓤 H A W (r .card) (LL.owed S.the-type S′.the-laws r _ is .1 .1 .0))) $
         assigns ! (agg ! (and-then ! (load ! (from ! (fld ! refl (stop !))) (look-in ! 11 (sub ! 0 refl (whole !)))) (and-then ! (load ! (from ! (fld ! refl (stop !))) (look-in ! 11 (sub ! 1 refl (whole !)))) (no-more !)))) (from ! (stop !)) (init ! 23 refl (LL.lawful R.the-type R′.the-laws 𝓤 H A W .typed (rep r) _ (made r is) .0)) $
-        drop ! $ owned ! T.the-row (Is T.the-row) (LL.makes T.the-type T′.the-plain 𝓤 H A) (r .card) _ (LL.owed S.the-type S′.the-laws r _ is .1 .1 .0) $
-        -- [what the new card owns; the tokens; the last list; the card's cell; the open borrow; obs; auth; _8 at 7; …; _0 at 23]
-        move ! (3 ∷ 0 ∷ 4 ∷ 5 ∷ 6 ∷ []) $ closes ! tt T.the-row (r .card) (LL.vals T.the-type T′.the-laws (r .card)) b o $
+        drop ! $ move ! (2 ∷ 3 ∷ 4 ∷ 5 ∷ []) $ closed ! tt (r .card) b o (LL.owed S.the-type S′.the-laws r _ is .1 .1 .0) $
         -- [obs; the borrow; the card's token; the slices' tokens; the last list; _8 at 5; …; _0 at 21; …; supply; cmd]
         returns ! (look ! 21 refl) $ forget ! 5 refl $ forget ! 7 refl $ forget ! 9 refl $ forget ! 11 refl $ forget ! 13 refl $ forget ! 15 refl $ forget ! 17 refl $ forget ! 19 refl $ forget ! 21 refl $
         move ! (21 ∷ 22 ∷ []) $ free1 ! $ move ! (19 ∷ 20 ∷ []) $ free1 ! $ move ! (17 ∷ 18 ∷ []) $ free1 ! $ move ! (15 ∷ 16 ∷ []) $ free1 ! $ move ! (13 ∷ 14 ∷ []) $ free1 ! $ move ! (11 ∷ 12 ∷ []) $ free1 ! $ move ! (9 ∷ 10 ∷ []) $ free1 ! $ move ! (7 ∷ 8 ∷ []) $ free1 ! $ move ! (5 ∷ 6 ∷ []) $ free1 ! $ free0 ! $
-        keep ! (2 ∷ 3 ∷ 0 ∷ 1 ∷ 6 ∷ 5 ∷ 4 ∷ []) $ by ! (exits r (zs .1 .1 .1 .0) e l is)))))))))))))))))))
+        keep ! (2 ∷ 3 ∷ 0 ∷ 1 ∷ 6 ∷ 5 ∷ 4 ∷ []) $ by ! (exits r (zs .1 .1 .1 .0) e l is)))))))))))))))))
 
 module _ {M : Type 1} (𝓤 : URA M) (H : Heap 𝓤) (A : Atoms 𝓤) (W : Given 𝓤 H A) (at-mem : Memory → SProp 𝓤) (run : Routine → Fun 𝓤) where
   f-walks : (C : Calls 𝓤 H) (Λ : Loops 𝓤 H) → FmC 𝓤 H (W .laws) C → Triple 𝓤 (C #g) (G 𝓤 H A at-mem run) → Walks 𝓤 H A f.ended stayed (WpFn 𝓤 H C Λ code.function) (f.clauses 𝓤 H A at-mem run)

@@ -15,20 +15,17 @@ use prog.Wp.{Heap, Calls, Loops, WpFn, Tables}
 use ghost.Atoms.{Atoms, sem}
 use contract.Monad.{Fun, fact}
 use contract.Running.{givenOf, tables, tablesOf}
-use types.Kit.{Given, ‵, raw, _⊛_, some, later, _$_, _∵_, !, qed, by, move, keep, drop, use1, split, join, pick, fsplit, fsplit3, fjoin, fjoin3, feqI, suffices, frame, await, rewrite, done}
+use types.Kit.{Given, ‵, raw, _⊛_, ⋆, some, later, _$_, _∵_, !, qed, by, move, keep, drop, use1, split, join, pick, fsplit, fsplit3, fjoin, fjoin3, feqI, suffices, frame, await, rewrite, done}
 use types.Run.{look, look-raw, init, store-raw, forget, stop, hop, fld, from, load, of-opd, and-then, no-more, land, assigns, returns, enter, alloc1, alloc0, params1, pass1, pass0, free1, free0}
 use types.Part.{whole, sub, look-in}
-use types.SemTy.{Body}
 use sound.WpLaws.{FmC, fmOf, WpFn-mono}
 use denote.RattleType.{owns}
 use denote.Laws.{Is, shows}
-use denote.Memory.{mem}
 use denote.Plain.{uint-makes}
 use denote.Builtin.{u8}
 use denote.Ref.{RefT, MutRef, ptr-vals, mut-tells}
 use denote.Signature.{plain}
-use denote.Steps.{only, opens, closes, owned, peeks, heard, nothing}
-use denote.Struct.Steps.{spelt}
+use denote.Steps.{only, owned, heard, nothing}
 use denote.Struct.Laws as LL
 use denote.Triple.Statement.{Contract, Triple}
 use denote.Triple.Call.{calls-at}
@@ -48,6 +45,7 @@ use Rattle.sound.proofs.reset as g
 use Rattle.sound.proofs.reset.Symbol as g-def
 use Rattle.sound.proofs.reset.Symbol.{name as #g}
 use Rattle.sound.proofs.reset.Met as g-thm
+use Rattle.lent.proofs.Lending.{mach, seen, lent, fits, opened, closed, given}
 use Rattle.lent.proofs.reset_lent.Key.{name as #f}
 use Rattle.lent.proofs.reset_lent as f
 use Rattle.lent.proofs.reset_lent.Statement as stated
@@ -70,27 +68,24 @@ module _ {M : Type 1} (𝓤 : URA M) (H : Heap 𝓤) (A : Atoms 𝓤) (W : Given
   abbrev at : List Val × Unit {0}
   at = (vptr b o ∷ [], tt)
 
-  abbrev mach : Val
-  mach = LL.tuple-val T.the-type T′.the-laws (T.the-type .to h)
-
   abbrev machS : Answer → Val
   machS r = LL.tuple-val S.the-type S′.the-laws (S.the-type .to r)
 
   abbrev Post : Val → SProp 𝓤
   Post = walkOf 𝓤 H A f.ended stayed (f.clauses 𝓤 H A at-mem run) .post (((κ, tt), (q, tt), tt, x, at), tt)
 
-  exits : (r : Answer) → r ≡ resetAnswer h → Is u8 (r .refusal) (vint w8 (r .refusal) ∷ []) → ent 𝓤 (sep 𝓤 (A .obs γ (T.the-row .coded .code (r .card))) (sep 𝓤 (A .bor κ (Body (mem T.the-row) b o γ)) (A .lft κ q))) (Post (vint w8 (r .refusal)))
+  exits : (r : Answer) → r ≡ resetAnswer h → Is u8 (r .refusal) (vint w8 (r .refusal) ∷ []) → ent 𝓤 (⋆ 𝓤 H A (‵ (seen γ (r .card)) ∷ ‵ (lent κ b o γ) ∷ ‵ (flft κ q) ∷ [])) (Post (vint w8 (r .refusal)))
   exits r e is =
-      qed W (‵ (fobs γ (T.the-row .coded .code (r .card))) ∷ ‵ (fbor κ (Body (mem T.the-row) b o γ)) ∷ ‵ (flft κ q) ∷ []) ∵
+      qed W (‵ (seen γ (r .card)) ∷ ‵ (lent κ b o γ) ∷ ‵ (flft κ q) ∷ []) ∵
       suffices ! _ (ends-at 𝓤 H A f.ended stayed (f.clauses 𝓤 H A at-mem run) W (((κ, tt), (q, tt), tt, x, at), tt) (vint w8 (r .refusal)) (r .refusal) (r .card, tt) (tt, tt)) $ says ! e $ nothing ! $ move ! (3 ∷ 0 ∷ []) $ join ! $
       frame ! $ feqI ! (List Val) (vptr b o ∷ []) (vptr b o ∷ []) refl $ fjoin3 ! $ nothing ! $ move ! (1 ∷ 0 ∷ []) $ fjoin ! $
       owned ! u8 (Is u8) (uint-makes 𝓤 H A W w8) (r .refusal) _ is $ move ! (1 ∷ 0 ∷ []) $ done !
 
   abbrev to : G 𝓤 H A at-mem run .Ghost
-  to = ((tt, tt, tt, (h, tt), (mach ∷ [], tt)), tt)
+  to = ((tt, tt, tt, (h, tt), (mach h ∷ [], tt)), tt)
 
-  asked : ent 𝓤 (sem 𝓤 H A (T.the-row .own h (mach ∷ []))) (G 𝓤 H A at-mem run .pre to)
-  asked = qed W (‵ (T.the-row .own h (mach ∷ [])) ∷ []) ∵ nothing ! $ move ! (1 ∷ 0 ∷ []) $ join ! $ nothing ! $ join ! $ frame ! $ done !
+  asked : ent 𝓤 (sem 𝓤 H A (T.the-row .own h (mach h ∷ []))) (G 𝓤 H A at-mem run .pre to)
+  asked = qed W (‵ (T.the-row .own h (mach h ∷ [])) ∷ []) ∵ nothing ! $ move ! (1 ∷ 0 ∷ []) $ join ! $ nothing ! $ join ! $ frame ! $ done !
 
   module _ (C : Calls 𝓤 H) (Λ : Loops 𝓤 H) (fm : FmC 𝓤 H (W .laws) C) (known : Triple 𝓤 (C #g) (G 𝓤 H A at-mem run)) where
     walk : ent 𝓤 (onEntry 𝓤 H A f.signature (κ, tt) (q, tt) x at) (WpFn 𝓤 H C Λ code.function (vptr b o ∷ []) Post)
@@ -98,26 +93,22 @@ module _ {M : Type 1} (𝓤 : URA M) (H : Heap 𝓤) (A : Atoms 𝓤) (W : Given
         qed W ((‵ (flft κ q) ⊛ ‵ ftrue) ∷ ‵ (owns (MutRef (named 0) κ T.the-row ∷ []) x at) ∷ []) ∵ split ! $ move ! (2 ∷ []) $ fsplit ! $ fsplit3 ! $ drop ! $ move ! (0 ∷ 1 ∷ 3 ∷ []) $
         enter ! C Λ code.function (vptr b o ∷ []) _ $
         alloc1 ! (λ l₀. alloc1 ! (λ l₁. alloc1 ! (λ l₂. alloc1 ! (λ l₃. alloc0 ! $ params1 ! $ pass1 ! (init ! 4 refl (tt, tt)) $ pass0 ! $
-        move ! (8 ∷ 9 ∷ 10 ∷ []) $ opens ! tt T.the-row {h = h} b o (λ vs. spelt ! T.the-row (Is T.the-row) (shows 𝓤 H A T.the-row) (LL.vals T.the-type T′.the-laws) (LL.tells T.the-type T′.the-laws) fullShare h vs b o $
-        move ! (1 ∷ []) $ peeks ! T.the-row (Is T.the-row) (shows 𝓤 H A T.the-row) h (mach ∷ []) (λ p. move ! (1 ∷ 0 ∷ []) $
+        move ! (8 ∷ 9 ∷ 10 ∷ []) $ opened ! tt h b o (λ p.
         -- [the card's cell; what it owns; the open borrow; obs; auth; _3 at 5; …; _2 at 7; …; _1 at 9; …; _0 at 11; …]
-        assigns ! (of-opd ! (load ! (from ! (hop ! (look ! 9 refl) (stop !))) (look-raw ! 0 refl))) (from ! (stop !)) (init ! 7 refl (LL.lawful T.the-type T′.the-laws 𝓤 H A W .typed h _ p .0)) $
+        assigns ! (of-opd ! (load ! (from ! (hop ! (look ! 9 refl) (stop !))) (look-raw ! 0 refl))) (from ! (stop !)) (init ! 7 refl (fits 𝓤 H A W h p)) $
         move ! (1 ∷ []) $ use1 W (raw (G 𝓤 H A at-mem run .pre to)) asked $
         calls-at ! fm (G 𝓤 H A at-mem run) known to (and-then ! (load ! (from ! (stop !)) (look ! 7 refl)) (no-more !)) (λ v.
         use1 W (later (some (λ (r : Answer). (‵ ftrue ⊛ ‵ (S.the-row .own r (v ∷ []))) ⊛ raw (ensured 𝓤 H A g.ended (g.clauses 𝓤 H A at-mem run) tt (h, tt) tt r)))) (id⊢ 𝓤 _) $ await ! tt $ pick ! (λ r.
         split ! $ move ! (1 ∷ []) $ use1 W (raw (fact 𝓤 (r ≡ resetAnswer h))) (answer-of 𝓤 H A at-mem run h r) $ heard ! (r ≡ resetAnswer h) (λ e. split ! $ drop ! $
-        peeks ! S.the-row (Is S.the-row) (shows 𝓤 H A S.the-row) r (v ∷ []) (λ is₀.
-        rewrite ! 0 (λ (us : List Val). ‵ (S.the-row .own r us)) (LL.tells S.the-type S′.the-laws r (v ∷ []) is₀) refl $ peeks ! S.the-row (Is S.the-row) (shows 𝓤 H A S.the-row) r (machS r ∷ []) (λ is.
+        given ! S.the-row (Is S.the-row) (shows 𝓤 H A S.the-row) (LL.vals S.the-type S′.the-laws) (LL.tells S.the-type S′.the-laws) r (v ∷ []) (λ is₀ told is.
         -- [what the result owns; the card's cell; the open borrow; obs; auth; _3 at 5; …; _2 at 7; …; _1 at 9; …; _0 at 11; …]
         land ! (from ! (stop !)) (init ! 5 refl (LL.lawful S.the-type S′.the-laws 𝓤 H A W .typed r _ is₀ .0)) $
-        rewrite ! 5 (λ (u : Val). ‵ (fat fullShare S′.mir l₃ 0 u)) (ap only (LL.tells S.the-type S′.the-laws r (v ∷ []) is₀)) refl $
-        assigns ! (of-opd ! (load ! (from ! (fld ! refl (stop !))) (look-in ! 5 (sub ! 1 refl (whole !))))) (from ! (hop ! (look ! 9 refl) (stop !))) (store-raw ! 1 refl (LL.lawful T.the-type T′.the-laws 𝓤 H A W .typed (r .card) _ (LL.owed S.the-type S′.the-laws r _ is .1 .0) .0)) $
+        rewrite ! 5 (λ (u : Val). ‵ (fat fullShare S′.mir l₃ 0 u)) (ap only told) refl $
+        assigns ! (of-opd ! (load ! (from ! (fld ! refl (stop !))) (look-in ! 5 (sub ! 1 refl (whole !))))) (from ! (hop ! (look ! 9 refl) (stop !))) (store-raw ! 1 refl (fits 𝓤 H A W (r .card) (LL.owed S.the-type S′.the-laws r _ is .1 .0))) $
         assigns ! (of-opd ! (load ! (from ! (fld ! refl (stop !))) (look-in ! 5 (sub ! 0 refl (whole !))))) (from ! (stop !)) (init ! 11 refl (tt, record { fits = LL.owed S.the-type S′.the-laws r _ is .0 .1 })) $
-        drop ! $ owned ! T.the-row (Is T.the-row) (LL.makes T.the-type T′.the-plain 𝓤 H A) (r .card) _ (LL.owed S.the-type S′.the-laws r _ is .1 .0) $
-        -- [what the new card owns; the card's cell; the open borrow; obs; auth; _3 at 5; …; _0 at 11; …]
-        move ! (1 ∷ 0 ∷ 2 ∷ 3 ∷ 4 ∷ []) $ closes ! tt T.the-row (r .card) (LL.vals T.the-type T′.the-laws (r .card)) b o $
+        drop ! $ closed ! tt (r .card) b o (LL.owed S.the-type S′.the-laws r _ is .1 .0) $
         returns ! (look ! 9 refl) $ forget ! 3 refl $ forget ! 5 refl $ forget ! 7 refl $ forget ! 9 refl $ move ! (9 ∷ 10 ∷ []) $ free1 ! $ move ! (7 ∷ 8 ∷ []) $ free1 ! $ move ! (5 ∷ 6 ∷ []) $ free1 ! $ move ! (3 ∷ 4 ∷ []) $ free1 ! $ free0 ! $
-        keep ! (0 ∷ 1 ∷ 2 ∷ []) $ by ! (exits r e (LL.owed S.the-type S′.the-laws r _ is .0)))))))))))))
+        keep ! (0 ∷ 1 ∷ 2 ∷ []) $ by ! (exits r e (LL.owed S.the-type S′.the-laws r _ is .0)))))))))))
 
 module _ {M : Type 1} (𝓤 : URA M) (H : Heap 𝓤) (A : Atoms 𝓤) (W : Given 𝓤 H A) (at-mem : Memory → SProp 𝓤) (run : Routine → Fun 𝓤) where
   f-walks : (C : Calls 𝓤 H) (Λ : Loops 𝓤 H) → FmC 𝓤 H (W .laws) C → Triple 𝓤 (C #g) (G 𝓤 H A at-mem run) → Walks 𝓤 H A f.ended stayed (WpFn 𝓤 H C Λ code.function) (f.clauses 𝓤 H A at-mem run)
