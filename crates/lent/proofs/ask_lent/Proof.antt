@@ -24,7 +24,7 @@ use denote.RattleType.{owns}
 use denote.Laws.{Is, shows}
 use denote.Builtin.{u8}
 use denote.Ref.{RefT, ShrRef, ptr-vals, shr-tells, now}
-use denote.Slice.{sliceVal, MutSlice, ShrSlice, Room, finally, slice-vals, shr-slice-tells, mut-slice-tells, shr-slice-lawful, mut-slice-lawful, shr-slice-copy}
+use denote.Slice.{sliceVal, MutSlice, ShrSlice, finally, slice-vals, shr-slice-tells, mut-slice-tells, shr-slice-lawful, mut-slice-lawful, shr-slice-copy}
 use denote.Signature.{plain}
 use denote.Steps.{peeks, heard, nothing}
 use denote.Struct.Laws as LL
@@ -38,7 +38,6 @@ use denote.Triple.Clauses.{ensured, lasts}
 use denote.Exit.{yes}
 use Rattle.card.specs.declared.Card.{Card}
 use Rattle.card.proofs.Card as T
-use Rattle.card.proofs.Card.Laws as T′
 use Rattle.rules.specs.Engine.{askOut}
 use Rattle.engine.specs.declared.Asked.{Asked}
 use Rattle.engine.specs.Did.{AskDid}
