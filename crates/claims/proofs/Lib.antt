@@ -1,8 +1,10 @@
 pub mod Pins
 pub mod AfterInit
+pub mod InitSays
 pub mod Rows
 pub mod RowsMet
 pub mod WrongEngines
+pub mod Genuine
 pub mod Refusals
 pub mod Trips
 pub mod Secrecy

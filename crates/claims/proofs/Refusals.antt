@@ -1,22 +1,16 @@
 -- The refusals of each operation, by the tests that its definition makes.
 -- Assumes nothing.
 use mathlib.Core.Path.{_≡_, refl, sym, ap, _∙_}
-use mathlib.Core.Bool.{Bool, true, false, cond, false≢true}
+use mathlib.Core.Bool.{Bool, true, false, false≢true}
 use mathlib.Core.List.{List, []}
 use mathlib.Core.Logic.{_⊎_, inl, inr, ⊎-elim}
-use mathlib.Core.Option.{Option, none, some}
-use Prim.Native.Nat.{ℕ, _-_, _≤_, _<_}
+use Prim.Native.Nat.{ℕ, _≤_, _<_}
 use native.Mathlib.Omega.{arith}
 use borrow.Author.Tests.{ltb-true, ltb-false}
 use lib.Dec.{ltb}
-use lib.ListN.{length, drop}
-use Rattle.octets.specs.Bytes.{sameBytes}
+use lib.ListN.{length}
 use Rattle.message.specs.declared.Session.{Session}
-use Rattle.message.specs.Message.{responseHead, openField}
-use Rattle.message.specs.Terminal.{Out, refused, sealOut, plainSuccess, fieldOf, unsealed, unsealOut}
-use Rattle.message.proofs.Trips.{unseal-seals}
-use Rattle.message.proofs.Accepted.{unseal-sound}
-use Rattle.template.proofs.HeadFacts.{by-test}
+use Rattle.message.specs.Terminal.{sealOut}
 use Rattle.walk.specs.declared.Fault.{Fault}
 use Rattle.walk.specs.declared.Fault.the-variants as fault
 use Rattle.walk.specs.declared.Walked.{Walked}
@@ -32,7 +26,8 @@ use Rattle.record.specs.Parse.{slotsFrom, cardOf}
 use Rattle.record.specs.Answers.{writeRoom, writeRefusal, writeBytes, readAnswer}
 use Rattle.record.proofs.ReadFacts.{read-cases, read-refuses}
 use Rattle.engine_laws.proofs.Refusals.{ask-refused, ask-unsound, ask-room, ask-numbers, answer-refused, answer-unsound, answer-room, answer-supply, answer-numbers}
-use Rattle.claims.specs.Refusals.{AskRefuses, AnswerRefuses, ResetRefuses, WriteRefuses, IsRecord, ReadRefuses, SealRefuses, UnsealRefuses, WalkRefuses, Refusals}
+use Rattle.claims.specs.Refusals.{AskRefuses, AnswerRefuses, ResetRefuses, WriteRefuses, IsRecord, ReadRefuses, SealRefuses, WalkRefuses, Refusals}
+use Rattle.claims.proofs.Genuine.{unseal-refuses}
 
 never : {b : Bool} {A : Type 0} → b ≡ true → b ≡ false → A
 never t f = absurd (false≢true (sym f ∙ t))
@@ -165,62 +160,6 @@ seal-refuses s header d room = go (ltb room 261) (ltb 223 (length d)) refl refl
           long = (λ h. absurd (omega arith), λ h. absurd (omega (arith, h .1)));
           taken = (λ h. (large, short), λ h. z);
           nothing = λ n. absurd (n z);
-        }
-
--- ---- UNSEAL
--- behind the test of the room: taken or 7
-record Judged (s : Session) (o : Out) : Type 0 where
-  pub numbers : (o .refusal ≡ 0) ⊎ (o .refusal ≡ 7)
-  pub nothing : (o .refusal ≡ 0 → ⊥) → (o .session ≡ s) × (o .bytes ≡ [])
-
-judged-7 : (s : Session) → Judged s (refused s 7)
-judged-7 s = record { numbers = inr refl; nothing = λ n. (refl, refl) }
-
-judged : (s : Session) (field : List ℕ) (b : Bool) (o : Option (List ℕ)) → Judged s (cond b (unsealed s field o) (refused s 7))
-judged s field false o = judged-7 s
-judged s field true none = judged-7 s
-judged s field true (some p) =
-    by-test (Judged s) (ltb (length p) 2) (λ e. judged-7 s) (λ e. record { numbers = inl refl; nothing = λ n. absurd (n refl) })
-
-unseal-refuses : (s : Session) (response : List ℕ) (room : ℕ) → UnsealRefuses s response room
-unfolding unsealOut
-unseal-refuses s response room = go (ltb room 223) refl
-  where
-    inner : Out
-    inner =
-        cond (sameBytes (drop (length response - 2) response) plainSuccess)
-        (unsealed s (fieldOf response) (openField s responseHead (fieldOf response))) (refused s 7)
-
-    is : Judged s inner
-    is = judged s (fieldOf response) (sameBytes (drop (length response - 2) response) plainSuccess)
-        (openField s responseHead (fieldOf response))
-
-    go : (b : Bool) → ltb room 223 ≡ b → UnsealRefuses s response room
-    go true e =
-        let z : unsealOut s response room .refusal ≡ 2 = rw e in
-        record {
-          small = (λ h. ltb-true room 223 e, λ h. z);
-          numbers = inr (inl z);
-          genuine = λ k b h. absurd (omega arith);
-          taken = λ k r p b two most q. absurd (omega (arith, ltb-true room 223 e));
-          nothing = λ n. (rw e, rw e);
-        }
-    go false e =
-        let z : unsealOut s response room ≡ inner = ap (λ (b : Bool). cond b (refused s 2) inner) e in
-        let large = ltb-false room 223 e in
-        record {
-          small = (
-            λ h. ⊎-elim (λ t. absurd (omega (arith, ap (λ (o : Out). o .refusal) z)))
-                (λ t. absurd (omega (arith, ap (λ (o : Out). o .refusal) z))) (is .numbers),
-            λ h. absurd (omega arith),
-          );
-          numbers =
-              ⊎-elim (λ t. inl (ap (λ (o : Out). o .refusal) z ∙ t)) (λ t. inr (inr (ap (λ (o : Out). o .refusal) z ∙ t))) (is .numbers);
-          genuine = λ k b h. unseal-sound s k response b room h;
-          taken = λ k r p b two most q.
-              ap (λ (x : List ℕ). unsealOut s x room .refusal) q ∙ ap (λ (o : Out). o .refusal) (unseal-seals s k p b most room r two);
-          nothing = λ n. let h = is .nothing (λ t. n (ap (λ (o : Out). o .refusal) z ∙ t)) in
-              (ap (λ (o : Out). o .session) z ∙ h .0, ap (λ (o : Out). o .bytes) z ∙ h .1);
         }
 
 -- ---- WALK

@@ -37,6 +37,7 @@ use Rattle.two_runs.specs.Runs.{Call, nextAt, endOf}
 use Rattle.two_runs.proofs.Reached.{fresh, initCommand, initialisedCard, init-reaches, inChannel, session-keyed, stage2-reached, reached-sound}
 use Rattle.claims.specs.Rows.{Sent, Entry, after, Entries, Initialises, initialised, InChannel}
 use Rattle.claims.specs.RowsMet.{StatusRead, RowsMet}
+use Rattle.claims.proofs.InitSays.{init-initialises}
 
 -- ---- a turn 80 b 00 00 with no supply, and the command that it names in stage 2
 abbrev turnOf : (b : ℕ) (d : List ℕ) → Bytes (0x80 ∷ b ∷ 0 ∷ 0 ∷ []) → Bytes d → length d ≤ 223 → Turn
@@ -217,6 +218,7 @@ reads =
 
 pub rows-met : RowsMet
 rows-met = record {
+  init = init-initialises;
   entries = entries;
   status = record {
     init = initialises;

@@ -20,8 +20,9 @@ use Rattle.card.proofs.SoundFacts.{fresh-sound, reset-sound}
 use Rattle.sound.specs.declared.Answer.{Answer}
 use Rattle.sound.specs.Reset.{done, resetAnswer}
 use Rattle.record.specs.Answers.{writeRefusal, writeBytes, readAnswer}
-use Rattle.record.proofs.ReadFacts.{read-write, write-read, read-sound}
+use Rattle.record.proofs.ReadFacts.{read-write, write-read, read-sound, record-length}
 use Rattle.engine_laws.proofs.Sound.{answer-sound}
+use Rattle.engine_laws.proofs.Rooms.{answer-most, ask-most}
 use Rattle.engine_laws.proofs.Agreement.{unread-same, unread-taken, ask-empty, read-refused, read-taken, ask-data}
 use Rattle.claims.specs.Refusals.{WriteRefuses}
 use Rattle.claims.specs.Trips.{Trips}
@@ -78,4 +79,5 @@ trips = record {
     read = read-sound;
     answer = answer-sound;
   };
+  sizes = record { ask = ask-most; answer = answer-most; write = record-length };
 }

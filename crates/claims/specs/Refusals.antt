@@ -69,15 +69,16 @@ pub record SealRefuses (s : Session) (header d : List ℕ) (room : ℕ) : Type 0
   pub taken : sealOut s header d room .refusal ≡ 0 ↔ (261 ≤ room) × (length d ≤ 223)
   pub nothing : (sealOut s header d room .refusal ≡ 0 → ⊥) → (sealOut s header d room .session ≡ s) × (sealOut s header d room .bytes ≡ [])
 
--- ---- UNSEAL: 2, 7. Taken is what was sealed under this session, two bytes or more, and nothing else
+-- ---- UNSEAL: 2, 7. Genuine is what was sealed under this session: 2 to 223 bytes, data and status word
+abbrev pub Genuine : Session → List ℕ → Type 0
+Genuine s response = (p : List ℕ) × Bytes p × (2 ≤ length p) × (length p ≤ 223) × (response ≡ sealedResponse s p)
+
 pub record UnsealRefuses (s : Session) (response : List ℕ) (room : ℕ) : Type 0 where
   pub small : unsealOut s response room .refusal ≡ 2 ↔ room < 223
-  pub numbers : (unsealOut s response room .refusal ≡ 0)
+  pub taken : Keyed s → Bytes response → unsealOut s response room .refusal ≡ 0 ↔ (223 ≤ room) × Genuine s response
+  pub forged : Keyed s → Bytes response → unsealOut s response room .refusal ≡ 7 ↔ (223 ≤ room) × (Genuine s response → ⊥)
+  pub others : (unsealOut s response room .refusal ≡ 0)
       ⊎ ((unsealOut s response room .refusal ≡ 2) ⊎ (unsealOut s response room .refusal ≡ 7))
-  pub genuine : Keyed s → Bytes response → unsealOut s response room .refusal ≡ 0
-      → response ≡ sealedResponse s (unsealOut s response room .bytes)
-  pub taken : Keyed s → 223 ≤ room → (p : List ℕ) → Bytes p → 2 ≤ length p → length p ≤ 223 → response ≡ sealedResponse s p
-      → unsealOut s response room .refusal ≡ 0
   pub nothing : (unsealOut s response room .refusal ≡ 0 → ⊥)
       → (unsealOut s response room .session ≡ s) × (unsealOut s response room .bytes ≡ [])
 

@@ -1,10 +1,10 @@
--- Demand 2: what goes out comes back, what ASK says ANSWER does, and soundness is kept. Terminal and card together stand in crate
--- `exchange_laws`, Exchange. Every length, room and count is in bytes.
+-- Demand 2: what goes out comes back, what ASK says ANSWER does, soundness is kept, and the room asked for is enough. Terminal and card
+-- together stand in crate `exchange_laws`, Exchange. Every length, room and count is in bytes.
 use Prim.Native.Nat.{ℕ, _+_, _≤_}
 use mathlib.Core.Path.{_≡_}
 use mathlib.Core.Bool.{Bool, true, false}
 use mathlib.Core.List.{List, [], _++_}
-use mathlib.Core.Logic.{_↔_}
+use mathlib.Core.Logic.{_↔_, _⊎_}
 use mathlib.Core.Option.{some}
 use lib.ListN.{length}
 use Rattle.octets.specs.Bytes.{Bytes}
@@ -18,6 +18,7 @@ use Rattle.card.specs.State.{freshOf, resetOf}
 use Rattle.card.specs.Sound.{isSound}
 use Rattle.card.specs.Shape.{Shaped}
 use Rattle.sound.specs.Reset.{resetAnswer}
+use Rattle.record.specs.Fields.{recordOf}
 use Rattle.record.specs.Answers.{writeRefusal, writeBytes, readAnswer}
 use Rattle.rules.specs.Steps.{afterStep1}
 use Rattle.rules.specs.Engine.{askOut, answerOut}
@@ -64,9 +65,17 @@ pub record Soundness : Type 0 where
   pub read : (s : List ℕ) → isSound (readAnswer s .card) ≡ true
   pub answer : (c : Card) (cmd s : List ℕ) (room : ℕ) → isSound c ≡ true → isSound (answerOut c cmd s room .card) ≡ true
 
+-- ---- the room that is asked for is enough: ASK and ANSWER write no more, and a record has its length
+pub record Sizes : Type 0 where
+  pub ask : (c : Card) (cmd : List ℕ) (room : ℕ) → Bytes cmd → isSound c ≡ true → 255 ≤ room → length (askOut c cmd room .bytes) ≤ 255
+  pub answer : (c : Card) (cmd s : List ℕ) (room : ℕ) → Shaped c → length (answerOut c cmd s room .bytes) ≤ 242
+  pub write : (c : Card) → Shaped c → isSound c ≡ true
+      → (length (recordOf c) ≡ 91) ⊎ ((336 ≤ length (recordOf c)) × (length (recordOf c) ≤ 448))
+
 pub record Trips : Type 0 where
   pub responses : Responses
   pub records : Records
   pub walks : Walks
   pub agree : (c : Card) (cmd : List ℕ) (asks answers : ℕ) → isSound c ≡ true → 255 ≤ asks → 258 ≤ answers → Agreement c cmd asks answers
   pub soundness : Soundness
+  pub sizes : Sizes
