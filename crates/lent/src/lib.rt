@@ -7,12 +7,11 @@ ghost use Rattle.sound.specs.Reset.{resetAnswer};
 ghost use Rattle.rules.specs.Engine.{askOut, answerOut};
 ghost use Rattle.engine.specs.Did.{AskDid, AnswerDid};
 ghost use Rattle.record_write.specs.Wrote.{Wrote};
-ghost use Rattle.lent.specs.Left.{toldOf, reportOf};
+ghost use Rattle.lent.specs.Left.{toldOf, reportOf, writtenOf};
 use card::Card;
 use engine::Asked;
-use record_write::Written;
 
-// What ANSWER reports: the refusal's number, or 0 for none, and how many bytes it wrote from the buffer's start.
+// What ANSWER and WRITE report: the refusal's number, or 0 for none, and how many bytes it wrote from the buffer's start.
 #[repr(C)]
 pub struct Report {
     pub refusal: u8,
@@ -53,9 +52,13 @@ pub fn ask_lent(card: &Card, cmd: &[u8], buf: &mut [u8]) -> Asked
 }
 
 // WRITE of a record that is only read.
-pub fn write_lent(card: &Card, buf: &mut [u8]) -> Written
-    ensures { λ r. ⌜ Wrote (now (card .entry)) r (now (buf .entry)) (now (buf .exit)) × (now (card .exit) ≡ now (card .entry)) ⌝ }
+pub fn write_lent(card: &Card, buf: &mut [u8]) -> Report
+    ensures { λ r. ⌜ Wrote (now (card .entry)) (writtenOf r) (now (buf .entry)) (now (buf .exit)) × (now (card .exit) ≡ now (card .entry)) ⌝ }
 {
     let found = *card;
-    record_write::write(found, buf)
+    let told = record_write::write(found, buf);
+    Report {
+        refusal: told.refusal,
+        count: told.count,
+    }
 }
