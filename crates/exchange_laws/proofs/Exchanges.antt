@@ -425,4 +425,4 @@ header-named c i k p1 sound in2 e l =
 
 -- ---- the claim
 pub together : Together
-together = record { named = header-named; opens = λ s t k. seal-opens s t k; answers = in-stage2; authenticates = to-stage2 }
+together = record { opens = λ s t k. seal-opens s t k; named = header-named; answers = in-stage2; authenticates = to-stage2 }

@@ -113,10 +113,12 @@ pub record ToStage2 (c : Card) (t : Turn) : Type 0 where
   pub typed : Typed (answeredBy c t .card)
 
 pub record Together : Type 0 where
-  -- the headers that the next field speaks of: class 80, the byte of any instruction over the channel, a P1 that it lists, P2 00
+  -- SEAL's output opens, whatever the header
+  pub opens : (s : Session) (t : Turn) → Keyed s → SealOpens s t (sealedBy s t)
+  -- the headers that name a command in stage 2: class 80, the byte of any instruction over the channel, a P1 that it lists, P2 00
   pub named : (c : Card) (i : Instruction) (k : Command) (p1 : ℕ) → isSound c ≡ true → c .channel .stage ≡ 2 → isPlain i ≡ false
       → commandOf i p1 0 ≡ some k → (n : Names c (0x80 ∷ rowOf i .byte ∷ p1 ∷ 0 ∷ [])) × (n .command ≡ k)
-  pub opens : (s : Session) (t : Turn) → Keyed s → SealOpens s t (sealedBy s t)
+  -- SEAL, ANSWER, UNSEAL: in stage 2, and MUTUAL from stage 1 to its success
   pub answers : (c : Card) (t : Turn) (n : Names c (t .header)) → isSound c ≡ true → Typed c → c .channel .stage ≡ 2 → Supplied c t n
       → InStage2 c t n
   pub authenticates : (c : Card) (t : Turn) → isSound c ≡ true → Typed c → c .channel .stage ≡ 1 → t .header ≡ 0x80 ∷ 0x11 ∷ 0 ∷ 0 ∷ []
