@@ -1,5 +1,5 @@
-//! The proved library beside the plain model of document 01, over the C boundary: whole lives of cards, and the two runs of demand 3. The
-//! first difference ends the run with a status that is not 0, and so does a status word or refusal that never occurred.
+//! The proved library beside the plain model of document 01, over the C boundary: the paper's rows, whole lives of cards, and the two
+//! runs of demand 3. The first difference ends the run with a status that is not 0, and so does a status word or refusal that never occurred.
 
 mod both;
 mod boundary;
@@ -11,6 +11,7 @@ mod pairs;
 mod plain;
 mod random;
 mod requests;
+mod rows;
 mod states;
 mod tally;
 mod templates;
@@ -73,6 +74,7 @@ fn main() {
         println!("{} calls, no difference", both.tally.calls());
         return;
     }
+    rows::run(&mut both, options.seed);
     let mut lives = 0;
     while both.tally.calls() < options.calls / 100 * (100 - PAIRS_PERCENT) {
         lives::live(&mut both, options.seed, lives);
@@ -88,6 +90,7 @@ fn main() {
 
 fn report(options: &Options, both: &Both, done: &pairs::Done, lives: u64) {
     println!("the library and the model of document 01, seed {:#x}:", options.seed);
+    println!("the rows that document 01 settles hold");
     println!("{} calls in {lives} lives of cards and {} pairs", both.tally.calls(), done.pairs);
     both.tally.print();
     both.tally.print_commands();

@@ -16,6 +16,8 @@ use crate::terminal::{messages_alone, Terminal};
 
 const LEAST_STEPS: usize = 20;
 const MOST_STEPS: usize = 200;
+/// WALK takes little time.
+const WALKS: usize = 5;
 
 /// The life with this number.
 pub fn live(both: &mut Both, seed: u64, number: u64) {
@@ -30,7 +32,7 @@ pub fn live(both: &mut Both, seed: u64, number: u64) {
             1 | 2 => store(both, random, &mut card),
             3 | 4 => read_a_record(both, random, &card),
             5..=7 => try_unsound(both, random, &card),
-            8 | 9 => drop(both.walk(&walk_input(random))),
+            8 | 9 => walk_some(both, random),
             10 | 11 => messages_alone(both, random),
             _ => exchange(both, random, &mut terminal, &mut card),
         }
@@ -101,6 +103,13 @@ fn store(both: &mut Both, random: &mut Random, card: &mut Card) {
 fn read_a_record(both: &mut Both, random: &mut Random, card: &Card) {
     let record = random_record(random, card);
     both.read(&record);
+}
+
+fn walk_some(both: &mut Both, random: &mut Random) {
+    for _ in 0..WALKS {
+        let input = walk_input(random);
+        both.walk(&input);
+    }
 }
 
 /// Every operation on a card that is mostly unsound, with buffers of any length.

@@ -67,11 +67,11 @@ pub fn right(random: &mut Random, card: &Card, name: Name, init_key: &Key) -> Re
         Name::Status => request(random.below(2) as u8, &[]),
         Name::Verify => request(0x00, &card.pin),
         Name::Change => match random.below(3) {
-            0 => request(0x00, &digits::<PIN_BYTES>(random)),
-            1 => request(0x01, &digits::<PUK_BYTES>(random)),
+            0 => request(0x00, &new_entry(random, &card.pin)),
+            1 => request(0x01, &new_entry(random, &card.puk)),
             _ => request(0x02, &random.bytes(SECRET_BYTES)),
         },
-        Name::Unblock => request(0x00, &[&card.puk[..], &digits::<PIN_BYTES>(random)].concat()),
+        Name::Unblock => request(0x00, &[&card.puk[..], &new_entry(random, &card.pin)].concat()),
         Name::Load => match random.below(4) {
             0 => request(0x01, &key_template(random, false)),
             1 => request(0x02, &key_template(random, true)),
@@ -80,6 +80,15 @@ pub fn right(random: &mut Random, card: &Card, name: Name, init_key: &Key) -> Re
         Name::Derive => request(0x00, near_path(random, &card.pinless_path).used()),
         Name::SetPinlessPath => request(0x00, near_path(random, &card.current_path).used()),
         Name::Remove => request(0x00, &[]),
+    }
+}
+
+/// A new PIN or PUK: now and then the old one, which is as good as any.
+fn new_entry<const N: usize>(random: &mut Random, old: &[u8; N]) -> [u8; N] {
+    if chance(random, 20) {
+        *old
+    } else {
+        digits(random)
     }
 }
 

@@ -7,6 +7,8 @@ use crate::random::Random;
 
 const TEMPLATE_BIT: u8 = 0x20;
 const MOST_CONTENT_BYTES: usize = 255;
+/// The longest content whose length stands in one byte.
+const MOST_SHORT_BYTES: usize = 127;
 
 /// A field whose content has at most 255 bytes: a template holding others down to some depth, or another field.
 fn random_field(random: &mut Random, depth: usize) -> Vec<u8> {
@@ -17,12 +19,15 @@ fn random_field(random: &mut Random, depth: usize) -> Vec<u8> {
         return field(tag | TEMPLATE_BIT, &content);
     }
     let content = match random.below(8) {
-        0 => random.bytes(127),
-        1 => random.bytes(128),
+        0 => random.bytes(MOST_SHORT_BYTES),
+        1 => random.bytes(MOST_SHORT_BYTES + 1),
         2 => some_bytes(random, 0, MOST_CONTENT_BYTES + 1),
         _ => some_bytes(random, 0, 8),
     };
-    field(tag & !TEMPLATE_BIT, &content)
+    match random.below(25) {
+        0 => long_form(tag & !TEMPLATE_BIT, &content, 1),
+        _ => field(tag & !TEMPLATE_BIT, &content),
+    }
 }
 
 fn random_fields(random: &mut Random, depth: usize) -> Vec<u8> {
@@ -52,7 +57,7 @@ fn nested(random: &mut Random, templates: usize) -> Vec<u8> {
 
 pub fn walk_input(random: &mut Random) -> Vec<u8> {
     let depth = 1 + random.below(6);
-    match random.below(8) {
+    match random.below(9) {
         0 => some_bytes(random, 0, 12),
         1 | 2 => nested(random, depth),
         3 => {
@@ -67,11 +72,15 @@ pub fn walk_input(random: &mut Random) -> Vec<u8> {
             let count = random.below(40);
             (0..count).flat_map(|_| random_fields(random, 2)).collect()
         }
+        6 => {
+            let bytes = MOST_SHORT_BYTES - 1 + random.below(4);
+            long_form(byte(random) & !TEMPLATE_BIT, &random.bytes(bytes), pick(random, &[1, 1, 2]))
+        }
         _ => random_fields(random, depth),
     }
 }
 
-/// A field in a form that the paper does not allow: a length not in its shortest form, or of two bytes.
+/// A field with its length in one or two bytes of its own behind 81 or 82. The paper allows 81 alone, and that from 128 bytes on.
 fn long_form(tag: u8, content: &[u8], length_bytes: u8) -> Vec<u8> {
     let length = (content.len() as u16).to_be_bytes();
     let length = if length_bytes == 1 { &length[1..] } else { &length[..] };
