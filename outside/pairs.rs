@@ -5,7 +5,7 @@ use crate::both::{hex, Both};
 use crate::boundary::card_bytes;
 use crate::choice::{array, chance, digits, pick};
 use crate::host::{room, short_room, supply_for, Way};
-use crate::model::card::{Card, AUTHENTICATED, PIN_BYTES, PIN_TRIES, PUK_BYTES, YES};
+use crate::model::card::{Card, AUTHENTICATED, NO, PIN_BYTES, PIN_TRIES, PUK_BYTES, PUK_TRIES, YES};
 use crate::model::commands::Comparison;
 use crate::model::engine::{self, ANSWER_ROOM_BYTES, ASK_ROOM_BYTES};
 use crate::random::Random;
@@ -91,8 +91,10 @@ fn begin(random: &mut Random) -> Two {
         first.session.enc_key = array(random);
         first.session.mac_key = array(random);
     }
-    if chance(random, 30) {
-        (first.verified, first.pin_tries) = (YES, PIN_TRIES);
+    match random.below(4) {
+        0 => (first.verified, first.pin_tries) = (YES, PIN_TRIES),
+        1 => (first.verified, first.pin_tries, first.puk_tries) = (NO, 0, PUK_TRIES),
+        _ => {}
     }
     let mut second = first;
     match random.below(3) {
