@@ -10,6 +10,7 @@ mod model;
 mod pairs;
 mod plain;
 mod random;
+mod records;
 mod requests;
 mod rows;
 mod states;

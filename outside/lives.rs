@@ -9,15 +9,17 @@ use crate::model::commands::Name;
 use crate::model::engine::*;
 use crate::model::record::record_of;
 use crate::random::Random;
+use crate::records::random_record;
 use crate::requests;
-use crate::states::{random_record, sound_card, unsound_card};
+use crate::states::{sound_card, unsound_card};
 use crate::templates::walk_input;
 use crate::terminal::{messages_alone, Terminal};
 
 const LEAST_STEPS: usize = 20;
 const MOST_STEPS: usize = 200;
-/// WALK takes little time.
+/// WALK and READ take little time.
 const WALKS: usize = 5;
+const READS: usize = 5;
 
 /// The life with this number.
 pub fn live(both: &mut Both, seed: u64, number: u64) {
@@ -30,7 +32,7 @@ pub fn live(both: &mut Both, seed: u64, number: u64) {
         match random.below(100) {
             0 => drop(both.reset(&mut card)),
             1 | 2 => store(both, random, &mut card),
-            3 | 4 => read_a_record(both, random, &card),
+            3 | 4 => read_some(both, random, &card),
             5..=7 => try_unsound(both, random, &card),
             8 | 9 => walk_some(both, random),
             10 | 11 => messages_alone(both, random),
@@ -100,9 +102,11 @@ fn store(both: &mut Both, random: &mut Random, card: &mut Card) {
     }
 }
 
-fn read_a_record(both: &mut Both, random: &mut Random, card: &Card) {
-    let record = random_record(random, card);
-    both.read(&record);
+fn read_some(both: &mut Both, random: &mut Random, card: &Card) {
+    for _ in 0..READS {
+        let record = random_record(random, card);
+        both.read(&record);
+    }
 }
 
 fn walk_some(both: &mut Both, random: &mut Random) {

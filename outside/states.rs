@@ -1,10 +1,9 @@
 //! States that the walks begin from or try beside: random sound cards in every stage, cards with one rule of soundness broken, cards with
-//! random bytes, and stored records with damage. Lengths are in bytes.
+//! random bytes. Lengths are in bytes.
 
 use crate::boundary::{card_bytes, card_of, CARD_BYTES};
-use crate::choice::{array, byte, chance, damaged, digits, pick, some_bytes};
+use crate::choice::{array, chance, digits, pick};
 use crate::model::card::*;
-use crate::model::record::record_of;
 use crate::random::Random;
 
 pub fn random_session(random: &mut Random) -> Session {
@@ -102,7 +101,7 @@ fn pre_initialised_with_more(random: &mut Random) -> Card {
 }
 
 /// Breaks one rule of the paper's list; some need another field to be as it is not, so a card may stay sound.
-fn break_rule(random: &mut Random, card: &mut Card) {
+pub fn break_rule(random: &mut Random, card: &mut Card) {
     let flag = 2 + random.below(254) as u8;
     let slot = random.below(SLOTS);
     let path = if chance(random, 50) {
@@ -140,33 +139,4 @@ fn break_rule(random: &mut Random, card: &mut Card) {
         18 => (card.pending, card.expected) = (NO, array(random)),
         _ => (card.stage, card.session) = (CLOSED, random_session(random)),
     }
-}
-
-/// A record: of a sound card, of one that is not, with damage, cut off, or random.
-pub fn random_record(random: &mut Random, from: &Card) -> Vec<u8> {
-    let card = if chance(random, 50) { *from } else { sound_card(random) };
-    match random.below(10) {
-        0..=2 => record_of(&card),
-        3..=5 => damaged(random, &record_of(&card)),
-        6 => {
-            let record = record_of(&card);
-            record[..random.below(record.len() + 1)].to_vec()
-        }
-        7 => some_bytes(random, 0, 500),
-        _ => record_of_unsound(random, &card),
-    }
-}
-
-/// The record of a card with one rule broken, if its paths can be written at all.
-fn record_of_unsound(random: &mut Random, card: &Card) -> Vec<u8> {
-    let mut broken = *card;
-    break_rule(random, &mut broken);
-    for path in [&mut broken.current_path, &mut broken.pinless_path] {
-        path.used_bytes = path.used_bytes.min(PATH_BYTES as u8);
-    }
-    let mut record = record_of(&broken);
-    if chance(random, 20) {
-        record[3] = byte(random);
-    }
-    record
 }

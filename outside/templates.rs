@@ -55,6 +55,21 @@ fn nested(random: &mut Random, templates: usize) -> Vec<u8> {
     input
 }
 
+/// Many short fields, more than a byte can count, some of them templates of such.
+fn many_fields(random: &mut Random) -> Vec<u8> {
+    let mut input = Vec::new();
+    for _ in 0..random.below(600) {
+        let content = some_bytes(random, 0, 3);
+        let short = field(byte(random) & !TEMPLATE_BIT, &content);
+        let more = random.below(40);
+        input.extend(match random.below(20) {
+            0 => field(byte(random) | TEMPLATE_BIT, &short.repeat(more)),
+            _ => short,
+        });
+    }
+    input
+}
+
 pub fn walk_input(random: &mut Random) -> Vec<u8> {
     let depth = 1 + random.below(6);
     match random.below(9) {
@@ -68,14 +83,8 @@ pub fn walk_input(random: &mut Random) -> Vec<u8> {
             let input = random_fields(random, depth);
             damaged(random, &input)
         }
-        5 => {
-            let count = random.below(40);
-            (0..count).flat_map(|_| random_fields(random, 2)).collect()
-        }
-        6 => {
-            let bytes = MOST_SHORT_BYTES - 1 + random.below(4);
-            long_form(byte(random) & !TEMPLATE_BIT, &random.bytes(bytes), pick(random, &[1, 1, 2]))
-        }
+        5 => many_fields(random),
+        6 => strange_length(random),
         _ => random_fields(random, depth),
     }
 }
@@ -85,6 +94,18 @@ fn long_form(tag: u8, content: &[u8], length_bytes: u8) -> Vec<u8> {
     let length = (content.len() as u16).to_be_bytes();
     let length = if length_bytes == 1 { &length[1..] } else { &length[..] };
     [&[tag, 0x80 + length_bytes], length, content].concat()
+}
+
+/// One field around 127 bytes with its length in one of the longer forms, or in a single byte that tells more than 127.
+fn strange_length(random: &mut Random) -> Vec<u8> {
+    let tag = byte(random) & !TEMPLATE_BIT;
+    if chance(random, 40) {
+        let length = pick(random, &[0x7f, 0x80, 0x82, 0x83, 0xff]);
+        return [&[tag, length], &random.bytes(length as usize)[..]].concat();
+    }
+    let bytes = MOST_SHORT_BYTES - 1 + random.below(4);
+    let content = random.bytes(bytes);
+    long_form(tag, &content, pick(random, &[1, 1, 2]))
 }
 
 /// The key template of LOAD for P1 01 or 02.
