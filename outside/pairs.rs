@@ -46,9 +46,10 @@ impl Done {
 
     pub fn print(&self) {
         println!(
-            "two runs: {} pairs of cards, {} calls on both, outputs and cards alike but for PIN and PUK; {} calls left out, whose comparisons differ",
-            self.pairs, self.calls, self.left_out
+            "two runs: {} pairs of cards, {} calls on both, alike but for PIN and PUK",
+            self.pairs, self.calls
         );
+        println!("  {} calls left out, whose comparisons come out differently", self.left_out);
         for ((comparison, same), count) in &self.compared {
             let entries = if *same { "the same entry" } else { "different entries" };
             println!("  {comparison:?} in both runs, with {entries} on the cards: {count}");
