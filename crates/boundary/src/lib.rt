@@ -3,11 +3,16 @@
 // Proved: the promises of the operations by value.
 ghost use mathlib.Core.Path.{_≡_};
 ghost use mathlib.Core.Bool.{cond};
+ghost use lib.ListN.{length};
 ghost use Rattle.card.specs.State.{freshOf};
 ghost use Rattle.card.specs.Sound.{isSound};
 ghost use Rattle.record_write.specs.Wrote.{Wrote};
+ghost use Rattle.message.specs.Terminal.{sealOut};
+ghost use Rattle.terminal.specs.Did.{Did};
 ghost use Rattle.boundary.specs.Left.{writtenOf};
 use card::Card;
+use message::Session;
+use terminal::Outcome;
 
 // What an operation reports: the refusal's number, or 0 for none, and how many bytes it wrote from the buffer's start (WALK: fields).
 #[repr(C)]
@@ -38,4 +43,20 @@ pub fn written(card: Card, buf: &mut [u8]) -> Told
     let refusal = told.refusal;
     let count = told.count;
     Told { refusal, count }
+}
+
+// SEAL by value, of a header by value.
+pub fn sealed_by(s: Session, header: [u8; 4], plain: &[u8], buf: &mut [u8]) -> Outcome
+    ensures { λ r. ⌜ Did (sealOut s header (now (plain .entry)) (length (now (buf .entry)))) r (now (buf .entry)) (now (buf .exit)) ⌝ }
+{
+    terminal::seal(s, header[0], header[1], header[2], header[3], plain, buf)
+}
+
+// SEAL by value.
+pub fn sealed(s: Session, header: &[u8; 4], plain: &[u8], buf: &mut [u8]) -> Outcome
+    ensures { λ r. ⌜ Did (sealOut s (now (header .entry)) (now (plain .entry)) (length (now (buf .entry)))) r
+        (now (buf .entry)) (now (buf .exit)) ⌝ }
+{
+    let h = *header;
+    sealed_by(s, h, plain, buf)
 }

@@ -4,13 +4,14 @@
 ghost use mathlib.Core.Path.{_≡_};
 ghost use mathlib.Core.Bool.{cond};
 ghost use lib.ListN.{length};
+ghost use Rattle.card.specs.State.{freshOf};
 ghost use Rattle.card.specs.Sound.{isSound};
 ghost use Rattle.sound.specs.Reset.{resetAnswer};
 ghost use Rattle.record.specs.Answers.{readAnswer};
 ghost use Rattle.record_write.specs.Wrote.{Wrote};
 ghost use Rattle.rules.specs.Engine.{askOut, answerOut};
 ghost use Rattle.engine.specs.Did.{AskDid, AnswerDid};
-ghost use Rattle.message.specs.Terminal.{unsealOut};
+ghost use Rattle.message.specs.Terminal.{sealOut, unsealOut};
 ghost use Rattle.terminal.specs.Did.{Did};
 ghost use Rattle.walk.specs.Walk.{report, WALK};
 ghost use Rattle.boundary.specs.Left.{answerOf, answeredOf, outcomeOf, writtenOf, walkTold};
@@ -18,6 +19,15 @@ use boundary::Told;
 use card::Card;
 use engine::Asked;
 use message::Session;
+
+// FRESH: the card of a new device. What the record held before is not read.
+#[no_mangle]
+pub extern "C" fn tw_fresh(card: &mut Card, uid: &[u8; 16], public_key: &[u8; 65])
+    ensures { λ _. ⌜ now (card .exit) ≡ freshOf (now (uid .entry)) (now («public_key» .entry)) ⌝ }
+{
+    let new = boundary::made(uid, public_key);
+    *card = new;
+}
 
 // Soundness of a card.
 #[no_mangle]
@@ -58,6 +68,26 @@ pub extern "C" fn tw_answer(card: &mut Card, cmd: &[u8], supply: &[u8], buf: &mu
     let found = *card;
     let told = engine::answer(found, cmd, supply, buf);
     *card = told.card;
+    Told {
+        refusal: told.refusal,
+        count: told.count,
+    }
+}
+
+// SEAL, the terminal's end of the channel.
+#[no_mangle]
+pub extern "C" fn tw_seal(
+    session: &mut Session,
+    header: &[u8; 4],
+    plain: &[u8],
+    buf: &mut [u8],
+) -> Told
+    ensures { λ r. ⌜ Did (sealOut (now (session .entry)) (now (header .entry)) (now (plain .entry)) (length (now (buf .entry))))
+        (outcomeOf r (now (session .exit))) (now (buf .entry)) (now (buf .exit)) ⌝ }
+{
+    let found = *session;
+    let told = boundary::sealed(found, header, plain, buf);
+    *session = told.session;
     Told {
         refusal: told.refusal,
         count: told.count,
