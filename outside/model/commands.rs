@@ -1,0 +1,372 @@
+//! The order of checks for a command (document 01, steps 1 to 6), and the commands that are plain in every stage: SELECT, INIT, OPEN and PAIR.
+//! A command changes the card that it is given; lengths are in bytes.
+
+use super::card::*;
+use super::message::{decrypt, unpad, HEADER_BYTES};
+use super::sealed_commands;
+use super::status::*;
+use super::template::field;
+use crate::plain::{Block, Key, BLOCK_BYTES, KEY_BYTES};
+
+const APPLICATION_ID: &[u8] = b"StatusWalletApp";
+const VERSION: [u8; 2] = [0x02, 0x00];
+const POINT_START: u8 = 0x04;
+const INIT_DATA_BYTES: usize = 146;
+const INIT_CONTENT_BYTES: usize = PIN_BYTES + PUK_BYTES + SECRET_BYTES;
+pub const SALT_BYTES: usize = 32;
+
+#[derive(Clone, Copy, PartialEq, Eq, PartialOrd, Ord, Debug)]
+pub enum Name {
+    Select,
+    Init,
+    Open,
+    Mutual,
+    Pair,
+    Unpair,
+    Status,
+    Verify,
+    Change,
+    Unblock,
+    Load,
+    Derive,
+    Remove,
+    SetPinlessPath,
+    Sign,
+}
+
+/// The instruction byte of each command.
+pub const INSTRUCTIONS: [(Name, u8); 15] = [
+    (Name::Select, 0xa4),
+    (Name::Init, 0xfe),
+    (Name::Open, 0x10),
+    (Name::Mutual, 0x11),
+    (Name::Pair, 0x12),
+    (Name::Unpair, 0x13),
+    (Name::Status, 0xf2),
+    (Name::Verify, 0x20),
+    (Name::Change, 0x21),
+    (Name::Unblock, 0x22),
+    (Name::Load, 0xd0),
+    (Name::Derive, 0xd1),
+    (Name::Remove, 0xd3),
+    (Name::SetPinlessPath, 0xc1),
+    (Name::Sign, 0xc0),
+];
+
+/// A supply: its kind, how many bytes it has, and whether the first is a flag.
+pub struct Supply {
+    pub kind: u8,
+    pub bytes: usize,
+    pub has_flag: bool,
+}
+
+const fn supply(kind: u8, bytes: usize, has_flag: bool) -> Supply {
+    Supply { kind, bytes, has_flag }
+}
+
+/// The table of supplies.
+static SUPPLIES: [Supply; 8] = [
+    supply(FOR_INIT, 33, true),
+    supply(FOR_OPEN, 113, true),
+    supply(FOR_MUTUAL, 32, false),
+    supply(FOR_PAIR_FIRST, 96, false),
+    supply(FOR_PAIR_FINAL, 64, false),
+    supply(FOR_LOAD, 33, true),
+    supply(FOR_DERIVE, 1, true),
+    supply(FOR_SIGN, 129, false),
+];
+pub const FOR_INIT: u8 = 1;
+pub const FOR_OPEN: u8 = 2;
+pub const FOR_MUTUAL: u8 = 3;
+pub const FOR_PAIR_FIRST: u8 = 4;
+pub const FOR_PAIR_FINAL: u8 = 5;
+pub const FOR_LOAD: u8 = 6;
+pub const FOR_DERIVE: u8 = 7;
+pub const FOR_SIGN: u8 = 8;
+
+/// The row of the table for this kind.
+pub fn supply_of_kind(kind: u8) -> &'static Supply {
+    SUPPLIES.iter().find(|supply| supply.kind == kind).expect("a kind of the table")
+}
+
+/// A comparison that was made, and whether it came out right.
+#[derive(Clone, Copy, PartialEq, Eq, PartialOrd, Ord, Debug)]
+pub enum Comparison {
+    Pin(bool),
+    Puk(bool),
+}
+
+/// An answer: response data and status word, sealed or plain, and the comparison that was made for it.
+pub struct Reply {
+    pub status: u16,
+    pub data: Vec<u8>,
+    pub sealed: bool,
+    pub comparison: Option<Comparison>,
+}
+
+/// What ends a command before its success: a status word, ASK at the supply that ANSWER would read, or ANSWER at a wrong one.
+pub enum End {
+    Status(u16),
+    Wants { kind: u8, data: Vec<u8> },
+    WrongSupply,
+}
+
+pub type Outcome = Result<Reply, End>;
+
+/// Who runs the command: ASK, or ANSWER with the host's supply.
+pub enum Caller<'a> {
+    Ask,
+    Answer(&'a [u8]),
+}
+
+impl Caller<'_> {
+    /// The supply of this kind, for a command with this opened data.
+    pub fn supply(&self, kind: u8, data: &[u8]) -> Result<&[u8], End> {
+        let wanted = supply_of_kind(kind);
+        match self {
+            Caller::Ask => Err(End::Wants { kind, data: data.to_vec() }),
+            Caller::Answer(given) if given.len() != wanted.bytes => Err(End::WrongSupply),
+            Caller::Answer(given) if wanted.has_flag && given[0] > YES => Err(End::WrongSupply),
+            Caller::Answer(given) => Ok(given),
+        }
+    }
+}
+
+impl Reply {
+    pub fn success(data: Vec<u8>) -> Reply {
+        Reply {
+            status: SUCCESS,
+            data,
+            sealed: false,
+            comparison: None,
+        }
+    }
+
+    pub fn of_status(status: u16) -> Reply {
+        Reply {
+            status,
+            ..Reply::success(Vec::new())
+        }
+    }
+}
+
+/// A check: the command goes on, or ends with this status word.
+pub fn require(holds: bool, status: u16) -> Result<(), End> {
+    if holds {
+        Ok(())
+    } else {
+        Err(End::Status(status))
+    }
+}
+
+/// An outcome whose status words are answers like any other.
+pub fn settled(outcome: Outcome) -> Outcome {
+    match outcome {
+        Err(End::Status(status)) => Ok(Reply::of_status(status)),
+        other => other,
+    }
+}
+
+/// A command of right form.
+pub struct Apdu<'a> {
+    pub header: [u8; HEADER_BYTES],
+    pub data: &'a [u8],
+}
+
+impl Apdu<'_> {
+    pub fn class(&self) -> u8 {
+        self.header[0]
+    }
+
+    pub fn instruction(&self) -> u8 {
+        self.header[1]
+    }
+
+    pub fn p1(&self) -> u8 {
+        self.header[2]
+    }
+
+    pub fn p2(&self) -> u8 {
+        self.header[3]
+    }
+}
+
+/// A command on a sound card.
+pub fn run(card: &mut Card, command: &[u8], caller: &Caller) -> Outcome {
+    step_1(card, command);
+    settled(steps_2_to_6(card, command, caller))
+}
+
+/// Step 1, by the first two bytes.
+fn step_1(card: &mut Card, command: &[u8]) {
+    if card.stage == OPENED && !command.starts_with(&[0x80, 0x11]) {
+        card.close_channel();
+    }
+    if !command.starts_with(&[0x80, 0x12]) {
+        card.forget_pending();
+    }
+}
+
+fn steps_2_to_6(card: &mut Card, command: &[u8], caller: &Caller) -> Outcome {
+    let apdu = form(command).ok_or(End::Status(WRONG_LENGTH))?;
+    let name = name_of(card, &apdu)?;
+    match name {
+        Name::Select => select(card, &apdu),
+        Name::Init => init(card, &apdu, caller),
+        Name::Open => open(card, &apdu, caller),
+        Name::Pair => pair(card, &apdu, caller),
+        _ => sealed_commands::run(card, name, &apdu, caller),
+    }
+}
+
+/// Step 2: the form.
+fn form(command: &[u8]) -> Option<Apdu<'_>> {
+    let (header, behind) = command.split_at_checked(HEADER_BYTES)?;
+    let header = header.try_into().ok()?;
+    if behind.len() <= 1 {
+        return Some(Apdu { header, data: &[] });
+    }
+    let lc = behind[0] as usize;
+    let right = lc != 0 && (behind.len() == 1 + lc || behind.len() == 2 + lc);
+    right.then(|| Apdu {
+        header,
+        data: &behind[1..1 + lc],
+    })
+}
+
+/// Step 3: the class and the instruction.
+fn name_of(card: &Card, apdu: &Apdu) -> Result<Name, End> {
+    let is_select = apdu.class() == 0x00 && apdu.instruction() == 0xa4;
+    if is_select {
+        return Ok(Name::Select);
+    }
+    require(apdu.class() == 0x80, UNKNOWN_CLASS)?;
+    let known = INSTRUCTIONS.iter().find(|known| known.1 == apdu.instruction());
+    let name = known.ok_or(End::Status(UNKNOWN_INSTRUCTION))?.0;
+    require(name != Name::Select, UNKNOWN_INSTRUCTION)?;
+    require((name == Name::Init) == (card.initialised == NO), UNKNOWN_INSTRUCTION)?;
+    Ok(name)
+}
+
+/// Step 5, with the P1 that the command lists.
+pub fn require_p1(apdu: &Apdu, listed: &[u8]) -> Result<(), End> {
+    require(listed.contains(&apdu.p1()) && apdu.p2() == 0x00, WRONG_P1_P2)
+}
+
+pub const SLOT_INDICES: [u8; SLOTS] = [0, 1, 2, 3, 4];
+
+fn select(card: &mut Card, apdu: &Apdu) -> Outcome {
+    require_p1(apdu, &[0x04])?;
+    require(apdu.data == APPLICATION_ID, NOT_FOUND)?;
+    card.close_channel();
+    card.verified = NO;
+    Ok(Reply::success(select_answer(card)))
+}
+
+fn select_answer(card: &Card) -> Vec<u8> {
+    if card.initialised == NO {
+        return field(0x80, &card.public_key);
+    }
+    let key_uid: &[u8] = if card.key_kind == NO_KEY { &[] } else { &card.key_uid };
+    let inner = [
+        field(0x8f, &card.uid),
+        field(0x80, &card.public_key),
+        field(0x02, &VERSION),
+        field(0x02, &[card.free_slots() as u8]),
+        field(0x8e, key_uid),
+    ];
+    field(0xa4, &inner.concat())
+}
+
+fn init(card: &mut Card, apdu: &Apdu, caller: &Caller) -> Outcome {
+    require_p1(apdu, &[0x00])?;
+    let data = apdu.data;
+    let right = data.len() == INIT_DATA_BYTES && data[0] as usize == POINT_BYTES && data[1] == POINT_START;
+    require(right, WRONG_DATA)?;
+    let supply = caller.supply(FOR_INIT, data)?;
+    require(supply[0] == YES, WRONG_DATA)?;
+    let (iv, ciphertext) = data[1 + POINT_BYTES..].split_at(BLOCK_BYTES);
+    let opened = unpad(&decrypt(&key(&supply[1..]), &block(iv), ciphertext));
+    let content = opened.ok_or(End::Status(WRONG_DATA))?;
+    require(content.len() == INIT_CONTENT_BYTES, WRONG_DATA)?;
+    let (pin, behind_pin) = content.split_at(PIN_BYTES);
+    let (puk, secret) = behind_pin.split_at(PUK_BYTES);
+    require(is_digits(pin) && is_digits(puk), WRONG_DATA)?;
+    card.initialised = YES;
+    card.pin.copy_from_slice(pin);
+    card.puk.copy_from_slice(puk);
+    card.pairing_secret.copy_from_slice(secret);
+    card.pin_tries = PIN_TRIES;
+    card.puk_tries = PUK_TRIES;
+    Ok(Reply::success(Vec::new()))
+}
+
+fn open(card: &mut Card, apdu: &Apdu, caller: &Caller) -> Outcome {
+    card.close_channel();
+    require_p1(apdu, &SLOT_INDICES)?;
+    require(card.slots[apdu.p1() as usize].filled == YES, WRONG_P1_P2)?;
+    require(is_point(apdu.data), WRONG_DATA)?;
+    let supply = caller.supply(FOR_OPEN, apdu.data)?;
+    require(supply[0] == YES, WRONG_DATA)?;
+    let (enc_key, behind_enc_key) = supply[1..].split_at(KEY_BYTES);
+    let (mac_key, behind_mac_key) = behind_enc_key.split_at(KEY_BYTES);
+    let (salt, iv) = behind_mac_key.split_at(SALT_BYTES);
+    card.stage = OPENED;
+    card.session = Session {
+        enc_key: key(enc_key),
+        mac_key: key(mac_key),
+        iv: block(iv),
+    };
+    Ok(Reply::success([salt, iv].concat()))
+}
+
+fn is_point(data: &[u8]) -> bool {
+    data.len() == POINT_BYTES && data[0] == POINT_START
+}
+
+fn pair(card: &mut Card, apdu: &Apdu, caller: &Caller) -> Outcome {
+    let is_final = apdu.p1() == 0x01;
+    let was_pending = card.pending == YES;
+    let expected = card.expected;
+    if is_final {
+        card.forget_pending();
+    }
+    require_p1(apdu, &[0x00, 0x01])?;
+    require(!is_final || was_pending, WRONG_P1_P2)?;
+    require(card.stage != AUTHENTICATED, CONDITIONS_NOT_SATISFIED)?;
+    require(apdu.data.len() == CRYPTOGRAM_BYTES, WRONG_DATA)?;
+    let free = card.first_free_slot().ok_or(End::Status(NO_SPACE))?;
+    if is_final {
+        pair_final(card, apdu.data, &expected, free, caller)
+    } else {
+        pair_first(card, apdu.data, caller)
+    }
+}
+
+fn pair_first(card: &mut Card, data: &[u8], caller: &Caller) -> Outcome {
+    let supply = caller.supply(FOR_PAIR_FIRST, data)?;
+    let (answer, expected) = supply.split_at(supply.len() - CRYPTOGRAM_BYTES);
+    card.pending = YES;
+    card.expected.copy_from_slice(expected);
+    Ok(Reply::success(answer.to_vec()))
+}
+
+/// A pending pairing has a free slot, so the card is not full here.
+fn pair_final(card: &mut Card, data: &[u8], expected: &[u8], free: usize, caller: &Caller) -> Outcome {
+    require(data == expected, SECURITY_NOT_SATISFIED)?;
+    let supply = caller.supply(FOR_PAIR_FINAL, data)?;
+    let (salt, pairing_key) = supply.split_at(SALT_BYTES);
+    card.slots[free] = Slot {
+        filled: YES,
+        key: key(pairing_key),
+    };
+    Ok(Reply::success([&[free as u8], salt].concat()))
+}
+
+fn key(bytes: &[u8]) -> Key {
+    bytes.try_into().expect("32 bytes")
+}
+
+fn block(bytes: &[u8]) -> Block {
+    bytes.try_into().expect("16 bytes")
+}

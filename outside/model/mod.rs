@@ -1,0 +1,11 @@
+//! Document 01 once more, written plainly in Rust from the paper alone: the card, its commands, the sealed message, templates and the stored
+//! record. It shares no code with the engine. Lengths and counts are in bytes; a refusal of 0 means none.
+
+pub mod card;
+pub mod commands;
+pub mod engine;
+pub mod message;
+pub mod record;
+pub mod sealed_commands;
+pub mod status;
+pub mod template;
