@@ -6,8 +6,8 @@ use mathlib.Core.List.{List, [], _∷_, _++_}
 use mathlib.Core.Option.{Option, none, some}
 use Prim.Native.Nat.{ℕ, _+_, _-_, _≤_, _<_}
 use native.Mathlib.Omega.{arith}
-use borrow.Author.Tests.{eq-eqb, ne-eqb, ltb-true}
-use lib.Dec.{eqb, ltb}
+use borrow.Author.Tests.{eq-eqb, ne-eqb}
+use lib.Dec.{eqb}
 use lib.ListN.{length, take, drop, getD, length-take}
 use Rattle.octets.specs.Bytes.{overwrite}
 use Rattle.octets.proofs.Lists.{overwritten}
@@ -20,16 +20,13 @@ use Rattle.sealing.proofs.Openings.{Holds, holds, held-short, field-long}
 use Rattle.sealing.proofs.Openings.{closed as closed-none}
 use Rattle.card.specs.declared.Card.{Card}
 use Rattle.card.specs.declared.Keys.{Keys}
-use Rattle.card.specs.State.{slotCount}
 use Rattle.rules.specs.declared.Instruction.{Instruction}
-use Rattle.rules.specs.declared.Instruction.the-variants as ins
 use Rattle.rules.specs.declared.Named.{Named}
 use Rattle.rules.specs.declared.Command.{Command}
-use Rattle.rules.specs.declared.Command.the-variants as command
 use Rattle.rules.specs.declared.Choice.{Choice}
 use Rattle.rules.specs.declared.Choice.the-variants as choice
 use Rattle.rules.specs.Words.{success, wrongLength, conditionsNotMet, securityNotMet, wrongParameters, verdict, Reply, fails}
-use Rattle.rules.specs.Steps.{closed, forgotten, begins, dropped, afterStep1, dataOf, headerOf, claOf, insOf, p1Of, p2Of, isInitialised, nameOf, isPlain, inStage, atStake, commandOf, byP1, choiceOf}
+use Rattle.rules.specs.Steps.{closed, forgotten, begins, dropped, afterStep1, dataOf, headerOf, claOf, insOf, p1Of, p2Of, isInitialised, nameOf, isPlain, inStage, atStake, commandOf, choiceOf}
 use Rattle.rules.specs.Commands.{checksOf, supplyOf, replyOf}
 use Rattle.rules.specs.Engine.{sessionOf, withMac, Told, plainly, overChannel, Decision, ends, step6, byChoice, step5, byOpening, step4, byName, step3, byForm, step2, decide}
 use Rattle.commands.specs.Fits.{InRange, PathsFit}
@@ -89,61 +86,9 @@ module _ (over : Bool) (lost c : Card) (d : List ℕ) (k : Command) where
   step6-ends w e n = rw (ne-eqb (verdict (checksOf k c d)) success (λ s. n (e ∙ s)), ← e)
 
 -- ---- step 5
-module _ (o : Option Command) where
-  pub chosen : (k : Command) → choice.Listed k ≡ choiceOf o → o ≡ some k
-  chosen k e = by o e
-    where
-      by : (o : Option Command) → choice.Listed k ≡ choiceOf o → o ≡ some k
-      by none e = let z : _≡_ {A = ℕ} 0 1 = cc in absurd (omega arith)
-      by (some x) e = cc
-
-  pub unlisted : choice.Unlisted ≡ choiceOf o → o ≡ none
-  unlisted e = by o e
-    where
-      by : (o : Option Command) → choice.Unlisted ≡ choiceOf o → o ≡ none
-      by none e = refl
-      by (some x) e = let z : _≡_ {A = ℕ} 0 1 = cc in absurd (omega arith)
-
--- a listed slot is one
-abbrev Ranged : Option Command → Type 0
-Ranged none = Unit {0}
-Ranged (some k) = InRange k
-
-only-ranged : (b : Bool) (k : Command) → InRange k → Ranged (cond b (some k) none)
-only-ranged true k h = h
-only-ranged false k h = tt
-
-slot-ranged : (p1 : ℕ) (k : Command) → (p1 < slotCount → InRange k) → Ranged (cond (ltb p1 slotCount) (some k) none)
-slot-ranged p1 k h = by (ltb p1 slotCount) refl
-  where
-    by : (b : Bool) → ltb p1 slotCount ≡ b → Ranged (cond b (some k) none)
-    by true e = h (ltb-true p1 slotCount e)
-    by false e = tt
-
-if-ranged : (b : Bool) (x y : Option Command) → Ranged x → Ranged y → Ranged (cond b x y)
-if-ranged true x y h g = h
-if-ranged false x y h g = g
-
-listed-ranged : (i : Instruction) (p1 : ℕ) → Ranged (byP1 i p1)
-listed-ranged ins.Select p1 = only-ranged (eqb p1 4) command.Select tt
-listed-ranged ins.Init p1 = only-ranged (eqb p1 0) command.Init tt
-listed-ranged ins.Open p1 = slot-ranged p1 (command.Open p1) (λ h. h)
-listed-ranged ins.Mutual p1 = only-ranged (eqb p1 0) command.Mutual tt
-listed-ranged ins.Pair p1 = if-ranged (eqb p1 0) _ _ tt (only-ranged (eqb p1 1) command.PairFinal tt)
-listed-ranged ins.Unpair p1 = slot-ranged p1 (command.Unpair p1) (λ h. h)
-listed-ranged ins.Status p1 = if-ranged (eqb p1 0) _ _ tt (only-ranged (eqb p1 1) _ tt)
-listed-ranged ins.Verify p1 = only-ranged (eqb p1 0) command.Verify tt
-listed-ranged ins.Change p1 = if-ranged (eqb p1 0) _ _ tt (if-ranged (eqb p1 1) _ _ tt (only-ranged (eqb p1 2) _ tt))
-listed-ranged ins.Unblock p1 = only-ranged (eqb p1 0) command.Unblock tt
-listed-ranged ins.Load p1 = if-ranged (eqb p1 1) _ _ tt (if-ranged (eqb p1 2) _ _ tt (only-ranged (eqb p1 3) _ tt))
-listed-ranged ins.Derive p1 = only-ranged (eqb p1 0) command.Derive tt
-listed-ranged ins.Remove p1 = only-ranged (eqb p1 0) command.Remove tt
-listed-ranged ins.SetPinless p1 = only-ranged (eqb p1 0) command.SetPinless tt
-listed-ranged ins.Sign p1 = only-ranged (eqb p1 0) command.Sign tt
-
-pub command-ranged : (i : Instruction) (p1 p2 : ℕ) (k : Command) → commandOf i p1 p2 ≡ some k → InRange k
-unfolding commandOf
-command-ranged i p1 p2 k e = subst Ranged e (if-ranged (eqb p2 0) (byP1 i p1) none (listed-ranged i p1) tt)
+pub unlisted : (o : Option Command) → choice.Unlisted ≡ choiceOf o → o ≡ none
+unlisted none e = refl
+unlisted (some x) e = let z : _≡_ {A = ℕ} 0 1 = cc in absurd (omega arith)
 
 module _ (tell : Reply → Told) (i : Instruction) (p1 p2 : ℕ) (c : Card) (d : List ℕ) where
   pub step5-listed : (k : Command) → commandOf i p1 p2 ≡ some k → step5 tell i p1 p2 c d ≡ step6 tell (atStake i p1 c) c d k

@@ -4,7 +4,8 @@ use Rattle.rules.specs.Words.{wrongParameters}
 use Rattle.route.specs.Routes.{tellBy}
 use Rattle.rules.specs.Steps.{atStake, commandOf}
 use mathlib.Core.Path.{sym, _∙_}
-use Rattle.route.proofs.Routing.{command-ranged, chosen, unlisted, routes-as, step5-listed, step5-unlisted, ends-route, paths-by, stake-keys}
+use Rattle.commands.proofs.Ranged.{command-ranged, chosen}
+use Rattle.route.proofs.Routing.{unlisted, routes-as, step5-listed, step5-unlisted, ends-route, paths-by, stake-keys}
 use borrow.Author.Needs.{needs}
 use Rattle.route.proofs.step_5.Statement.{statement}
 use Rattle.route.proofs.step_5.Tie as tie
