@@ -19,7 +19,7 @@ use Rattle.rules.specs.Words.{success, Reply, fails}
 use Rattle.rules.specs.Supplies.{initSupply, suits, saysYes, initKey}
 use Rattle.rules.specs.Steps.{afterStep1, dataOf, claOf, insOf, p1Of, p2Of, isInitialised, nameOf, isPlain, atStake, commandOf}
 use Rattle.rules.specs.Commands.{initChecks, isContent, initContent, initWith, initReply, checksOf, supplyOf, replyOf}
-use Rattle.rules.specs.Engine.{plainText, plainly, Decision, ends, step6, byChoice, step5, step4, byName, step3, byForm, step2, decide, answerRoom, Answered, answerOut}
+use Rattle.rules.specs.Engine.{plainText, plainly, Decision, ends, step6, byChoice, step5, step4, step3, byForm, step2, decide, answerRoom, Answered, answerOut}
 use Rattle.exchange_laws.proofs.Answers.{step1-initialised}
 
 abbrev says : List ℕ

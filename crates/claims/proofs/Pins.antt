@@ -1,6 +1,6 @@
 -- What ANSWER gives to a command over the channel, and the chain of four entries: three wrong ones take the tries from 3 to 0, and the
 -- right PIN is then not compared. Assumes nothing.
-use mathlib.Core.Path.{_≡_, refl, sym, ap, ap₂, _∙_, subst}
+use mathlib.Core.Path.{_≡_, refl, ap, ap₂, _∙_}
 use mathlib.Core.Bool.{Bool, true, false}
 use mathlib.Core.List.{List, [], _∷_}
 use Prim.Native.Nat.{ℕ, suc, _-_}
@@ -9,7 +9,6 @@ use borrow.Author.Tests.{ne-eqb}
 use lib.ListN.{take}
 use Rattle.octets.specs.Bytes.{sameBytes}
 use Rattle.octets.proofs.Lists.{same-eq}
-use Rattle.message.specs.declared.Session.{Session}
 use Rattle.message.specs.Message.{withIv}
 use Rattle.message.specs.Terminal.{sealedResponse}
 use Rattle.card.specs.declared.Channel.{Channel}
@@ -22,11 +21,10 @@ use Rattle.rules.specs.declared.Command.{Command}
 use Rattle.rules.specs.declared.Command.the-variants as command
 use Rattle.rules.specs.Words.{success, triesLeft, word, verdict, Reply, fails}
 use Rattle.rules.specs.Supplies.{suits}
-use Rattle.rules.specs.Steps.{afterStep1}
 use Rattle.rules.specs.Commands.{pinWrong, verifyChecks, verifyReply, verifyBy, checksOf, supplyOf, replyOf}
 use Rattle.rules.specs.Engine.{sessionOf, plainText, sealed, Answered, answered, answerOut}
 use Rattle.engine_laws.proofs.Sound.{answer-sound}
-use Rattle.exchange_laws.specs.Opens.{Opens, atStep6, outcome}
+use Rattle.exchange_laws.specs.Opens.{atStep6, outcome}
 use Rattle.exchange_laws.proofs.Answers.{step1-pins, step1-channel, stays-2, result-channel, answer-stage2}
 use Rattle.claims.specs.Rows.{Sent, Gives, Entry, entered, after, Entries}
 

@@ -2,22 +2,20 @@
 -- Assumes nothing.
 use mathlib.Core.Path.{_≡_, refl, sym, ap, _∙_}
 use mathlib.Core.Bool.{Bool, true, false, false≢true}
-use mathlib.Core.List.{List, []}
+use mathlib.Core.List.{List}
 use mathlib.Core.Logic.{_⊎_, inl, inr, ⊎-elim}
-use Prim.Native.Nat.{ℕ, _≤_, _<_}
+use Prim.Native.Nat.{ℕ}
 use native.Mathlib.Omega.{arith}
 use borrow.Author.Tests.{ltb-true, ltb-false}
 use lib.Dec.{ltb}
 use lib.ListN.{length}
 use Rattle.message.specs.declared.Session.{Session}
 use Rattle.message.specs.Terminal.{sealOut}
-use Rattle.walk.specs.declared.Fault.{Fault}
 use Rattle.walk.specs.declared.Fault.the-variants as fault
 use Rattle.walk.specs.declared.Walked.{Walked}
 use Rattle.walk.specs.declared.Walked.the-variants as walked
-use Rattle.walk.specs.Walk.{walkOf, Report, report}
+use Rattle.walk.specs.Walk.{walkOf, report}
 use Rattle.card.specs.declared.Card.{Card}
-use Rattle.card.specs.State.{zeros, freshOf, resetOf}
 use Rattle.card.specs.Sound.{isSound}
 use Rattle.card.specs.Shape.{Shaped}
 use Rattle.sound.specs.declared.Answer.{Answer}
@@ -26,7 +24,7 @@ use Rattle.record.specs.Parse.{slotsFrom, cardOf}
 use Rattle.record.specs.Answers.{writeRoom, writeRefusal, writeBytes, readAnswer}
 use Rattle.record.proofs.ReadFacts.{read-cases, read-refuses}
 use Rattle.engine_laws.proofs.Refusals.{ask-refused, ask-unsound, ask-room, ask-numbers, answer-refused, answer-unsound, answer-room, answer-supply, answer-numbers}
-use Rattle.claims.specs.Refusals.{AskRefuses, AnswerRefuses, ResetRefuses, WriteRefuses, IsRecord, ReadRefuses, SealRefuses, WalkRefuses, Refusals}
+use Rattle.claims.specs.Refusals.{ResetRefuses, WriteRefuses, IsRecord, ReadRefuses, SealRefuses, WalkRefuses, Refusals}
 use Rattle.claims.proofs.Genuine.{unseal-refuses}
 
 never : {b : Bool} {A : Type 0} → b ≡ true → b ≡ false → A

@@ -1,7 +1,7 @@
 -- The rows to settle, each from the rules that it speaks of.
 -- Assumes nothing.
 use mathlib.Core.Path.{_≡_, refl, sym, ap, ap₂, _∙_}
-use mathlib.Core.Bool.{Bool, true, false, _&&_, not, cond}
+use mathlib.Core.Bool.{Bool, true, _&&_, not, cond}
 use mathlib.Core.List.{List, [], _∷_, _++_, append-assoc}
 use mathlib.Core.Option.{none}
 use Prim.Native.Nat.{ℕ, _≤_}
@@ -12,14 +12,12 @@ use lib.ListN.{length, take, drop, length-append}
 use lib.Seq.{take-at, drop-at}
 use Rattle.padding.specs.Padding.{paddedBytes, pad, unpad}
 use Rattle.padding.proofs.Laws.{length-pad}
-use Rattle.template.specs.Template.{field}
-use Rattle.walk.specs.Walk.{fieldWith, fieldsOf, valueOf, WALK}
-use Rattle.answer_templates.specs.Answers.{status, signature}
+use Rattle.walk.specs.Walk.{fieldWith, fieldsOf, valueOf}
+use Rattle.answer_templates.specs.Answers.{signature}
 use Rattle.card.specs.declared.Pins.{Pins}
 use Rattle.card.specs.declared.Keys.{Keys}
 use Rattle.card.specs.declared.Card.{Card}
 use Rattle.card.specs.State.{zeros}
-use Rattle.card.specs.Slots.{isZero}
 use Rattle.card.specs.Sound.{isSound}
 use Rattle.rules.specs.declared.Report.the-variants as report
 use Rattle.rules.specs.declared.Command.{Command}
@@ -27,9 +25,9 @@ use Rattle.rules.specs.declared.Command.the-variants as command
 use Rattle.rules.specs.Words.{word, success, fails}
 use Rattle.rules.specs.Supplies.{suits}
 use Rattle.rules.specs.Steps.{closed, forgotten, begins, kept, afterStep1, dataOf, isInitialised, nameOf, isPlain, inStage}
-use Rattle.rules.specs.Commands.{hasKey, statusReply, signReply, checksOf, supplyOf, replyOf}
+use Rattle.rules.specs.Commands.{statusReply, signReply, checksOf, supplyOf, replyOf}
 use Rattle.rules.specs.Engine.{plainText, plainly, ends, byName, step2, step3, step4, decide, answerOut}
-use Rattle.exchange_laws.specs.Opens.{Opens, atStep6, outcome}
+use Rattle.exchange_laws.specs.Opens.{atStep6, outcome}
 use Rattle.exchange_laws.proofs.Answers.{step1-pins, step1-keys}
 use Rattle.claims.specs.Rows.{Sent, Gives, Initialises, initialised, InChannel, number32, Rows}
 use Rattle.claims.proofs.Pins.{gives, first-wrong, third-wrong, right-then}

@@ -1,7 +1,7 @@
 -- Entries that a terminal seals, one after the other; and the status row read from FRESH on, with keys and supplies of zeros.
 -- Assumes nothing.
 use mathlib.Core.Path.{_≡_, refl, sym, ap, _∙_, subst}
-use mathlib.Core.Bool.{Bool, true, false, not}
+use mathlib.Core.Bool.{true, false, not}
 use mathlib.Core.List.{List, [], _∷_}
 use mathlib.Core.Option.{some}
 use Prim.Native.Nat.{ℕ, _≤_}
@@ -13,10 +13,9 @@ use Rattle.octets.specs.Bytes.{Bytes}
 use Rattle.octets.proofs.Lists.{bytes-replicate}
 use Rattle.message.specs.Terminal.{Out, sealedCommand}
 use Rattle.card.specs.declared.Card.{Card}
-use Rattle.card.specs.State.{zeros, noKeys, freshOf}
-use Rattle.card.specs.Slots.{allOf, someOf, isZero}
+use Rattle.card.specs.State.{zeros, noKeys}
+use Rattle.card.specs.Slots.{allOf, isZero}
 use Rattle.card.specs.Sound.{isSound, isDigit}
-use Rattle.card.specs.Shape.{Shaped}
 use Rattle.card.proofs.Tests.{both}
 use Rattle.card.proofs.Rules.{pins-rules, parts-rules}
 use Rattle.card.proofs.SoundFacts.{fresh-sound}
@@ -29,14 +28,15 @@ use Rattle.rules.specs.declared.Command.the-variants as command
 use Rattle.rules.specs.Supplies.{suits}
 use Rattle.rules.specs.Steps.{isInitialised, nameOf, isPlain, inStage, commandOf}
 use Rattle.rules.specs.Commands.{statusReply, checksOf, supplyOf, replyOf}
-use Rattle.rules.specs.Engine.{sessionOf, Answered, answerOut}
+use Rattle.rules.specs.Engine.{sessionOf, answerOut}
 use Rattle.engine_laws.proofs.Sound.{answer-sound}
-use Rattle.exchange_laws.specs.Exchange.{Typed, Turn, sealedBy, answeredBy, unsealedBy, Names, InStage2}
-use Rattle.exchange_laws.proofs.Exchanges.{gives, is-after, opens-of, in-stage2}
-use Rattle.two_runs.specs.Runs.{Call, nextAt, endOf}
+use Rattle.exchange_laws.specs.Exchange.{Typed, Turn, answeredBy, unsealedBy, Names, InStage2}
+use Rattle.exchange_laws.proofs.Seals.{gives, is-after}
+use Rattle.exchange_laws.proofs.Exchanges.{opens-of, in-stage2}
+use Rattle.two_runs.specs.Runs.{nextAt}
 use Rattle.two_runs.proofs.Reached.{fresh, initCommand, initialisedCard, init-reaches, inChannel, session-keyed, stage2-reached, reached-sound}
-use Rattle.claims.specs.Rows.{Sent, Entry, after, Entries, Initialises, initialised, InChannel}
-use Rattle.claims.specs.RowsMet.{StatusRead, RowsMet}
+use Rattle.claims.specs.Rows.{Entry, after, Entries, Initialises}
+use Rattle.claims.specs.RowsMet.{RowsMet}
 use Rattle.claims.proofs.InitSays.{init-initialises}
 
 -- ---- a turn 80 b 00 00 with no supply, and the command that it names in stage 2

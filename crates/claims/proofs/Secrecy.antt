@@ -2,12 +2,12 @@
 -- Assumes nothing.
 use mathlib.Core.Path.{_≡_, refl, ap, ap₂, _∙_}
 use mathlib.Core.Bool.{true, false}
-use mathlib.Core.List.{List, [], _∷_, _++_}
+use mathlib.Core.List.{List, [], _∷_}
 use mathlib.Core.Option.{Option, some}
 use Prim.Native.Nat.{ℕ}
 use native.Mathlib.Omega.{arith}
 use lib.ListN.{length, getD, replicate}
-use Rattle.octets.proofs.Lists.{bytes-append, bytes-replicate}
+use Rattle.octets.proofs.Lists.{bytes-replicate}
 use Rattle.card.specs.declared.Pins.{Pins}
 use Rattle.card.specs.declared.Card.{Card}
 use Rattle.card.specs.State.{zeros, noKeys, withPins, withSecrets}
@@ -15,7 +15,7 @@ use Rattle.card.specs.Slots.{allOf, someOf}
 use Rattle.card.specs.Sound.{isSound}
 use Rattle.rules.specs.Commands.{keyWith}
 use Rattle.two_runs.specs.Comparison.{Comparison, pin, puk}
-use Rattle.two_runs.specs.Runs.{Call, comparisonAt}
+use Rattle.two_runs.specs.Runs.{Call}
 use Rattle.two_runs.proofs.TwoRuns.{two-runs}
 use Rattle.two_runs.proofs.Sealed.{InStage2}
 use Rattle.two_runs.proofs.Meets.{secrets-meet, Met, by, unblock-meets}

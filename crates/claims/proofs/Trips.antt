@@ -1,7 +1,7 @@
 -- Demand 2: each part is a law of the crate whose definitions it speaks of.
 -- Assumes nothing.
-use mathlib.Core.Path.{_≡_, refl, sym, ap, ap₂, _∙_}
-use mathlib.Core.Bool.{Bool, true, false, cond}
+use mathlib.Core.Path.{_≡_, refl, sym, ap, _∙_}
+use mathlib.Core.Bool.{Bool, true, false}
 use mathlib.Core.List.{List, _++_}
 use Prim.Native.Nat.{ℕ, _+_}
 use native.Mathlib.Omega.{arith}
@@ -15,16 +15,14 @@ use Rattle.answer_templates.proofs.Walks.{walk-pre-initialised, walk-applicatio
 use Rattle.card.specs.declared.Card.{Card}
 use Rattle.card.specs.State.{resetOf}
 use Rattle.card.specs.Sound.{isSound}
-use Rattle.card.specs.Shape.{Shaped}
 use Rattle.card.proofs.SoundFacts.{fresh-sound, reset-sound}
 use Rattle.sound.specs.declared.Answer.{Answer}
 use Rattle.sound.specs.Reset.{done, resetAnswer}
-use Rattle.record.specs.Answers.{writeRefusal, writeBytes, readAnswer}
+use Rattle.record.specs.Answers.{writeRefusal}
 use Rattle.record.proofs.ReadFacts.{read-write, write-read, read-sound, record-length}
 use Rattle.engine_laws.proofs.Sound.{answer-sound}
 use Rattle.engine_laws.proofs.Rooms.{answer-most, ask-most}
 use Rattle.engine_laws.proofs.Agreement.{unread-same, unread-taken, ask-empty, read-refused, read-taken, ask-data}
-use Rattle.claims.specs.Refusals.{WriteRefuses}
 use Rattle.claims.specs.Trips.{Trips}
 use Rattle.claims.proofs.Refusals.{refusals}
 

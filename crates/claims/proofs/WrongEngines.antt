@@ -1,7 +1,7 @@
 -- The wrong engines, each by a call that the rules answer otherwise. The card of the examples is the one that INIT makes of FRESH, with
 -- keys and supplies of zeros; the calls are the two steps of PAIR. Assumes nothing.
 use mathlib.Core.Path.{_≡_, refl, sym, ap, _∙_}
-use mathlib.Core.Bool.{true, false}
+use mathlib.Core.Bool.{true}
 use mathlib.Core.List.{List, [], _∷_, _++_}
 use Prim.Native.Nat.{ℕ, _≤_}
 use native.Mathlib.Omega.{arith}
@@ -17,7 +17,7 @@ use Rattle.rules.specs.Steps.{afterStep1, dataOf, nameOf, isPlain, atStake, com
 use Rattle.rules.specs.Commands.{pendingWith, withSlot, filledWith, pairFirstChecks, pairFirstReply, pairFinalChecks, pairInto, pairFinalReply, checksOf, supplyOf, replyOf}
 use Rattle.rules.specs.Engine.{step2, step3, step4, step5, step6, decide, Answered, answerOut}
 use Rattle.two_runs.proofs.Reached.{initialisedCard, initialised-sound}
-use Rattle.claims.specs.WrongEngines.{Changing, SecondAnswer, WrongEngines}
+use Rattle.claims.specs.WrongEngines.{WrongEngines}
 
 -- ---- the empty command
 nothing-answers : (c : Card) (supply : List ℕ) (room : ℕ) → isSound c ≡ true → 258 ≤ room

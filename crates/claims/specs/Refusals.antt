@@ -12,7 +12,7 @@ use Rattle.message.specs.Message.{Keyed}
 use Rattle.message.specs.Terminal.{sealOut, sealedResponse, unsealOut}
 use Rattle.walk.specs.Walk.{WALK}
 use Rattle.card.specs.declared.Card.{Card}
-use Rattle.card.specs.State.{zeros, freshOf, resetOf}
+use Rattle.card.specs.State.{zeros, freshOf}
 use Rattle.card.specs.Sound.{isSound}
 use Rattle.card.specs.Shape.{Shaped}
 use Rattle.sound.specs.Reset.{resetAnswer}

@@ -15,9 +15,7 @@ use Rattle.card.specs.declared.Card.{Card}
 use Rattle.card.specs.State.{zeros}
 use Rattle.card.specs.Sound.{isSound}
 use Rattle.rules.specs.declared.Report.the-variants as report
-use Rattle.rules.specs.declared.Command.{Command}
 use Rattle.rules.specs.declared.Command.the-variants as command
-use Rattle.rules.specs.Words.{word, success}
 use Rattle.rules.specs.Steps.{isInitialised}
 use Rattle.rules.specs.Commands.{replyOf}
 use Rattle.rules.specs.Engine.{sessionOf, answerOut}

@@ -14,7 +14,7 @@ use Rattle.message.specs.Terminal.{sealedResponse, unsealOut}
 use Rattle.walk.specs.Walk.{WALK}
 use Rattle.answer_templates.specs.Answers.{preInitialised, applicationInfo, status, signature}
 use Rattle.card.specs.declared.Card.{Card}
-use Rattle.card.specs.State.{freshOf, resetOf}
+use Rattle.card.specs.State.{freshOf}
 use Rattle.card.specs.Sound.{isSound}
 use Rattle.card.specs.Shape.{Shaped}
 use Rattle.sound.specs.Reset.{resetAnswer}

@@ -7,15 +7,13 @@ use mathlib.Core.List.{List, []}
 use mathlib.Core.Option.{some}
 use Prim.Native.Nat.{ℕ, _≤_}
 use native.Mathlib.Omega.{arith}
-use borrow.Author.Tests.{le-ltb, eqb-true, eq-eqb}
+use borrow.Author.Tests.{le-ltb, eqb-true}
 use lib.Dec.{eqb}
 use lib.ListN.{take}
 use Rattle.octets.specs.Bytes.{sameBytes}
 use Rattle.template.proofs.HeadFacts.{by-test}
 use Rattle.message.specs.Message.{commandHead, openField}
 use Rattle.card.specs.declared.Channel.{Channel}
-use Rattle.card.specs.declared.Pins.{Pins}
-use Rattle.card.specs.declared.Keys.{Keys}
 use Rattle.card.specs.declared.Card.{Card}
 use Rattle.card.specs.Sound.{isSound}
 use Rattle.rules.specs.declared.Instruction.{Instruction}
@@ -27,9 +25,9 @@ use Rattle.rules.specs.declared.Secret.the-variants as secret
 use Rattle.rules.specs.declared.Command.{Command}
 use Rattle.rules.specs.Words.{success, verdict, Reply, fails}
 use Rattle.rules.specs.Supplies.{suits, saysYes}
-use Rattle.rules.specs.Steps.{closed, forgotten, begins, dropped, afterStep1, dataOf, headerOf, claOf, insOf, p1Of, p2Of, isInitialised, nameOf, isPlain, inStage, atStake, commandOf}
+use Rattle.rules.specs.Steps.{closed, forgotten, begins, dropped, afterStep1, headerOf, claOf, insOf, p1Of, p2Of, nameOf, isPlain, inStage, atStake, commandOf}
 use Rattle.rules.specs.Commands.{mutualChecks, unpairReply, statusReply, verifyReply, verifyBy, changeReply, unblockReply, unblockBy, loadReply, deriveReply, removeReply, pinlessReply, signReply, checksOf, supplyOf, replyOf}
-use Rattle.rules.specs.Engine.{sessionOf, withMac, Told, plainly, sealed, overChannel, Decision, ends, step6, step5, step4, step3, step2, decide, answerRoom, Answered, answered, withSupply, answerOut}
+use Rattle.rules.specs.Engine.{sessionOf, withMac, Told, plainly, sealed, overChannel, Decision, ends, step6, step5, step4, step3, step2, decide, answered, withSupply, answerOut}
 use Rattle.exchange_laws.specs.Opens.{Opens, atStep6, outcome}
 use Rattle.exchange_laws.proofs.Listed.{Sealed, each-sealed}
 

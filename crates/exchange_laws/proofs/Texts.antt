@@ -1,6 +1,6 @@
 -- What a command over the channel answers is bytes: its response data and its status word, where the supply and the card's path are bytes.
 -- Assumes nothing.
-use mathlib.Core.Path.{_≡_, refl}
+use mathlib.Core.Path.{_≡_}
 use mathlib.Core.Bool.{Bool, true, false, _&&_}
 use mathlib.Core.List.{List, [], _∷_, _++_}
 use mathlib.Core.Logic.{⊎-elim}
@@ -13,11 +13,11 @@ use lib.ListN.{length, take, drop, length-append}
 use Rattle.octets.specs.Bytes.{Bytes, sameBytes}
 use Rattle.octets.proofs.Lists.{bytes-take, bytes-drop, bytes-append}
 use Rattle.template.specs.Template.{field, fieldHead}
-use Rattle.template.specs.Der.{leadingZeros, needsZero, withSign, derContent, derInteger}
+use Rattle.template.specs.Der.{leadingZeros, needsZero, derContent, derInteger}
 use Rattle.template.proofs.HeadFacts.{by-test, bytes-head, short-field}
 use Rattle.template.proofs.DerFacts.{der-length}
-use Rattle.answer_templates.specs.Answers.{keyByte, status, pair, signature}
-use Rattle.answer_templates.proofs.AnswerFacts.{integer-length, pair-length-le}
+use Rattle.answer_templates.specs.Answers.{status, pair, signature}
+use Rattle.answer_templates.proofs.AnswerFacts.{pair-length-le}
 use Rattle.card.specs.declared.Pins.{Pins}
 use Rattle.card.specs.declared.Card.{Card}
 use Rattle.card.specs.Slots.{isZero, allZero}
@@ -30,7 +30,6 @@ use Rattle.rules.specs.declared.Report.the-variants as report
 use Rattle.rules.specs.declared.Secret.{Secret}
 use Rattle.rules.specs.declared.Secret.the-variants as secret
 use Rattle.rules.specs.declared.Command.{Command}
-use Rattle.rules.specs.declared.Command.the-variants as command
 use Rattle.rules.specs.Words.{success, word, Check, verdict, Reply}
 use Rattle.rules.specs.Supplies.{saysYes, part, signKey, signR, signS}
 use Rattle.rules.specs.Steps.{isPlain, commandOf}
