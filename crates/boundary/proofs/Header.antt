@@ -22,5 +22,6 @@ four (a ∷ b ∷ c ∷ []) e = absurd (omega (arith, e))
 four (a ∷ b ∷ c ∷ d ∷ []) e = refl
 four (a ∷ b ∷ c ∷ d ∷ x ∷ s) e = absurd (omega (arith, e))
 
-pub seal-by : (s : Session) (p : List ℕ) (n : ℕ) (hd : List ℕ) {r : Outcome} {b a : List ℕ} → length hd ≡ 4 → Did (sealOut s (fourOf hd) p n) r b a → Did (sealOut s hd p n) r b a
+pub seal-by : (s : Session) (p : List ℕ) (n : ℕ) (hd : List ℕ) {r : Outcome} {b a : List ℕ} → length hd ≡ 4
+    → Did (sealOut s (fourOf hd) p n) r b a → Did (sealOut s hd p n) r b a
 seal-by s p n hd {r} {b} {a} e d = subst (λ (k : List ℕ). Did (sealOut s k p n) r b a) (four hd e) d
