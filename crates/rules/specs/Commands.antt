@@ -158,7 +158,7 @@ pairFinalChecks p stage d =
     ∷ must (sameBytes d (p .expected)) securityNotMet
     ∷ []
 
--- the pairing with this slot in the place of the one with this index, and no pending one
+-- the pairing with this slot in the place of the one with this index
 abbrev pub withSlot : Pairing → ℕ → Slot → Pairing
 withSlot p i slot = record { secret = p .secret; slots = set (p .slots) i slot; pending = p .pending; expected = p .expected }
 

@@ -1,4 +1,4 @@
--- Steps 1 to 5 of the order of checks (01, Order of checks for a command), each as a definition of its own. Crate `rules`, Engine, puts them
+-- Steps 1 to 5 of the order of checks (01, Order of checks for a command), each as a definition of its own; Engine.antt puts them
 -- in order. Every length, Lc included, is in bytes.
 use Prim.Native.Nat.{ℕ, _+_}
 use mathlib.Core.Bool.{Bool, true, false, _&&_, _||_, not, cond}
