@@ -148,7 +148,7 @@ fn answer_short(card: Card, cmd: &[u8], supply: &[u8]) -> Card {
     if n == 0 {
         return card;
     }
-    let less = n - 1;
+    let less = content::bounded(n - 1, supply);
     say(b"  one byte of the supply left out\n");
     let mut buf = [0u8; engine::ANSWER_ROOM_BYTES];
     let r = answer(card, cmd, &supply[..less], &mut buf);
