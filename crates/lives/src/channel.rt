@@ -1,11 +1,10 @@
 // The order of checks and the loss of the channel: commands of a wrong form, forged and repeated ones, MUTUAL's errors, power-up in
 // stage 1. Every length is in bytes.
-use crate::made;
-use crate::moves;
-use crate::moves::MUTUAL;
-use crate::moves::STATUS;
 use calls::Play;
 use calls::plain;
+use moves::MUTUAL;
+use moves::STATUS;
+use moves::made;
 
 fn wrong_forms(p: Play) -> Play {
     let a = plain(p, b"an empty command", b"", b"");
@@ -34,7 +33,7 @@ fn mutual_errors(p: Play) -> Play {
     let b = moves::open(a, b"OPEN", 0, 1, 0x73);
     let c = calls::sealed(b, b"MUTUAL, P1 01", MUTUAL, 1, &data, b"");
     let d = moves::open(c, b"OPEN", 0, 1, 0x74);
-    let e = calls::sealed(d, b"MUTUAL, 31 bytes", MUTUAL, 0, &data[..31], b"");
+    let e = calls::sealed(d, b"MUTUAL, 31 bytes", MUTUAL, 0, &[0x43; 31], b"");
     let f = moves::open_channel(e, 0, 0x75);
     moves::mutual(f, b"MUTUAL in stage 2")
 }

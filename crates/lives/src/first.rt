@@ -1,10 +1,9 @@
 // The first day of a card: before INIT, INIT, the first pairing, the first channel. Every length is in bytes.
-use crate::made;
-use crate::made::PIN;
-use crate::made::PUK;
-use crate::moves;
 use calls::Play;
 use calls::plain;
+use moves::made;
+use moves::made::PIN;
+use moves::made::PUK;
 
 fn before_init(p: Play) -> Play {
     let a = moves::select(p);

@@ -1,8 +1,7 @@
 // Keys: each form of LOAD, paths, signatures with the PIN and on a PIN-less path, and REMOVE. Every length is in bytes.
-use crate::made;
-use crate::made::PIN;
-use crate::moves;
 use calls::Play;
+use moves::made;
+use moves::made::PIN;
 
 // m/44'/60' and m/1581'/0, 4 bytes a component.
 const PATH: [u8; 8] = [0x80, 0, 0, 44, 0x80, 0, 0, 60];
@@ -14,10 +13,15 @@ fn plain_keys(p: Play) -> Play {
     let a = moves::load(p, b"LOAD, keypair", 1, &data, 1);
     let b = moves::sign(a, b"SIGN with the PIN", 0x04, 1);
     let c = moves::derive(b, b"DERIVE, the key is not extended", &PATH, 1);
-    let d = moves::load(c, b"LOAD, keypair under P1 02", 2, &data, 1);
-    let e = moves::load(d, b"LOAD, keypair, flag 00", 1, &data, 0);
+    let again = made::keypair();
+    moves::load(c, b"LOAD, keypair under P1 02", 2, &again, 1)
+}
+
+fn more_plain_keys(p: Play) -> Play {
+    let data = made::keypair();
+    let a = moves::load(p, b"LOAD, keypair, flag 00", 1, &data, 0);
     let with = made::keypair_with_public_key();
-    moves::load(e, b"LOAD, keypair with public key", 1, &with, 1)
+    moves::load(a, b"LOAD, keypair with public key", 1, &with, 1)
 }
 
 fn extended_keys(p: Play) -> Play {
@@ -61,8 +65,9 @@ fn seeds(p: Play) -> Play {
     let a = moves::sign(p, b"SIGN without the PIN, the master key", 0x90, 1);
     let b = moves::load(a, b"LOAD, seed, without the PIN", 3, &seed, 1);
     let c = moves::verify(b, b"VERIFY", PIN);
-    let d = moves::load(c, b"LOAD, seed of 63 bytes", 3, &seed[..63], 1);
-    let e = moves::load(d, b"LOAD, seed", 3, &seed, 1);
+    let d = moves::load(c, b"LOAD, seed of 63 bytes", 3, &[0x30; 63], 1);
+    let again = made::seed();
+    let e = moves::load(d, b"LOAD, seed", 3, &again, 1);
     let f = moves::derive(e, b"DERIVE", &PATH, 1);
     moves::status_path(f)
 }
@@ -79,9 +84,10 @@ fn end_of_keys(p: Play) -> Play {
 
 pub fn run(p: Play) -> Play {
     let a = plain_keys(p);
-    let b = extended_keys(a);
-    let c = signatures(b);
-    let d = without_pin(c);
-    let e = seeds(d);
-    end_of_keys(e)
+    let b = more_plain_keys(a);
+    let c = extended_keys(b);
+    let d = signatures(c);
+    let e = without_pin(d);
+    let f = seeds(e);
+    end_of_keys(f)
 }

