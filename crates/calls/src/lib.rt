@@ -229,7 +229,7 @@ pub fn sealed(p: Play, name: &[u8], ins: u8, p1: u8, data: &[u8], supply: &[u8])
     sealed_calls(Play { card, session }, &buf[..n], supply)
 }
 
-// The same with one bit of the last byte changed on the way: the terminal keeps its session.
+// The same with one bit of the ciphertext changed on the way: the terminal keeps its session.
 pub fn forged(p: Play, name: &[u8], ins: u8, p1: u8, data: &[u8]) -> Play {
     let mut buf = [0u8; terminal::SEAL_ROOM_BYTES];
     let o = terminal::seal(p.session, 0x80, ins, p1, 0, data, &mut buf);

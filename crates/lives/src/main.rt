@@ -2,12 +2,9 @@
 // hexadecimal with its status word. Every length, room and count is in bytes.
 // Proved: every function is safe and ends. What the card answers is compared with a model of 01, not proved: that is proved in the crates
 // below.
-mod channel;
 mod first;
 mod keys;
-mod pairings;
 mod pins;
-mod refused;
 
 use print::say;
 
@@ -19,11 +16,11 @@ fn main() {
     say(b"---- PIN and PUK\n");
     let c = pins::run(b);
     say(b"---- slots\n");
-    let d = pairings::run(c);
+    let d = faults::pairings::run(c);
     say(b"---- the channel\n");
-    let e = channel::run(d);
+    let e = faults::channel::run(d);
     say(b"---- refusals\n");
-    refused::run(e);
+    faults::refused::run(e);
     say(b"---- the last day\n");
     let f = pins::last(e);
     calls::power_up(f);
