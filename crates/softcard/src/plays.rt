@@ -1,0 +1,231 @@
+// Which call a line is, whether it has the words that the call takes, and the call itself.
+use crate::args;
+use crate::args::is_word;
+use crate::card_calls;
+use crate::channel_calls;
+use crate::desk::Desk;
+use print::say;
+
+enum Call {
+    Fresh,
+    Reset,
+    Read,
+    Write,
+    Sound,
+    Card,
+    Set,
+    Ask,
+    Answer,
+    Seal,
+    Unseal,
+    Send,
+    Walk,
+    Session,
+    Help,
+    Unknown,
+}
+
+fn card_call(line: &[u8]) -> Call {
+    if is_word(line, 0, b"fresh") {
+        return Call::Fresh;
+    }
+    if is_word(line, 0, b"reset") {
+        return Call::Reset;
+    }
+    if is_word(line, 0, b"read") {
+        return Call::Read;
+    }
+    if is_word(line, 0, b"write") {
+        return Call::Write;
+    }
+    if is_word(line, 0, b"sound") {
+        return Call::Sound;
+    }
+    if is_word(line, 0, b"card") {
+        return Call::Card;
+    }
+    if is_word(line, 0, b"set") {
+        return Call::Set;
+    }
+    Call::Unknown
+}
+
+fn channel_call(line: &[u8]) -> Call {
+    if is_word(line, 0, b"ask") {
+        return Call::Ask;
+    }
+    if is_word(line, 0, b"answer") {
+        return Call::Answer;
+    }
+    if is_word(line, 0, b"seal") {
+        return Call::Seal;
+    }
+    if is_word(line, 0, b"unseal") {
+        return Call::Unseal;
+    }
+    if is_word(line, 0, b"send") {
+        return Call::Send;
+    }
+    if is_word(line, 0, b"walk") {
+        return Call::Walk;
+    }
+    if is_word(line, 0, b"session") {
+        return Call::Session;
+    }
+    if is_word(line, 0, b"help") {
+        return Call::Help;
+    }
+    Call::Unknown
+}
+
+fn call_of(line: &[u8]) -> Call {
+    let c = card_call(line);
+    match c {
+        Call::Unknown => channel_call(line),
+        _ => c,
+    }
+}
+
+// Whether a call may have n words, its name included.
+fn takes(call: Call, n: usize) -> bool {
+    match call {
+        Call::Fresh => n == 3,
+        Call::Reset => n == 1,
+        Call::Read => n == 2,
+        Call::Write => n == 1 || n == 3,
+        Call::Sound => n == 1,
+        Call::Card => n == 1,
+        Call::Set => n == 3,
+        Call::Ask => n == 2 || n == 4,
+        Call::Answer => n == 3 || n == 5,
+        Call::Seal => n == 3 || n == 5,
+        Call::Unseal => n == 2 || n == 4,
+        Call::Send => n == 4,
+        Call::Walk => n == 2,
+        Call::Session => n == 1 || n == 2 || n == 4,
+        Call::Help => n == 1,
+        Call::Unknown => false,
+    }
+}
+
+fn help() {
+    say(b"fresh UID KEY                  a pre-initialised card; UID has 16 bytes, KEY 65 bytes\n");
+    say(b"reset                          power-up\n");
+    say(b"ask COMMAND [room N]           which supply the card will read\n");
+    say(b"answer COMMAND SUPPLY [room N] the card's response\n");
+    more_help();
+}
+
+fn more_help() {
+    say(
+        b"seal HEADER DATA [room N]      a sealed command; HEADER has 4 bytes, DATA at most 223 bytes\n",
+    );
+    say(b"unseal RESPONSE [room N]       what a sealed response holds\n");
+    say(b"send HEADER DATA SUPPLY        seal, ask, answer and unseal\n");
+    say(b"walk BYTES                     how many fields that are no templates\n");
+    card_help();
+}
+
+fn card_help() {
+    say(b"write [room N]                 the card's stored record\n");
+    say(b"read RECORD                    the card of a stored record\n");
+    say(b"sound                          whether the card is sound\n");
+    say(b"card                           every field of the card\n");
+    say(b"set FIELD BYTES                puts bytes into a field of the card\n");
+    last_help();
+}
+
+fn last_help() {
+    say(
+        b"session [ENC MAC IV]           the terminal's session, or a new one: 32, 32 and 16 bytes\n",
+    );
+    say(b"session card                   the session of the card's channel\n");
+    say(b"Bytes: 00A4, 00*32 (32 times), A0+16 (16 rising), last, - (none), 01.11*32 (joined).\n");
+    say(b"room N lends a buffer of N bytes, 0 to 1024. Every length is in bytes.\n");
+}
+
+fn play_card(d: Desk, call: Call, line: &[u8]) -> Desk {
+    match call {
+        Call::Fresh => card_calls::fresh(d, line),
+        Call::Reset => card_calls::reset(d),
+        Call::Read => card_calls::read(d, line),
+        Call::Write => card_calls::write(d, line),
+        Call::Set => card_calls::set(d, line),
+        Call::Sound => {
+            card_calls::sound(d);
+            d
+        }
+        _ => {
+            card_calls::card(d);
+            d
+        }
+    }
+}
+
+fn play_channel(d: Desk, call: Call, line: &[u8]) -> Desk {
+    match call {
+        Call::Answer => channel_calls::answer(d, line),
+        Call::Seal => channel_calls::seal(d, line),
+        Call::Unseal => channel_calls::unseal(d, line),
+        Call::Send => channel_calls::send(d, line),
+        Call::Session => channel_calls::session(d, line),
+        Call::Ask => {
+            channel_calls::ask(d, line);
+            d
+        }
+        _ => {
+            channel_calls::walk(d, line);
+            d
+        }
+    }
+}
+
+// Whether a call is on the card alone.
+fn is_card_call(call: Call) -> bool {
+    match call {
+        Call::Fresh
+        | Call::Reset
+        | Call::Read
+        | Call::Write
+        | Call::Set
+        | Call::Sound
+        | Call::Card => true,
+        _ => false,
+    }
+}
+
+fn is_help(call: Call) -> bool {
+    match call {
+        Call::Help => true,
+        _ => false,
+    }
+}
+
+fn is_unknown(call: Call) -> bool {
+    match call {
+        Call::Unknown => true,
+        _ => false,
+    }
+}
+
+// A line with at least one word.
+pub fn play(d: Desk, line: &[u8]) -> Desk {
+    let call = call_of(line);
+    if is_unknown(call) {
+        args::bad(b"no such call, help lists them");
+        return d;
+    }
+    if !takes(call, words::count(line)) {
+        args::bad_words(line);
+        return d;
+    }
+    if is_help(call) {
+        help();
+        return d;
+    }
+    if is_card_call(call) {
+        play_card(d, call, line)
+    } else {
+        play_channel(d, call, line)
+    }
+}

@@ -1,0 +1,143 @@
+// The operations that write to a buffer, each with what comes of it: ASK, ANSWER, SEAL, UNSEAL, WRITE.
+use crate::desk;
+use crate::desk::Desk;
+use card_bytes::CARD_BYTES;
+use print::say;
+use words::VALUE_MAX_BYTES;
+
+// Whether a step was done and not refused, and the desk behind it.
+pub struct Step {
+    pub done: bool,
+    pub desk: Desk,
+}
+
+fn say_refused(name: &[u8], refusal: u8, room_bytes: usize) {
+    say(name);
+    say(b" ");
+    told::say_refusal(refusal, room_bytes);
+    say(b"\n");
+}
+
+// What was written from a buffer's start.
+fn say_data(buf: &[u8], count: usize) {
+    let n = content::bounded(count, buf);
+    told::say_bytes(b"  data", &buf[..n]);
+}
+
+fn ask_in(card: [u8; CARD_BYTES], cmd: &[u8], buf: &mut [u8]) -> bool {
+    let a = byte_calls::ask(card, cmd, buf);
+    if a.refusal != 0 {
+        say_refused(b"ask:", a.refusal, engine::ASK_ROOM_BYTES);
+        return false;
+    }
+    say(b"ask: ");
+    told::say_supply(a.kind);
+    say(b"\n");
+    if a.kind != 0 {
+        say_data(buf, a.count);
+    }
+    true
+}
+
+// ASK; whether it was done and not refused.
+pub fn ask(card: [u8; CARD_BYTES], cmd: &[u8], room_bytes: usize) -> bool {
+    let mut buf = [0u8; VALUE_MAX_BYTES];
+    let n = content::bounded(room_bytes, &buf);
+    ask_in(card, cmd, &mut buf[..n])
+}
+
+// What was written from a buffer's start: it is shown, with its status word where it ends in one, and is now the last.
+pub fn wrote(d: Desk, name: &[u8], buf: &[u8], count: usize, with_status: bool) -> Desk {
+    let n = content::bounded(count, buf);
+    told::say_bytes(name, &buf[..n]);
+    if with_status {
+        told::say_status(&buf[..n]);
+    }
+    desk::with_last(d, &buf[..n])
+}
+
+fn answer_in(d: Desk, cmd: &[u8], supply: &[u8], buf: &mut [u8]) -> Step {
+    let found = d.card;
+    let r = byte_calls::answer(found, cmd, supply, buf);
+    if r.refusal != 0 {
+        say_refused(b"answer:", r.refusal, engine::ANSWER_ROOM_BYTES);
+        return Step {
+            done: false,
+            desk: d,
+        };
+    }
+    let next = wrote(d, b"answer:", buf, r.count, true);
+    let card = r.card;
+    let desk = desk::with_card(next, card);
+    Step { done: true, desk }
+}
+
+// ANSWER.
+pub fn answer(d: Desk, cmd: &[u8], supply: &[u8], room_bytes: usize) -> Step {
+    let mut buf = [0u8; VALUE_MAX_BYTES];
+    let n = content::bounded(room_bytes, &buf);
+    answer_in(d, cmd, supply, &mut buf[..n])
+}
+
+fn seal_in(d: Desk, header: [u8; 4], plain: &[u8], buf: &mut [u8]) -> Step {
+    let found = d.session;
+    let r = byte_calls::seal(found, header, plain, buf);
+    if r.refusal != 0 {
+        say_refused(b"seal:", r.refusal, terminal::SEAL_ROOM_BYTES);
+        return Step {
+            done: false,
+            desk: d,
+        };
+    }
+    let next = wrote(d, b"seal:", buf, r.count, false);
+    let session = r.session;
+    let desk = desk::with_session(next, session);
+    Step { done: true, desk }
+}
+
+// SEAL. The header is CLA INS P1 P2.
+pub fn seal(d: Desk, header: [u8; 4], plain: &[u8], room_bytes: usize) -> Step {
+    let mut buf = [0u8; VALUE_MAX_BYTES];
+    let n = content::bounded(room_bytes, &buf);
+    seal_in(d, header, plain, &mut buf[..n])
+}
+
+fn unseal_in(d: Desk, response: &[u8], buf: &mut [u8]) -> Step {
+    let found = d.session;
+    let r = byte_calls::unseal(found, response, buf);
+    if r.refusal != 0 {
+        say_refused(b"unseal:", r.refusal, terminal::UNSEAL_ROOM_BYTES);
+        return Step {
+            done: false,
+            desk: d,
+        };
+    }
+    let next = wrote(d, b"unseal:", buf, r.count, true);
+    let session = r.session;
+    let desk = desk::with_session(next, session);
+    Step { done: true, desk }
+}
+
+// UNSEAL.
+pub fn unseal(d: Desk, response: &[u8], room_bytes: usize) -> Step {
+    let mut buf = [0u8; VALUE_MAX_BYTES];
+    let n = content::bounded(room_bytes, &buf);
+    unseal_in(d, response, &mut buf[..n])
+}
+
+fn write_in(d: Desk, buf: &mut [u8]) -> Desk {
+    let found = d.card;
+    let r = byte_calls::write(found, buf);
+    if r.refusal != 0 {
+        say_refused(b"write:", r.refusal, record::ROOM_BYTES);
+        return d;
+    }
+    wrote(d, b"write:", buf, r.count, false)
+}
+
+// WRITE.
+pub fn write(d: Desk, room_bytes: usize) -> Desk {
+    let mut buf = [0u8; VALUE_MAX_BYTES];
+    let n = content::bounded(room_bytes, &buf);
+    write_in(d, &mut buf[..n])
+}

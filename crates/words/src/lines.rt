@@ -1,0 +1,161 @@
+// Lines of standard input, and the words of a line. Words have spaces or tabs between them.
+ghost use Prim.Native.Nat.{_≤_};
+ghost use lib.ListN.{length};
+use libc::STDIN_FILENO;
+
+// A part of a line: from byte `start` up to byte `end`, which is not in it.
+pub struct Span {
+    pub start: usize,
+    pub end: usize,
+}
+
+// What was read: whether there was a line at all, its length, and whether more of it was dropped.
+pub struct Line {
+    pub found: bool,
+    pub len: usize,
+    pub dropped: bool,
+}
+
+// The next byte of the input, where there is one.
+struct Next {
+    found: bool,
+    byte: u8,
+}
+
+fn next_byte() -> Next {
+    let mut one = [0u8; 1];
+    let got = libc::read(STDIN_FILENO, &mut one);
+    Next {
+        found: got == 1,
+        byte: one[0],
+    }
+}
+
+// Puts a byte into buf where there is room for it, and tells whether there was.
+fn keep(buf: &mut [u8], at: usize, b: u8) -> bool {
+    if at < buf.len() {
+        buf[at] = b;
+        return true;
+    }
+    false
+}
+
+// Reads a line, up to its line feed, and drops what buf has no room for.
+pub fn read_line(buf: &mut [u8]) -> Line {
+    let mut len = 0;
+    let mut found = false;
+    let mut dropped = false;
+    let mut left = usize::MAX;
+    while left > 0 {
+        let next = next_byte();
+        if !next.found {
+            return Line {
+                found,
+                len,
+                dropped,
+            };
+        }
+        found = true;
+        if next.byte == b'\n' {
+            return Line {
+                found,
+                len,
+                dropped,
+            };
+        }
+        if keep(buf, len, next.byte) {
+            len = std::num::wrapping_add_usize(len, 1);
+        } else {
+            dropped = true;
+        }
+        left -= 1;
+    }
+    Line {
+        found,
+        len,
+        dropped,
+    }
+}
+
+fn is_blank(c: u8) -> bool {
+    c == b' ' || c == b'\t'
+}
+
+// How many bytes a line has without a carriage return at its end.
+pub fn trimmed(s: &[u8]) -> usize {
+    let n = s.len();
+    if n > 0 {
+        let last = n - 1;
+        if s[last] == b'\r' {
+            return last;
+        }
+    }
+    n
+}
+
+// The first place from `at` on with no blank, or the line's end.
+fn blanks_end(s: &[u8], at: usize) -> usize
+    requires { ⌜ at ≤ length (now s) ⌝ }
+    ensures { λ r. ⌜ (at ≤ r) × (r ≤ length (now (s .entry))) ⌝ }
+{
+    let mut i = at;
+    while i < s.len() {
+        if !is_blank(s[i]) {
+            return i;
+        }
+        i += 1;
+    }
+    i
+}
+
+// The first place from `at` on with a blank, or the line's end.
+fn word_end(s: &[u8], at: usize) -> usize
+    requires { ⌜ at ≤ length (now s) ⌝ }
+    ensures { λ r. ⌜ (at ≤ r) × (r ≤ length (now (s .entry))) ⌝ }
+{
+    let mut i = at;
+    while i < s.len() {
+        if is_blank(s[i]) {
+            return i;
+        }
+        i += 1;
+    }
+    i
+}
+
+// Word number k of a line, from 0; where there are fewer, none of its bytes.
+pub fn word(s: &[u8], k: usize) -> Span
+    ensures { λ r. ⌜ (r .start ≤ r .end) × (r .end ≤ length (now (s .entry))) ⌝ }
+{
+    let mut at = blanks_end(s, 0);
+    let mut i = 0;
+    while i < k {
+        let end = word_end(s, at);
+        at = blanks_end(s, end);
+        i += 1;
+    }
+    let end = word_end(s, at);
+    Span { start: at, end }
+}
+
+// How many words a line has.
+pub fn count(s: &[u8]) -> usize {
+    let mut n = 0;
+    let mut blank_before = true;
+    let mut i = 0;
+    while i < s.len() {
+        let blank = is_blank(s[i]);
+        if blank_before & !blank {
+            n = std::num::wrapping_add_usize(n, 1);
+        }
+        blank_before = blank;
+        i += 1;
+    }
+    n
+}
+
+// Whether the first word begins with '#'.
+pub fn is_comment(s: &[u8]) -> bool {
+    let at = blanks_end(s, 0);
+    if at < s.len() { s[at] == b'#' } else { false }
+}
