@@ -111,7 +111,7 @@ enum {
 /* Status words: the last two bytes of an answer, the high byte first (in a sealed answer, of its plaintext). */
 enum tw_status_word {
     TW_SW_SUCCESS = 0x9000,
-    TW_SW_TRIES_LEFT = 0x63C0, /* plus the number of tries left, 0 to 5 */
+    TW_SW_TRIES_LEFT = 0x63C0, /* plus the tries left: 0 to 2 of the PIN, 0 to 4 of the PUK */
     TW_SW_WRONG_LENGTH = 0x6700,
     TW_SW_SECURITY_NOT_MET = 0x6982,
     TW_SW_REFERENCE_INVALID = 0x6984,
