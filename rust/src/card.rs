@@ -242,7 +242,7 @@ impl fmt::Debug for Card {
     fn fmt(&self, f: &mut fmt::Formatter<'_>) -> fmt::Result {
         f.debug_struct("Card")
             .field("initialised", &self.is_initialised())
-            .field("uid", &self.uid)
+            .field("uid", &format_args!("{:02X?}", self.uid))
             .field("pin_tries", &self.pin_tries)
             .field("puk_tries", &self.puk_tries)
             .field("verified", &self.is_verified())

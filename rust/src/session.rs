@@ -78,6 +78,8 @@ impl Session {
 /// No key is shown.
 impl fmt::Debug for Session {
     fn fmt(&self, f: &mut fmt::Formatter<'_>) -> fmt::Result {
-        f.debug_struct("Session").field("iv", &self.iv).finish_non_exhaustive()
+        f.debug_struct("Session")
+            .field("iv", &format_args!("{:02X?}", self.iv))
+            .finish_non_exhaustive()
     }
 }

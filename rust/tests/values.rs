@@ -72,6 +72,10 @@ fn debug_shows_no_secret() {
     let session = Session::new(&[1; 32], &[2; 32], &[3; 16]);
     let other = Session::new(&[4; 32], &[5; 32], &[3; 16]);
     assert_eq!(format!("{session:?}"), format!("{other:?}"));
+    assert_eq!(
+        format!("{session:?}"),
+        format!("Session {{ iv: [{}], .. }}", ["03"; IV_BYTES].join(", "))
+    );
 }
 
 #[test]
