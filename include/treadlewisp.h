@@ -1,10 +1,13 @@
 /* The engine of a wallet card, for C and C++: the functions of the library that `rt staticlib treadlewisp` writes, on x86-64 Linux.
-   Every length, room and count is in bytes unless the line says fields or tries. Nothing is kept between calls, and nothing is allocated.
+   Every length, room and count is in bytes unless the line says fields or tries. Nothing is kept between calls, and nothing is allocated;
+   of the C library only memcpy and memset are needed.
    What is proved of each function stands at its name in crates/treadlewisp/src/lib.rt. It holds if the caller ensures, at every call:
-   - each pointer is valid for the bytes named (a buffer and a record that is changed: to write), and not null, also where the length is 0;
+   - each pointer is valid for the bytes named (a buffer, and a card or session that is changed: to read and write), and is not null, also
+     where the length is 0; no pointer needs an alignment;
    - a length is the number of bytes that may be read, or written, from its pointer on, and is under 2^63;
    - memory that a call may write (card or session without const, buffer) overlaps no other argument of that call, and no other thread
-     reads or writes it meanwhile; memory that a call only reads is written by no one meanwhile. */
+     reads or writes it meanwhile; memory that a call only reads is written by no one meanwhile.
+   The same stands at each function, for its own arguments. */
 #ifndef TREADLEWISP_H
 #define TREADLEWISP_H
 
@@ -24,19 +27,25 @@ enum {
     TW_PUBLIC_KEY_BYTES = 65,
     TW_PIN_BYTES = 6,
     TW_PUK_BYTES = 12,
-    TW_KEY_BYTES = 32,
+    TW_KEY_BYTES = 32, /* also a pairing secret, a cryptogram, a key UID */
     TW_IV_BYTES = 16,
-    TW_PATH_MAX_BYTES = 40,
-    TW_HEADER_BYTES = 4,
-    TW_CARD_BYTES = 529,
-    TW_SESSION_BYTES = 80
+    TW_MAC_BYTES = 16,
+    TW_COMPONENT_BYTES = 4, /* one component of a path */
+    TW_PATH_MAX_BYTES = 40, /* 10 components */
+    TW_SLOT_BYTES = 33,
+    TW_PATH_BYTES = 41,   /* a path in a card: its length and room for 40 */
+    TW_HEADER_BYTES = 4,  /* CLA INS P1 P2 */
+    TW_STATUS_BYTES = 2,  /* a status word, the high byte first */
+    TW_CARD_BYTES = 529,  /* a card, as tw_card; not the stored record */
+    TW_SESSION_BYTES = 80 /* a session, as tw_session */
 };
 
-/* How many pairing slots a card has, and how many tries a PIN and a PUK start with. */
+/* How many pairing slots a card has, how many tries a PIN and a PUK start with, and how deep templates may nest (a top one is at 1). */
 enum {
     TW_SLOTS = 5,
     TW_PIN_TRIES = 3,
-    TW_PUK_TRIES = 5
+    TW_PUK_TRIES = 5,
+    TW_WALK_DEPTH_MAX = 4
 };
 
 /* The least room of a buffer, in bytes; under it the operation is refused with TW_ROOM. */
@@ -53,22 +62,29 @@ enum {
     TW_DATA_MAX_BYTES = 223
 };
 
-/* Refusals. A refused call reports count and kind 0, writes nothing to the buffer and leaves card and session as they were
-   (tw_read: the card becomes FRESH of zeros). */
+/* The length of a stored record, in bytes: before INIT, and the least and the greatest after it. */
 enum {
+    TW_RECORD_FRESH_BYTES = 91,
+    TW_RECORD_MIN_BYTES = 336,
+    TW_RECORD_MAX_BYTES = 448
+};
+
+/* Refusals. A refused call reports count and kind 0, writes nothing to the buffer and leaves card and session as they were
+   (tw_read: the card becomes FRESH of zeros). Where several apply, the lowest is given; of 4 and 5, the one that is met first. */
+enum tw_refusal {
     TW_DONE = 0,         /* not refused */
     TW_UNSOUND = 1,      /* RESET, ASK, ANSWER, WRITE: the card is not sound */
     TW_ROOM = 2,         /* the buffer is smaller than the operation asks for */
     TW_BAD_SUPPLY = 3,   /* ANSWER reads a supply, and its length or its flag byte is wrong */
     TW_MALFORMED = 4,    /* WALK: no sequence of fields */
-    TW_TOO_DEEP = 5,     /* WALK: templates nest deeper than 4 */
+    TW_TOO_DEEP = 5,     /* WALK: templates nest deeper than 4 (TW_WALK_DEPTH_MAX) */
     TW_TOO_LONG = 6,     /* SEAL: more than 223 bytes of data */
     TW_NOT_GENUINE = 7,  /* UNSEAL: the response does not open */
     TW_NOT_RECORD = 8    /* READ: the bytes are no card's record */
 };
 
 /* Kinds of supply, as ASK reports them. A flag is one byte, 00 (no) or 01 (yes); after 00 the rest is there but not read. */
-enum {
+enum tw_supply_kind {
     TW_SUPPLY_NONE = 0,       /* ANSWER reads no supply */
     TW_SUPPLY_INIT = 1,       /* 33 bytes: flag, AES key 32 */
     TW_SUPPLY_OPEN = 2,       /* 113 bytes: flag, encryption key 32, MAC key 32, salt 32, IV 16 */
@@ -80,10 +96,23 @@ enum {
     TW_SUPPLY_SIGN = 8        /* 129 bytes: public key 65, r 32, s 32 */
 };
 
-/* Status words: the last two bytes of an answer, the high byte first (in a sealed answer, of its plaintext). */
+/* The length of each kind of supply, in bytes. ANSWER refuses any other with TW_BAD_SUPPLY. */
 enum {
+    TW_SUPPLY_INIT_BYTES = 33,
+    TW_SUPPLY_OPEN_BYTES = 113,
+    TW_SUPPLY_MUTUAL_BYTES = 32,
+    TW_SUPPLY_PAIR_FIRST_BYTES = 96,
+    TW_SUPPLY_PAIR_FINAL_BYTES = 64,
+    TW_SUPPLY_LOAD_BYTES = 33,
+    TW_SUPPLY_DERIVE_BYTES = 1,
+    TW_SUPPLY_SIGN_BYTES = 129,
+    TW_SUPPLY_MAX_BYTES = 129 /* no supply is longer */
+};
+
+/* Status words: the last two bytes of an answer, the high byte first (in a sealed answer, of its plaintext). */
+enum tw_status_word {
     TW_SW_SUCCESS = 0x9000,
-    TW_SW_TRIES_LEFT = 0x63C0, /* plus the number of tries left, 0 to 5 */
+    TW_SW_TRIES_LEFT = 0x63C0, /* plus the tries left: 0 to 2 of the PIN, 0 to 4 of the PUK */
     TW_SW_WRONG_LENGTH = 0x6700,
     TW_SW_SECURITY_NOT_MET = 0x6982,
     TW_SW_REFERENCE_INVALID = 0x6984,
@@ -96,59 +125,101 @@ enum {
     TW_SW_UNKNOWN_CLASS = 0x6E00
 };
 
-/* Stages of the secure channel. */
+/* The class byte: 00 for SELECT, 80 for all other commands. */
+enum tw_class {
+    TW_CLASS_SELECT = 0x00,
+    TW_CLASS_CARD = 0x80
+};
+
+/* The instruction byte of each command. SELECT, INIT, OPEN and PAIR are plain; all others are sealed by SEAL. */
+enum tw_instruction {
+    TW_INS_SELECT = 0xA4,
+    TW_INS_INIT = 0xFE,
+    TW_INS_OPEN = 0x10, /* P1: the slot, 0 to 4 */
+    TW_INS_MUTUAL = 0x11,
+    TW_INS_PAIR = 0x12,
+    TW_INS_UNPAIR = 0x13, /* P1: the slot, 0 to 4 */
+    TW_INS_GET_STATUS = 0xF2,
+    TW_INS_VERIFY = 0x20,
+    TW_INS_CHANGE = 0x21,
+    TW_INS_UNBLOCK = 0x22,
+    TW_INS_LOAD = 0xD0,
+    TW_INS_DERIVE = 0xD1,
+    TW_INS_REMOVE = 0xD3,
+    TW_INS_SET_PINLESS_PATH = 0xC1,
+    TW_INS_SIGN = 0xC0
+};
+
+/* P1 where it is a choice. For other commands it is 00, and P2 is 00 for all. */
 enum {
+    TW_P1_SELECT = 0x04,
+    TW_P1_PAIR_FIRST = 0x00,
+    TW_P1_PAIR_FINAL = 0x01,
+    TW_P1_STATUS_TRIES = 0x00, /* tries left, and whether there is a key */
+    TW_P1_STATUS_PATH = 0x01,  /* the current path */
+    TW_P1_CHANGE_PIN = 0x00,
+    TW_P1_CHANGE_PUK = 0x01,
+    TW_P1_CHANGE_SECRET = 0x02, /* the pairing secret */
+    TW_P1_LOAD_PLAIN = 0x01,
+    TW_P1_LOAD_EXTENDED = 0x02,
+    TW_P1_LOAD_SEED = 0x03
+};
+
+/* Stages of the secure channel. */
+enum tw_stage {
     TW_STAGE_CLOSED = 0,
     TW_STAGE_OPENED = 1,
     TW_STAGE_MUTUAL = 2 /* mutually authenticated */
 };
 
 /* Kinds of the card's key. */
-enum {
+enum tw_key_kind {
     TW_KEY_NONE = 0,
     TW_KEY_PLAIN = 1,
     TW_KEY_EXTENDED = 2
 };
 
-/* A card. It is made of bytes alone, so it has no padding and may lie at any address. A flag is 0 or 1. */
+/* A card. It is made of bytes alone, so it has no padding and may lie at any address. Any 529 bytes may be given; those that are no
+   sound card are refused with TW_UNSOUND. A flag is 0 or 1. The number before a field is its offset in bytes. PIN, PUK and keys are in it
+   as they are. */
 typedef struct tw_slot {
-    uint8_t filled; /* flag */
-    uint8_t key[TW_KEY_BYTES];
+    uint8_t filled;            /* flag */
+    uint8_t key[TW_KEY_BYTES]; /* pairing key, zero in a free slot */
 } tw_slot;
 
 typedef struct tw_path {
-    uint8_t len; /* bytes in use, 4 a component, at most 40 */
-    uint8_t bytes[TW_PATH_MAX_BYTES];
+    uint8_t len;                      /* bytes in use, 4 a component, at most 40 */
+    uint8_t bytes[TW_PATH_MAX_BYTES]; /* high byte of a component first, zero past the end */
 } tw_path;
 
 typedef struct tw_card {
-    uint8_t initialised; /* flag */
-    uint8_t uid[TW_UID_BYTES];
-    uint8_t public_key[TW_PUBLIC_KEY_BYTES];
-    uint8_t pin[TW_PIN_BYTES]; /* digits, 0x30 to 0x39 */
-    uint8_t puk[TW_PUK_BYTES]; /* digits, 0x30 to 0x39 */
-    uint8_t pin_tries;         /* tries left, at most 3 */
-    uint8_t puk_tries;         /* tries left, at most 5 */
-    uint8_t verified;          /* flag */
-    uint8_t secret[TW_KEY_BYTES];
-    tw_slot slots[TW_SLOTS];
-    uint8_t pending; /* flag */
-    uint8_t expected[TW_KEY_BYTES];
-    uint8_t key_kind; /* TW_KEY_.. */
-    uint8_t key_uid[TW_KEY_BYTES];
-    tw_path current;
-    tw_path pinless;
-    uint8_t stage; /* TW_STAGE_.. */
-    uint8_t enc_key[TW_KEY_BYTES];
-    uint8_t mac_key[TW_KEY_BYTES];
-    uint8_t iv[TW_IV_BYTES];
+    /*   0 */ uint8_t initialised; /* flag: 1 after INIT */
+    /*   1 */ uint8_t uid[TW_UID_BYTES];
+    /*  17 */ uint8_t public_key[TW_PUBLIC_KEY_BYTES];
+    /*  82 */ uint8_t pin[TW_PIN_BYTES];      /* digits, 0x30 to 0x39 */
+    /*  88 */ uint8_t puk[TW_PUK_BYTES];      /* digits, 0x30 to 0x39 */
+    /* 100 */ uint8_t pin_tries;              /* tries left, at most 3 */
+    /* 101 */ uint8_t puk_tries;              /* tries left, at most 5 */
+    /* 102 */ uint8_t verified;               /* flag: the PIN is verified */
+    /* 103 */ uint8_t secret[TW_KEY_BYTES];   /* pairing secret */
+    /* 135 */ tw_slot slots[TW_SLOTS];        /* 33 bytes each */
+    /* 300 */ uint8_t pending;                /* flag: a first step of PAIR waits for its second */
+    /* 301 */ uint8_t expected[TW_KEY_BYTES]; /* client cryptogram expected, zero where none is pending */
+    /* 333 */ uint8_t key_kind;               /* TW_KEY_.. */
+    /* 334 */ uint8_t key_uid[TW_KEY_BYTES];  /* zero without a key */
+    /* 366 */ tw_path current;                /* current path, 41 bytes */
+    /* 407 */ tw_path pinless;                /* PIN-less path, 41 bytes */
+    /* 448 */ uint8_t stage;                  /* TW_STAGE_.. */
+    /* 449 */ uint8_t enc_key[TW_KEY_BYTES];  /* the channel's, zero in stage 0 */
+    /* 481 */ uint8_t mac_key[TW_KEY_BYTES];  /* the channel's, zero in stage 0 */
+    /* 513 */ uint8_t iv[TW_IV_BYTES];        /* the channel's, zero in stage 0 */
 } tw_card;
 
-/* The terminal's end of the channel: both keys, and the IV of the next message. Bytes alone, as a card. */
+/* The terminal's end of the channel: both keys, and the IV of the next message. Bytes alone, as a card; any 80 bytes are a session. */
 typedef struct tw_session {
-    uint8_t enc_key[TW_KEY_BYTES];
-    uint8_t mac_key[TW_KEY_BYTES];
-    uint8_t iv[TW_IV_BYTES];
+    /*  0 */ uint8_t enc_key[TW_KEY_BYTES];
+    /* 32 */ uint8_t mac_key[TW_KEY_BYTES];
+    /* 64 */ uint8_t iv[TW_IV_BYTES];
 } tw_session;
 
 /* What ASK reports. */
@@ -165,9 +236,10 @@ typedef struct tw_told {
 } tw_told;
 
 TW_CHECK(sizeof(tw_card) == TW_CARD_BYTES, "a card has 529 bytes");
-TW_CHECK(sizeof(tw_slot) == 33, "a slot has 33 bytes");
-TW_CHECK(sizeof(tw_path) == 41, "a path has 41 bytes");
+TW_CHECK(sizeof(tw_slot) == TW_SLOT_BYTES && offsetof(tw_slot, key) == 1, "a slot has 33 bytes");
+TW_CHECK(sizeof(tw_path) == TW_PATH_BYTES && offsetof(tw_path, bytes) == 1, "a path has 41 bytes");
 TW_CHECK(sizeof(tw_session) == TW_SESSION_BYTES, "a session has 80 bytes");
+TW_CHECK(offsetof(tw_session, mac_key) == 32 && offsetof(tw_session, iv) == 64, "mac_key at byte 32, iv at byte 64");
 TW_CHECK(offsetof(tw_card, initialised) == 0, "initialised at byte 0");
 TW_CHECK(offsetof(tw_card, uid) == 1, "uid at byte 1");
 TW_CHECK(offsetof(tw_card, public_key) == 17, "public_key at byte 17");
@@ -188,44 +260,92 @@ TW_CHECK(offsetof(tw_card, stage) == 448, "stage at byte 448");
 TW_CHECK(offsetof(tw_card, enc_key) == 449, "enc_key at byte 449");
 TW_CHECK(offsetof(tw_card, mac_key) == 481, "mac_key at byte 481");
 TW_CHECK(offsetof(tw_card, iv) == 513, "iv at byte 513");
-TW_CHECK(sizeof(size_t) == 8 && sizeof(tw_told) == 16 && sizeof(tw_asked) == 16, "x86-64");
+TW_CHECK(sizeof(size_t) == 8, "x86-64: a length has 8 bytes");
+TW_CHECK(sizeof(tw_asked) == 16 && offsetof(tw_asked, kind) == 1 && offsetof(tw_asked, count) == 8, "ASK's report has 16 bytes");
+TW_CHECK(sizeof(tw_told) == 16 && offsetof(tw_told, count) == 8, "a report has 16 bytes");
 #undef TW_CHECK
 
-/* FRESH: the card becomes that of a new device. uid: 16 bytes, public_key: 65 bytes. What *card held is not read. */
+/* FRESH: the card becomes that of a new device. What *card held is not read. It has no refusal.
+   The caller ensures:
+   - card: 529 bytes, valid to write, overlapping no other argument, and used by no other thread during the call;
+   - uid: 16 bytes, valid to read, and written by no one during the call;
+   - public_key: 65 bytes, valid to read, and written by no one during the call;
+   - no pointer is null. */
 void tw_fresh(tw_card *card, const uint8_t *uid, const uint8_t *public_key);
 
-/* 1 if the card is sound, else 0. */
+/* 1 if the card is sound, else 0. The card is only read.
+   The caller ensures:
+   - card: 529 bytes, valid to read, and written by no one during the call;
+   - no pointer is null. */
 uint8_t tw_sound(const tw_card *card);
 
-/* RESET: power-up. Gives the refusal: TW_DONE or TW_UNSOUND. */
+/* RESET: power-up. Gives the refusal: TW_DONE or TW_UNSOUND.
+   The caller ensures:
+   - card: 529 bytes, valid to read and write, and used by no other thread during the call;
+   - no pointer is null. */
 uint8_t tw_reset(tw_card *card);
 
-/* ASK: which supply ANSWER will read for this command, with the command's opened data from the buffer's start.
-   Refusals: TW_UNSOUND, TW_ROOM (buf_bytes under 255). */
+/* ASK: which supply ANSWER will read for this command, with the command's opened data from the buffer's start. The card is only read.
+   Refusals: TW_UNSOUND, TW_ROOM (buf_bytes under 255). Where ANSWER reads no supply, kind and count are 0.
+   The caller ensures:
+   - card: 529 bytes, valid to read, and written by no one during the call;
+   - cmd: cmd_bytes bytes, valid to read, and written by no one during the call;
+   - buf: buf_bytes bytes, valid to read and write, overlapping no other argument, and used by no other thread during the call;
+   - no pointer is null, also where a length is 0, and each length is under 2^63. */
 tw_asked tw_ask(const tw_card *card, const uint8_t *cmd, size_t cmd_bytes, uint8_t *buf, size_t buf_bytes);
 
 /* ANSWER: the card becomes the next card; response data and status word from the buffer's start.
-   Refusals: TW_UNSOUND, TW_ROOM (buf_bytes under 258), TW_BAD_SUPPLY. The supply is read only where ASK names a kind; else its length
-   may be 0. */
+   Refusals: TW_UNSOUND, TW_ROOM (buf_bytes under 258), TW_BAD_SUPPLY. The supply is read only where ASK names a kind; else it may have any
+   length, 0 too.
+   The caller ensures:
+   - card: 529 bytes, valid to read and write, overlapping no other argument, and used by no other thread during the call;
+   - cmd: cmd_bytes bytes, valid to read, and written by no one during the call;
+   - supply: supply_bytes bytes, valid to read, and written by no one during the call;
+   - buf: buf_bytes bytes, valid to read and write, overlapping no other argument, and used by no other thread during the call;
+   - no pointer is null, also where a length is 0, and each length is under 2^63. */
 tw_told tw_answer(tw_card *card, const uint8_t *cmd, size_t cmd_bytes, const uint8_t *supply, size_t supply_bytes, uint8_t *buf,
                   size_t buf_bytes);
 
-/* SEAL: the session becomes the next session; the whole sealed command from the buffer's start. header: 4 bytes, CLA INS P1 P2.
-   Refusals: TW_ROOM (buf_bytes under 261), TW_TOO_LONG (data_bytes over 223). */
+/* SEAL: the session becomes the next session; the whole sealed command from the buffer's start, 37 to 245 bytes. header: CLA INS P1 P2.
+   Refusals: TW_ROOM (buf_bytes under 261), TW_TOO_LONG (data_bytes over 223).
+   The caller ensures:
+   - session: 80 bytes, valid to read and write, overlapping no other argument, and used by no other thread during the call;
+   - header: 4 bytes, valid to read, and written by no one during the call;
+   - data: data_bytes bytes, valid to read, and written by no one during the call;
+   - buf: buf_bytes bytes, valid to read and write, overlapping no other argument, and used by no other thread during the call;
+   - no pointer is null, also where a length is 0, and each length is under 2^63. */
 tw_told tw_seal(tw_session *session, const uint8_t *header, const uint8_t *data, size_t data_bytes, uint8_t *buf, size_t buf_bytes);
 
-/* UNSEAL: the session becomes the next session; the response's plaintext, inner status word included, from the buffer's start.
-   Refusals: TW_ROOM (buf_bytes under 223), TW_NOT_GENUINE. */
+/* UNSEAL: the session becomes the next session; the response's plaintext, inner status word included, from the buffer's start, 2 to 223
+   bytes. Refusals: TW_ROOM (buf_bytes under 223), TW_NOT_GENUINE.
+   The caller ensures:
+   - session: 80 bytes, valid to read and write, overlapping no other argument, and used by no other thread during the call;
+   - response: response_bytes bytes, valid to read, and written by no one during the call;
+   - buf: buf_bytes bytes, valid to read and write, overlapping no other argument, and used by no other thread during the call;
+   - no pointer is null, also where a length is 0, and each length is under 2^63. */
 tw_told tw_unseal(tw_session *session, const uint8_t *response, size_t response_bytes, uint8_t *buf, size_t buf_bytes);
 
-/* WALK: how many fields that are not templates the input holds. Refusals: TW_MALFORMED, TW_TOO_DEEP. */
+/* WALK: how many fields that are not templates the input holds; the count is in fields. Templates are read to depth 4, input of any
+   length. Refusals: TW_MALFORMED, TW_TOO_DEEP, by the first fault from left to right.
+   The caller ensures:
+   - input: input_bytes bytes, valid to read, and written by no one during the call;
+   - the pointer is not null, also where the length is 0, and the length is under 2^63. */
 tw_told tw_walk(const uint8_t *input, size_t input_bytes);
 
-/* WRITE: the card's record from the buffer's start. Refusals: TW_UNSOUND, TW_ROOM (buf_bytes under 448). */
+/* WRITE: the card's stored record from the buffer's start: 91 bytes before INIT, 336 to 448 after it. The card is only read.
+   Refusals: TW_UNSOUND, TW_ROOM (buf_bytes under 448, also before INIT).
+   The caller ensures:
+   - card: 529 bytes, valid to read, and written by no one during the call;
+   - buf: buf_bytes bytes, valid to read and write, overlapping no other argument, and used by no other thread during the call;
+   - no pointer is null, also where the length is 0, and the length is under 2^63. */
 tw_told tw_write(const tw_card *card, uint8_t *buf, size_t buf_bytes);
 
-/* READ: the card becomes that of the record; refused, it becomes FRESH of zeros. What *card held is not read.
-   Gives the refusal: TW_DONE or TW_NOT_RECORD. */
+/* READ: the card becomes that of the stored record, sound and reset; refused, it becomes FRESH of zeros. What *card held is not read.
+   Gives the refusal: TW_DONE or TW_NOT_RECORD.
+   The caller ensures:
+   - card: 529 bytes, valid to write, overlapping no other argument, and used by no other thread during the call;
+   - record: record_bytes bytes, valid to read, and written by no one during the call;
+   - no pointer is null, also where the length is 0, and the length is under 2^63. */
 uint8_t tw_read(tw_card *card, const uint8_t *record, size_t record_bytes);
 
 #ifdef __cplusplus

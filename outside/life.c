@@ -1,93 +1,404 @@
-/* One card's record through include/treadlewisp.h: FRESH, soundness, RESET, ASK and ANSWER of a plain command, WRITE and READ, SEAL and
-   UNSEAL, WALK, and the refusals that a caller's lengths can cause. Exit status 0: every answer was the one that document 01 gives.
-   Lengths are in bytes. */
-#include "treadlewisp.h"
+/* One card's life through include/treadlewisp.h, with all ten operations: from FRESH over INIT, PAIR, OPEN and MUTUAL to PIN, PUK, keys and
+   signatures, its stored record, its refusals and templates. The life is played once for each placing of memory (life_places.h), and what
+   holds of every call is checked at every call (life_calls.h). Exit status 0: every answer was the one that document 01 gives. Lengths are
+   in bytes. */
+#include "life_calls.h"
+#include "life_places.h"
 
 #include <stdio.h>
 #include <string.h>
 
-static int wrong = 0;
+enum {
+    INIT_DATA_BYTES = 146,
+    LC_BYTES = 1,
+    SEED_BYTES = 64,
+    HASH_BYTES = 32
+};
 
-static void expect(int fact, const char *what)
+static const char PIN[] = "024680";
+static const char WRONG_PIN[] = "024681";
+static const char PUK[] = "918273645546";
+static const uint8_t TWO_COMPONENTS[] = {0x80, 0x00, 0x00, 0x2C, 0x00, 0x00, 0x00, 0x07};
+
+/* The card, and the terminal's end of its channel. */
+static tw_card *card;
+static tw_session *terminal;
+
+static text key(uint8_t value)
 {
-    if (!fact) {
-        printf("life: not as document 01 has it: %s\n", what);
-        wrong = 1;
-    }
+    return filled(value, TW_KEY_BYTES);
 }
 
-static unsigned word_at(const uint8_t *buf, size_t count)
+static text point(void)
 {
-    return (unsigned)buf[count - 2] * 256u + (unsigned)buf[count - 1];
+    return filled(0x04, TW_PUBLIC_KEY_BYTES);
+}
+
+static text path(void)
+{
+    return text_of(TWO_COMPONENTS, sizeof TWO_COMPONENTS);
+}
+
+/* ASK names this kind with these data; then ANSWER gives this answer. */
+static void plain(const char *step, text command, unsigned kind, text data, text supply, text answer)
+{
+    about(step);
+    unsigned found_kind;
+    text wrote;
+    expect(call_ask(card, command, TW_ASK_ROOM_BYTES, &found_kind, &wrote) == TW_DONE, "ASK is refused");
+    expect(found_kind == kind, "ASK's kind");
+    expect(same(wrote, data), "ASK's data");
+    expect(call_answer(card, command, supply, TW_ANSWER_ROOM_BYTES, &wrote) == TW_DONE, "ANSWER is refused");
+    expect(same(wrote, answer), "the answer");
+}
+
+/* The same for a command that reads no supply and answers a status word alone. */
+static void plain_status(const char *step, text command, unsigned word)
+{
+    plain(step, command, TW_SUPPLY_NONE, none(), none(), status(word));
+}
+
+/* A command over the channel, from SEAL to UNSEAL: ASK names this kind, the answer's plaintext is this one. */
+static void sealed(const char *step, unsigned ins, unsigned p1, text data, unsigned kind, text supply, text answer)
+{
+    about(step);
+    unsigned found_kind;
+    text command, wrote, opened;
+    const size_t field_bytes = TW_MAC_BYTES + (data.count / 16 + 1) * 16;
+    expect(call_seal(terminal, ins, p1, data, TW_SEAL_ROOM_BYTES, &command) == TW_DONE, "SEAL is refused");
+    expect(command.count == TW_HEADER_BYTES + LC_BYTES + field_bytes && command.bytes[4] == field_bytes, "SEAL's length");
+    expect(memcmp(terminal->iv, command.bytes + 5, TW_IV_BYTES) == 0, "SEAL's next IV is its MAC");
+    expect(call_ask(card, command, TW_ASK_ROOM_BYTES, &found_kind, &opened) == TW_DONE, "ASK is refused");
+    expect(found_kind == kind, "ASK's kind");
+    expect(same(opened, kind == TW_SUPPLY_NONE ? none() : data), "ASK's data");
+    expect(call_answer(card, command, supply, TW_ANSWER_ROOM_BYTES, &wrote) == TW_DONE, "ANSWER is refused");
+    expect(wrote.count == TW_MAC_BYTES + (answer.count / 16 + 1) * 16 + TW_STATUS_BYTES, "the sealed answer's length");
+    expect(call_unseal(terminal, wrote, TW_UNSEAL_ROOM_BYTES, &opened) == TW_DONE, "UNSEAL is refused");
+    expect(same(opened, answer), "the answer");
+    expect(memcmp(terminal->iv, card->iv, TW_IV_BYTES) == 0, "both ends hold the same IV");
+}
+
+static void sealed_status(const char *step, unsigned ins, unsigned p1, text data, unsigned word)
+{
+    sealed(step, ins, p1, data, TW_SUPPLY_NONE, none(), status(word));
+}
+
+/* A card of FF: every operation on it is refused with 1, whatever the room. */
+static void unsound_card(void)
+{
+    about("a card that is not sound");
+    unsigned kind;
+    text wrote;
+    memset(card, 0xFF, sizeof *card);
+    expect(tw_sound(card) == 0, "soundness");
+    expect(call_reset(card) == TW_UNSOUND, "RESET");
+    expect(call_ask(card, none(), TW_ASK_ROOM_BYTES, &kind, &wrote) == TW_UNSOUND, "ASK");
+    expect(call_ask(card, none(), 0, &kind, &wrote) == TW_UNSOUND, "ASK without room");
+    expect(call_answer(card, none(), none(), TW_ANSWER_ROOM_BYTES, &wrote) == TW_UNSOUND, "ANSWER");
+    expect(call_answer(card, none(), none(), 0, &wrote) == TW_UNSOUND, "ANSWER without room");
+    expect(call_write(card, TW_WRITE_ROOM_BYTES, &wrote) == TW_UNSOUND, "WRITE");
+}
+
+static text select_command(void)
+{
+    return plain_command(TW_CLASS_SELECT, TW_INS_SELECT, TW_P1_SELECT, words("StatusWalletApp"));
+}
+
+static void fresh_card(void)
+{
+    about("FRESH");
+    const size_t mark = places_mark();
+    uint8_t *uid = place(TW_UID_BYTES, 0x11);
+    uint8_t *public_key = place(TW_PUBLIC_KEY_BYTES, 0x04);
+    tw_fresh(card, uid, public_key);
+    expect(places_intact(), "bytes beside an argument were changed");
+    places_release(mark);
+    expect(tw_sound(card) == 1 && card->initialised == 0, "a sound card before INIT");
+    expect(card->uid[15] == 0x11 && card->public_key[64] == 0x04, "UID and public key");
+    const tw_card zeros = {0};
+    expect(memcmp(card->pin, zeros.pin, sizeof *card - offsetof(tw_card, pin)) == 0, "all else zero");
+    expect(call_reset(card) == TW_DONE, "RESET");
+
+    const text head = text_of((const uint8_t[]){0x80, TW_PUBLIC_KEY_BYTES}, 2);
+    plain("SELECT before INIT", select_command(), TW_SUPPLY_NONE, none(), none(), joined(joined(head, point()), status(TW_SW_SUCCESS)));
+    plain_status("GET STATUS before INIT", plain_command(TW_CLASS_CARD, TW_INS_GET_STATUS, 0, none()), TW_SW_UNKNOWN_INSTRUCTION);
+    plain_status("a class that is not there", plain_command(0x90, 0x00, 0, none()), TW_SW_UNKNOWN_CLASS);
+    plain_status("a command of no bytes", none(), TW_SW_WRONG_LENGTH);
+    plain_status("a command of 3 bytes", filled(0x80, 3), TW_SW_WRONG_LENGTH);
+    plain_status("another application", plain_command(TW_CLASS_SELECT, TW_INS_SELECT, TW_P1_SELECT, words("Other")), TW_SW_NOT_FOUND);
+}
+
+/* WRITE and READ: a card like *card as after RESET; a cut or longer record is refused, and leaves FRESH of zeros. */
+static void stored(const char *step, size_t record_bytes)
+{
+    about(step);
+    text record;
+    expect(call_write(card, TW_WRITE_ROOM_BYTES - 1, &record) == TW_ROOM, "WRITE in a small buffer");
+    expect(call_write(card, TW_WRITE_ROOM_BYTES, &record) == TW_DONE, "WRITE is refused");
+    expect(record.count == record_bytes, "the record's length");
+    const size_t mark = places_mark();
+    tw_card *again = (tw_card *)place(sizeof *again, 0x33);
+    expect(call_read(again, record) == TW_DONE, "READ is refused");
+    tw_card after_reset = *card;
+    expect(call_reset(&after_reset) == TW_DONE, "RESET is refused");
+    expect(memcmp(again, &after_reset, sizeof *again) == 0, "READ's card");
+    const tw_card zeros = {0};
+    text wrong = record;
+    wrong.count--;
+    expect(call_read(again, wrong) == TW_NOT_RECORD && memcmp(again, &zeros, sizeof zeros) == 0, "READ of a part");
+    expect(call_read(again, joined(record, byte(0))) == TW_NOT_RECORD, "READ of a byte more");
+    expect(call_read(again, none()) == TW_NOT_RECORD, "READ of nothing");
+    places_release(mark);
+}
+
+/* INIT's data. Its ciphertext is that of SEAL with the same AES key and IV: both pad and encipher the same way. */
+static text init_data(void)
+{
+    tw_session sealing;
+    text command;
+    memset(&sealing, 0x81, sizeof sealing);
+    const text content = joined(joined(words(PIN), words(PUK)), key(0x51));
+    expect(call_seal(&sealing, TW_INS_INIT, 0, content, TW_SEAL_ROOM_BYTES, &command) == TW_DONE, "SEAL is refused");
+    const text ciphertext = text_of(command.bytes + TW_HEADER_BYTES + LC_BYTES + TW_MAC_BYTES, 64);
+    return joined(joined(byte(TW_PUBLIC_KEY_BYTES), point()), joined(filled(0x81, TW_IV_BYTES), ciphertext));
+}
+
+static void init_card(void)
+{
+    about("INIT");
+    const text data = init_data();
+    const text init = plain_command(TW_CLASS_CARD, TW_INS_INIT, 0, data);
+    const text right = joined(byte(1), key(0x81));
+    text wrote;
+    expect(data.count == INIT_DATA_BYTES, "its data");
+    expect(call_answer(card, init, none(), TW_ANSWER_ROOM_BYTES, &wrote) == TW_BAD_SUPPLY, "no supply");
+    expect(call_answer(card, init, byte(0), TW_ANSWER_ROOM_BYTES, &wrote) == TW_BAD_SUPPLY, "a flag alone");
+    expect(call_answer(card, init, joined(right, byte(0)), TW_ANSWER_ROOM_BYTES, &wrote) == TW_BAD_SUPPLY, "a byte more");
+    expect(call_answer(card, init, filled(2, TW_SUPPLY_INIT_BYTES), TW_ANSWER_ROOM_BYTES, &wrote) == TW_BAD_SUPPLY, "flag 02");
+    expect(call_answer(card, init, right, TW_ANSWER_ROOM_BYTES - 1, &wrote) == TW_ROOM, "a small buffer");
+    plain("INIT with flag 00", init, TW_SUPPLY_INIT, data, filled(0, TW_SUPPLY_INIT_BYTES), status(TW_SW_WRONG_DATA));
+    expect(card->initialised == 0, "before INIT still");
+    plain("INIT", init, TW_SUPPLY_INIT, data, right, status(TW_SW_SUCCESS));
+    expect(card->initialised == 1 && card->pin_tries == TW_PIN_TRIES && card->puk_tries == TW_PUK_TRIES, "tries");
+    expect(memcmp(card->pin, PIN, TW_PIN_BYTES) == 0 && memcmp(card->puk, PUK, TW_PUK_BYTES) == 0, "PIN and PUK");
+    expect(same(text_of(card->secret, TW_KEY_BYTES), key(0x51)), "pairing secret");
+    plain_status("INIT again", init, TW_SW_UNKNOWN_INSTRUCTION);
+    plain_status("GET STATUS without a channel", plain_command(TW_CLASS_CARD, TW_INS_GET_STATUS, 0, none()), TW_SW_CONDITIONS_NOT_MET);
+    plain_status("OPEN of a free slot", plain_command(TW_CLASS_CARD, TW_INS_OPEN, 0, point()), TW_SW_WRONG_PARAMETERS);
+}
+
+/* PAIR: a wrong cryptogram ends the pairing, the right one fills slot 0. */
+static void pair(void)
+{
+    const text first = plain_command(TW_CLASS_CARD, TW_INS_PAIR, TW_P1_PAIR_FIRST, key(0x0F));
+    const text supply = joined(joined(key(0x91), key(0x93)), key(0x53));
+    const text challenge = joined(joined(key(0x91), key(0x93)), status(TW_SW_SUCCESS));
+    const text right = plain_command(TW_CLASS_CARD, TW_INS_PAIR, TW_P1_PAIR_FINAL, key(0x53));
+    const text wrong = plain_command(TW_CLASS_CARD, TW_INS_PAIR, TW_P1_PAIR_FINAL, key(0x54));
+    plain("PAIR first", first, TW_SUPPLY_PAIR_FIRST, key(0x0F), supply, challenge);
+    expect(card->pending == 1, "pending");
+    plain_status("PAIR final, wrong", wrong, TW_SW_SECURITY_NOT_MET);
+    expect(card->pending == 0, "no more pending");
+    plain_status("PAIR final without a first step", right, TW_SW_WRONG_PARAMETERS);
+    plain("PAIR first again", first, TW_SUPPLY_PAIR_FIRST, key(0x0F), supply, challenge);
+    plain("PAIR final", right, TW_SUPPLY_PAIR_FINAL, key(0x53), joined(key(0x92), key(0x52)),
+          joined(joined(byte(0), key(0x92)), status(TW_SW_SUCCESS)));
+    expect(card->slots[0].filled == 1 && card->slots[0].key[31] == 0x52 && card->slots[1].filled == 0, "slot 0");
+}
+
+/* OPEN and MUTUAL; then both ends hold the same session. */
+static void open_channel(void)
+{
+    const text iv = filled(0x63, TW_IV_BYTES);
+    const text supply = joined(joined(byte(1), key(0x61)), joined(joined(key(0x62), key(0x94)), iv));
+    const text open = plain_command(TW_CLASS_CARD, TW_INS_OPEN, 0, point());
+    plain_status("OPEN of slot 5", plain_command(TW_CLASS_CARD, TW_INS_OPEN, 5, point()), TW_SW_WRONG_PARAMETERS);
+    plain("OPEN", open, TW_SUPPLY_OPEN, point(), supply, joined(joined(key(0x94), iv), status(TW_SW_SUCCESS)));
+    expect(card->stage == TW_STAGE_OPENED, "stage 1");
+    memset(terminal->enc_key, 0x61, sizeof terminal->enc_key);
+    memset(terminal->mac_key, 0x62, sizeof terminal->mac_key);
+    memset(terminal->iv, 0x63, sizeof terminal->iv);
+    sealed("MUTUAL", TW_INS_MUTUAL, 0, key(0x0E), TW_SUPPLY_MUTUAL, key(0x95), joined(key(0x95), status(TW_SW_SUCCESS)));
+    expect(card->stage == TW_STAGE_MUTUAL, "stage 2");
+}
+
+static void tries(const char *step, uint8_t pin, uint8_t puk, uint8_t has_key)
+{
+    const uint8_t answer[] = {0xA3, 9, 0x02, 1, pin, 0x02, 1, puk, 0x01, 1, has_key};
+    sealed(step, TW_INS_GET_STATUS, TW_P1_STATUS_TRIES, none(), TW_SUPPLY_NONE, none(),
+           joined(text_of(answer, sizeof answer), status(TW_SW_SUCCESS)));
+}
+
+static void pin_and_puk(void)
+{
+    tries("GET STATUS after INIT", 3, 5, 0x00);
+    sealed_status("VERIFY, wrong", TW_INS_VERIFY, 0, words(WRONG_PIN), TW_SW_TRIES_LEFT + 2);
+    sealed_status("VERIFY, right", TW_INS_VERIFY, 0, words(PIN), TW_SW_SUCCESS);
+    expect(card->verified == 1 && card->pin_tries == TW_PIN_TRIES, "verified, 3 tries");
+    sealed_status("UNBLOCK with tries left", TW_INS_UNBLOCK, 0, joined(words(PUK), words(PIN)), TW_SW_CONDITIONS_NOT_MET);
+    sealed_status("VERIFY, first wrong", TW_INS_VERIFY, 0, words(WRONG_PIN), TW_SW_TRIES_LEFT + 2);
+    expect(card->verified == 0, "verification dropped");
+    sealed_status("VERIFY, second wrong", TW_INS_VERIFY, 0, none(), TW_SW_TRIES_LEFT + 1);
+    sealed_status("VERIFY, third wrong", TW_INS_VERIFY, 0, words("0246800"), TW_SW_TRIES_LEFT + 0);
+    sealed_status("VERIFY, right too late", TW_INS_VERIFY, 0, words(PIN), TW_SW_TRIES_LEFT + 0);
+    sealed_status("UNBLOCK, wrong", TW_INS_UNBLOCK, 0, joined(words("000000000000"), words("555555")), TW_SW_TRIES_LEFT + 4);
+    tries("GET STATUS when blocked", 0, 4, 0x00);
+    sealed_status("UNBLOCK, no digits", TW_INS_UNBLOCK, 0, joined(words(PUK), words("55555A")), TW_SW_WRONG_DATA);
+    sealed_status("UNBLOCK, right", TW_INS_UNBLOCK, 0, joined(words(PUK), words("555555")), TW_SW_SUCCESS);
+    sealed_status("CHANGE PIN", TW_INS_CHANGE, TW_P1_CHANGE_PIN, words(PIN), TW_SW_SUCCESS);
+    sealed_status("VERIFY, the new PIN", TW_INS_VERIFY, 0, words(PIN), TW_SW_SUCCESS);
+    sealed_status("CHANGE PUK", TW_INS_CHANGE, TW_P1_CHANGE_PUK, words("123456789012"), TW_SW_SUCCESS);
+    sealed_status("CHANGE the pairing secret", TW_INS_CHANGE, TW_P1_CHANGE_SECRET, key(0x55), TW_SW_SUCCESS);
+    tries("GET STATUS when verified", 3, 5, 0x00);
+}
+
+/* The template of an extended key: A1 holding 81 and 82, 32 bytes each. */
+static text extended_key(void)
+{
+    const text head = text_of((const uint8_t[]){0xA1, 68, 0x81, TW_KEY_BYTES}, 4);
+    const text chain_code_head = text_of((const uint8_t[]){0x82, TW_KEY_BYTES}, 2);
+    return joined(joined(head, key(0x5E)), joined(chain_code_head, key(0x5F)));
+}
+
+/* What SIGN answers with r = 128 and s = 1. */
+static text signature(void)
+{
+    const text head = text_of((const uint8_t[]){0xA0, 76, 0x80, TW_PUBLIC_KEY_BYTES}, 4);
+    const uint8_t numbers[] = {0x30, 7, 0x02, 2, 0x00, 0x80, 0x02, 1, 0x01};
+    return joined(joined(head, point()), joined(text_of(numbers, sizeof numbers), status(TW_SW_SUCCESS)));
+}
+
+static void keys(void)
+{
+    const text sign_supply = joined(joined(point(), joined(filled(0, 31), byte(128))), joined(filled(0, 31), byte(1)));
+    const text key_uid = joined(key(0x71), status(TW_SW_SUCCESS));
+    sealed_status("SIGN without a key", TW_INS_SIGN, 0, filled(0x5F, HASH_BYTES), TW_SW_CONDITIONS_NOT_MET);
+    sealed("LOAD with flag 00", TW_INS_LOAD, TW_P1_LOAD_SEED, filled(0x5E, SEED_BYTES), TW_SUPPLY_LOAD, filled(0, 33),
+           status(TW_SW_WRONG_DATA));
+    sealed_status("LOAD of half a seed", TW_INS_LOAD, TW_P1_LOAD_SEED, key(0x5E), TW_SW_WRONG_DATA);
+    sealed("LOAD", TW_INS_LOAD, TW_P1_LOAD_EXTENDED, extended_key(), TW_SUPPLY_LOAD, joined(byte(1), key(0x71)), key_uid);
+    expect(card->key_kind == TW_KEY_EXTENDED, "an extended key");
+    tries("GET STATUS with a key", 3, 5, 0xFF);
+    sealed("DERIVE with flag 00", TW_INS_DERIVE, 0, path(), TW_SUPPLY_DERIVE, byte(0), status(TW_SW_REFERENCE_INVALID));
+    sealed_status("DERIVE of 3 bytes", TW_INS_DERIVE, 0, filled(0, 3), TW_SW_WRONG_DATA);
+    sealed("DERIVE", TW_INS_DERIVE, 0, path(), TW_SUPPLY_DERIVE, byte(1), status(TW_SW_SUCCESS));
+    sealed("GET STATUS of the path", TW_INS_GET_STATUS, TW_P1_STATUS_PATH, none(), TW_SUPPLY_NONE, none(),
+           joined(path(), status(TW_SW_SUCCESS)));
+    sealed("SIGN", TW_INS_SIGN, 0, filled(0x5F, HASH_BYTES), TW_SUPPLY_SIGN, sign_supply, signature());
+    sealed_status("SET PIN-LESS PATH", TW_INS_SET_PINLESS_PATH, 0, path(), TW_SW_SUCCESS);
+    sealed_status("VERIFY, wrong", TW_INS_VERIFY, 0, words(WRONG_PIN), TW_SW_TRIES_LEFT + 2);
+    sealed("SIGN on the PIN-less path", TW_INS_SIGN, 0, filled(0x5F, HASH_BYTES), TW_SUPPLY_SIGN, sign_supply, signature());
+    stored("the record with a key and two paths", TW_RECORD_MIN_BYTES + TW_KEY_BYTES + 2 * sizeof TWO_COMPONENTS);
+    sealed_status("REMOVE without a PIN", TW_INS_REMOVE, 0, none(), TW_SW_CONDITIONS_NOT_MET);
+    sealed_status("VERIFY, right", TW_INS_VERIFY, 0, words(PIN), TW_SW_SUCCESS);
+    sealed_status("REMOVE", TW_INS_REMOVE, 0, none(), TW_SW_SUCCESS);
+    expect(card->key_kind == TW_KEY_NONE && card->current.len == 0 && card->pinless.len == 0, "no key, no paths");
+    sealed_status("UNPAIR of slot 5", TW_INS_UNPAIR, 5, none(), TW_SW_WRONG_PARAMETERS);
+    sealed_status("UNPAIR", TW_INS_UNPAIR, 0, none(), TW_SW_SUCCESS);
+    expect(card->slots[0].filled == 0 && card->slots[0].key[31] == 0, "slot 0 is free");
+}
+
+/* Refusals of SEAL and UNSEAL, a refused supply over the channel, and a forged command, which loses the channel. */
+static void messages(void)
+{
+    about("messages");
+    text wrote, command, response, supply = joined(byte(1), key(0x71));
+    unsigned kind;
+    const text most = filled(0x5E, TW_DATA_MAX_BYTES);
+    expect(call_seal(terminal, TW_INS_LOAD, 3, joined(most, byte(0)), TW_SEAL_ROOM_BYTES, &wrote) == TW_TOO_LONG, "SEAL of too much");
+    expect(call_seal(terminal, TW_INS_LOAD, 3, joined(most, byte(0)), TW_SEAL_ROOM_BYTES - 1, &wrote) == TW_ROOM, "SEAL: 2 before 6");
+    expect(call_seal(terminal, TW_INS_LOAD, 3, filled(0x5E, SEED_BYTES), TW_SEAL_ROOM_BYTES, &command) == TW_DONE, "SEAL");
+    expect(call_ask(card, command, TW_ASK_ROOM_BYTES - 1, &kind, &wrote) == TW_ROOM, "ASK in a small buffer");
+    expect(call_answer(card, command, byte(1), TW_ANSWER_ROOM_BYTES, &wrote) == TW_BAD_SUPPLY, "a supply too short");
+    expect(call_answer(card, command, supply, TW_ANSWER_ROOM_BYTES, &response) == TW_DONE, "ANSWER, the same command");
+    expect(call_unseal(terminal, response, TW_UNSEAL_ROOM_BYTES - 1, &wrote) == TW_ROOM, "UNSEAL in a small buffer");
+    for (size_t at = 0; at < response.count; at++) {
+        text damaged = response;
+        damaged.bytes[at] = (uint8_t)(damaged.bytes[at] ^ 0x10);
+        expect(call_unseal(terminal, damaged, TW_UNSEAL_ROOM_BYTES, &wrote) == TW_NOT_GENUINE, "UNSEAL of a damaged response");
+    }
+    expect(call_unseal(terminal, none(), TW_UNSEAL_ROOM_BYTES, &wrote) == TW_NOT_GENUINE, "UNSEAL of nothing");
+    expect(call_unseal(terminal, response, TW_UNSEAL_ROOM_BYTES, &wrote) == TW_DONE, "UNSEAL");
+    expect(same(wrote, joined(key(0x71), status(TW_SW_SUCCESS))), "the answer");
+    expect(call_seal(terminal, TW_INS_LOAD, 3, most, TW_SEAL_ROOM_BYTES, &command) == TW_DONE && command.count == 245, "SEAL of the most");
+    command.bytes[5] = (uint8_t)(command.bytes[5] ^ 1);
+    plain_status("a forged command", command, TW_SW_SECURITY_NOT_MET);
+    expect(card->stage == TW_STAGE_CLOSED && card->verified == 1, "the channel is lost, the verification kept");
+    plain_status("a good command after it", plain_command(TW_CLASS_CARD, TW_INS_VERIFY, 0, words(PIN)), TW_SW_CONDITIONS_NOT_MET);
+    expect(call_reset(card) == TW_DONE && card->verified == 0, "RESET drops the verification");
+}
+
+/* SP 800-38A, F.2.5, CBC-AES256.Encrypt: its first block, as SEAL enciphers it. */
+static void published_vector(void)
+{
+    about("SP 800-38A, F.2.5");
+    static const uint8_t aes_key[TW_KEY_BYTES] = {0x60, 0x3D, 0xEB, 0x10, 0x15, 0xCA, 0x71, 0xBE, 0x2B, 0x73, 0xAE,
+                                                  0xF0, 0x85, 0x7D, 0x77, 0x81, 0x1F, 0x35, 0x2C, 0x07, 0x3B, 0x61,
+                                                  0x08, 0xD7, 0x2D, 0x98, 0x10, 0xA3, 0x09, 0x14, 0xDF, 0xF4};
+    static const uint8_t block[16] = {0x6B, 0xC1, 0xBE, 0xE2, 0x2E, 0x40, 0x9F, 0x96, 0xE9, 0x3D, 0x7E, 0x11, 0x73, 0x93, 0x17, 0x2A};
+    static const uint8_t enciphered[16] = {0xF5, 0x8C, 0x4C, 0x04, 0xD6, 0xE5, 0xF1, 0xBA, 0x77, 0x9E, 0xAB, 0xFB, 0x5F, 0x7B, 0xFB, 0xD6};
+    tw_session session = {{0}, {0}, {0}};
+    memcpy(session.enc_key, aes_key, sizeof aes_key);
+    for (uint8_t at = 0; at < TW_IV_BYTES; at++) {
+        session.iv[at] = at;
+    }
+    text wrote;
+    expect(call_seal(&session, 0, 0, text_of(block, sizeof block), TW_SEAL_ROOM_BYTES, &wrote) == TW_DONE, "SEAL is refused");
+    expect(memcmp(wrote.bytes + TW_HEADER_BYTES + LC_BYTES + TW_MAC_BYTES, enciphered, sizeof enciphered) == 0, "the block");
+}
+
+static void walked(const char *step, text input, unsigned refusal, size_t count)
+{
+    about(step);
+    size_t fields;
+    expect(call_walk(input, &fields) == refusal, "WALK's refusal");
+    expect(fields == count, "WALK's count of fields");
+}
+
+static void templates(void)
+{
+    text nested = text_of((const uint8_t[]){0x80, 0x00}, 2);
+    for (uint8_t depth = 1; depth <= TW_WALK_DEPTH_MAX; depth++) {
+        nested = joined(text_of((const uint8_t[]){0xA1, (uint8_t)nested.count}, 2), nested);
+    }
+    walked("templates to depth 4", joined(nested, nested), TW_DONE, 2);
+    walked("a template at depth 5", joined(text_of((const uint8_t[]){0xA1, 10}, 2), nested), TW_TOO_DEEP, 0);
+    walked("no bytes", none(), TW_DONE, 0);
+    walked("A1 00", text_of((const uint8_t[]){0xA1, 0x00}, 2), TW_DONE, 0);
+    walked("80 81 05", text_of((const uint8_t[]){0x80, 0x81, 0x05}, 3), TW_MALFORMED, 0);
+    walked("a tag alone", byte(0x80), TW_MALFORMED, 0);
+    walked("a length of 128", joined(text_of((const uint8_t[]){0x80, 0x81, 0x80}, 3), filled(0, 128)), TW_DONE, 1);
+}
+
+static void play(enum placing placing)
+{
+    places_use(placing);
+    card = (tw_card *)place(sizeof *card, 0);
+    terminal = (tw_session *)place(sizeof *terminal, 0);
+    unsound_card();
+    fresh_card();
+    stored("the record before INIT", TW_RECORD_FRESH_BYTES);
+    init_card();
+    stored("the record after INIT", TW_RECORD_MIN_BYTES);
+    pair();
+    open_channel();
+    pin_and_puk();
+    keys();
+    messages();
+    published_vector();
+    templates();
+    places_release(0);
 }
 
 int main(void)
 {
-    uint8_t uid[TW_UID_BYTES];
-    uint8_t public_key[TW_PUBLIC_KEY_BYTES];
-    memset(uid, 0x11, sizeof uid);
-    memset(public_key, 0x22, sizeof public_key);
-
-    tw_card card;
-    memset(&card, 0xFF, sizeof card);
-    expect(tw_sound(&card) == 0, "a record of FF is not sound");
-    expect(tw_reset(&card) == TW_UNSOUND, "RESET refuses a card that is not sound");
-    expect(card.stage == 0xFF, "a refused RESET leaves the card");
-    tw_fresh(&card, uid, public_key);
-    expect(tw_sound(&card) == 1, "a fresh card is sound");
-    expect(card.initialised == 0 && card.uid[15] == 0x11 && card.public_key[64] == 0x22 && card.iv[15] == 0, "FRESH's card");
-    expect(tw_reset(&card) == TW_DONE, "RESET of a fresh card");
-
-    uint8_t buf[TW_WRITE_ROOM_BYTES];
-    memset(buf, 0xA5, sizeof buf);
-    const uint8_t none[1] = {0};
-
-    /* an unknown class, and a buffer one byte too small */
-    const uint8_t odd[4] = {0x90, 0x00, 0x00, 0x00};
-    tw_asked asked = tw_ask(&card, odd, sizeof odd, buf, TW_ASK_ROOM_BYTES);
-    expect(asked.refusal == TW_DONE && asked.kind == TW_SUPPLY_NONE && asked.count == 0, "ASK where no supply is read");
-    asked = tw_ask(&card, odd, sizeof odd, buf, TW_ASK_ROOM_BYTES - 1);
-    expect(asked.refusal == TW_ROOM && asked.kind == 0 && asked.count == 0, "ASK in a small buffer");
-    tw_told told = tw_answer(&card, odd, sizeof odd, none, 0, buf, TW_ANSWER_ROOM_BYTES);
-    expect(told.refusal == TW_DONE && told.count == 2 && word_at(buf, told.count) == TW_SW_UNKNOWN_CLASS, "an unknown class");
-    expect(buf[2] == 0xA5, "no byte past the count");
-    told = tw_answer(&card, odd, sizeof odd, none, 0, buf, TW_ANSWER_ROOM_BYTES - 1);
-    expect(told.refusal == TW_ROOM && told.count == 0, "ANSWER in a small buffer");
-
-    /* the record, and back */
-    told = tw_write(&card, buf, sizeof buf);
-    expect(told.refusal == TW_DONE && told.count > 0, "WRITE");
-    tw_card again;
-    memset(&again, 0x33, sizeof again);
-    expect(tw_read(&again, buf, told.count) == TW_DONE && memcmp(&again, &card, sizeof card) == 0, "READ gives the card back");
-    expect(tw_read(&again, buf, told.count - 1) == TW_NOT_RECORD, "READ of a part");
-    expect(again.uid[0] == 0 && tw_sound(&again) == 1, "a refused READ leaves FRESH of zeros");
-    expect(tw_write(&card, buf, TW_WRITE_ROOM_BYTES - 1).refusal == TW_ROOM, "WRITE in a small buffer");
-
-    /* the terminal's end */
-    tw_session session;
-    memset(&session, 0x44, sizeof session);
-    const uint8_t header[TW_HEADER_BYTES] = {0x80, 0xF2, 0x00, 0x00};
-    uint8_t data[TW_DATA_MAX_BYTES + 1];
-    memset(data, 0x55, sizeof data);
-    told = tw_seal(&session, header, data, TW_DATA_MAX_BYTES, buf, TW_SEAL_ROOM_BYTES);
-    expect(told.refusal == TW_DONE && told.count == 5 + 16 + 224, "SEAL of the most data");
-    expect(memcmp(buf, header, sizeof header) == 0 && buf[4] == 240, "the sealed command's head");
-    expect(memcmp(session.iv, buf + 5, sizeof session.iv) == 0, "the MAC is the next IV");
-    tw_session before = session;
-    expect(tw_seal(&session, header, data, sizeof data, buf, TW_SEAL_ROOM_BYTES).refusal == TW_TOO_LONG, "SEAL of too much data");
-    expect(tw_unseal(&session, data, sizeof data, buf, TW_UNSEAL_ROOM_BYTES).refusal == TW_NOT_GENUINE, "UNSEAL of no message");
-    expect(memcmp(&session, &before, sizeof session) == 0, "a refusal leaves the session");
-
-    /* templates */
-    const uint8_t fields[7] = {0xE0, 0x05, 0x81, 0x00, 0x82, 0x01, 0x99};
-    told = tw_walk(fields, sizeof fields);
-    expect(told.refusal == TW_DONE && told.count == 2, "WALK of two fields");
-    told = tw_walk(fields, sizeof fields - 1);
-    expect(told.refusal == TW_MALFORMED && told.count == 0, "WALK of a cut template");
-
-    if (!wrong) {
-        printf("life: as document 01 has it\n");
+    for (int placing = 0; placing < PLACINGS; placing++) {
+        const unsigned failed = checks_failed();
+        play((enum placing)placing);
+        if (checks_failed() != failed) {
+            printf("life: that was with memory placed: %s\n", placing_name((enum placing)placing));
+        }
     }
-    return wrong;
+    printf("life: %u checks in %d lives, %u failed\n", checks_made(), (int)PLACINGS, checks_failed());
+    return checks_failed() == 0 ? 0 : 1;
 }

@@ -1,0 +1,257 @@
+//! The card: its record of 529 bytes, what can be read of it, and the operations on it.
+
+use std::fmt;
+use std::mem::{align_of, offset_of, size_of};
+
+use crate::ffi;
+use crate::lengths::*;
+use crate::parts::{KeyKind, Path, Slot, Stage};
+use crate::refusal::Refusal;
+use crate::supply::SupplyKind;
+
+/// A card's whole state: the record of 529 bytes that the library takes, byte for byte as `include/treadlewisp.h` has it.
+///
+/// Any 529 bytes can be a `Card`; one that is not sound is refused with [`Refusal::Unsound`]. Every card that an operation gives is sound.
+/// PIN, PUK and keys lie in it as they are, and its memory is not wiped when it is dropped. `Debug` shows none of them.
+#[derive(Clone, PartialEq, Eq)]
+#[repr(C)]
+pub struct Card {
+    initialised: u8,
+    uid: [u8; UID_BYTES],
+    public_key: [u8; PUBLIC_KEY_BYTES],
+    pin: [u8; PIN_BYTES],
+    puk: [u8; PUK_BYTES],
+    pin_tries: u8,
+    puk_tries: u8,
+    verified: u8,
+    secret: [u8; KEY_BYTES],
+    slots: [Slot; SLOTS],
+    pending: u8,
+    expected: [u8; KEY_BYTES],
+    key_kind: u8,
+    key_uid: [u8; KEY_BYTES],
+    current: Path,
+    pinless: Path,
+    stage: u8,
+    enc_key: [u8; KEY_BYTES],
+    mac_key: [u8; KEY_BYTES],
+    iv: [u8; IV_BYTES],
+}
+
+// The layout of include/treadlewisp.h: no padding, no alignment, each group of fields at its offset in bytes.
+const _: () = assert!(size_of::<Card>() == CARD_BYTES && align_of::<Card>() == 1);
+const _: () = assert!(size_of::<Slot>() == 1 + KEY_BYTES && size_of::<Path>() == 1 + PATH_MAX_BYTES);
+const _: () = assert!(offset_of!(Card, uid) == 1 && offset_of!(Card, public_key) == 17);
+const _: () = assert!(offset_of!(Card, pin) == 82 && offset_of!(Card, puk) == 88 && offset_of!(Card, pin_tries) == 100);
+const _: () = assert!(offset_of!(Card, puk_tries) == 101 && offset_of!(Card, verified) == 102 && offset_of!(Card, secret) == 103);
+const _: () = assert!(offset_of!(Card, slots) == 135 && offset_of!(Card, pending) == 300 && offset_of!(Card, expected) == 301);
+const _: () = assert!(offset_of!(Card, key_kind) == 333 && offset_of!(Card, key_uid) == 334);
+const _: () = assert!(offset_of!(Card, current) == 366 && offset_of!(Card, pinless) == 407);
+const _: () = assert!(offset_of!(Card, stage) == 448 && offset_of!(Card, enc_key) == 449);
+const _: () = assert!(offset_of!(Card, mac_key) == 481 && offset_of!(Card, iv) == 513);
+
+/// What ASK reports.
+#[derive(Clone, Copy, PartialEq, Eq, Debug)]
+pub struct Asked {
+    /// The supply that ANSWER will read for the command.
+    pub kind: SupplyKind,
+    /// How many bytes of the command's opened data were written from the buffer's start; 0 where ANSWER reads no supply.
+    pub count: usize,
+}
+
+/// The operations.
+impl Card {
+    /// FRESH: the card of a new device, before INIT.
+    ///
+    /// ```
+    /// use treadlewisp::Card;
+    /// let card = Card::fresh(&[0x11; 16], &[0x04; 65]);
+    /// assert!(card.is_sound() && !card.is_initialised());
+    /// ```
+    pub fn fresh(uid: &[u8; UID_BYTES], public_key: &[u8; PUBLIC_KEY_BYTES]) -> Card {
+        let mut card = Card::zero();
+        ffi::fresh(&mut card, uid, public_key);
+        card
+    }
+
+    /// Whether the card is sound.
+    pub fn is_sound(&self) -> bool {
+        ffi::sound(self)
+    }
+
+    /// RESET: power-up. Channel, verification and a pending pairing are gone, all else is kept.
+    ///
+    /// Refused with [`Refusal::Unsound`]; the card is then as it was.
+    pub fn reset(&mut self) -> Result<(), Refusal> {
+        ffi::reset(self)
+    }
+
+    /// ASK: which supply [`answer`](Card::answer) will read for this command, with the command's opened data from the buffer's start. The
+    /// host works out the supply from them.
+    ///
+    /// Refused with [`Refusal::Unsound`], or [`Refusal::Room`] where the buffer is under [`ASK_ROOM_BYTES`]; the buffer is then as it was.
+    /// Bytes past the count are never touched.
+    pub fn ask(&self, command: &[u8], buffer: &mut [u8]) -> Result<Asked, Refusal> {
+        ffi::ask(self, command, buffer)
+    }
+
+    /// ANSWER: response data and status word from the buffer's start, and their count in bytes; the card becomes the next card.
+    ///
+    /// The supply is read only where [`ask`](Card::ask) names a kind; else it may be empty. Refused with [`Refusal::Unsound`],
+    /// [`Refusal::Room`] where the buffer is under [`ANSWER_ROOM_BYTES`], or [`Refusal::BadSupply`]; card and buffer are then as they were.
+    /// Bytes past the count are never touched.
+    ///
+    /// ```
+    /// use treadlewisp::{Card, Refusal, StatusWord, ANSWER_ROOM_BYTES};
+    /// let mut card = Card::fresh(&[0x11; 16], &[0x04; 65]);
+    /// let mut buffer = [0xA5; ANSWER_ROOM_BYTES];
+    /// let too_short = &mut buffer[1..];
+    /// assert_eq!(card.answer(&[0x90, 0, 0, 0], &[], too_short), Err(Refusal::Room));
+    /// let count = card.answer(&[0x90, 0, 0, 0], &[], &mut buffer)?;
+    /// assert_eq!(StatusWord::of(&buffer[..count]), Some(StatusWord::UNKNOWN_CLASS));
+    /// # Ok::<(), Refusal>(())
+    /// ```
+    pub fn answer(&mut self, command: &[u8], supply: &[u8], buffer: &mut [u8]) -> Result<usize, Refusal> {
+        ffi::answer(self, command, supply, buffer)
+    }
+
+    /// WRITE: the card's stored record from the buffer's start, and its length in bytes. It holds what [`reset`](Card::reset) keeps.
+    ///
+    /// Refused with [`Refusal::Unsound`], or [`Refusal::Room`] where the buffer is under [`WRITE_ROOM_BYTES`]; the buffer is then as it
+    /// was. Bytes past the count are never touched.
+    pub fn write(&self, buffer: &mut [u8]) -> Result<usize, Refusal> {
+        ffi::write(self, buffer)
+    }
+
+    /// READ: the card of a stored record, sound and reset.
+    ///
+    /// Refused with [`Refusal::NotRecord`]; there is then no card. (In C the record that is lent becomes FRESH of zeros.)
+    ///
+    /// ```
+    /// use treadlewisp::{Card, Refusal};
+    /// assert_eq!(Card::read(&[0x10, 0x00, 0x01, 0x00]), Err(Refusal::NotRecord));
+    /// ```
+    pub fn read(record: &[u8]) -> Result<Card, Refusal> {
+        let mut card = Card::zero();
+        ffi::read(&mut card, record)?;
+        Ok(card)
+    }
+}
+
+/// The record, as bytes.
+impl Card {
+    /// The card of these 529 bytes, sound or not.
+    ///
+    /// ```
+    /// use treadlewisp::{Card, Refusal};
+    /// let mut card = Card::from_bytes(&[0xFF; 529]);
+    /// assert!(!card.is_sound());
+    /// assert_eq!(card.reset(), Err(Refusal::Unsound));
+    /// assert_eq!(card.to_bytes(), [0xFF; 529]);
+    /// ```
+    pub fn from_bytes(bytes: &[u8; CARD_BYTES]) -> Card {
+        ffi::card_of(*bytes)
+    }
+
+    /// The card's 529 bytes, PIN, PUK and keys among them.
+    pub fn to_bytes(&self) -> [u8; CARD_BYTES] {
+        ffi::bytes_of(self.clone())
+    }
+
+    /// A record of zeros, for an operation to write over.
+    fn zero() -> Card {
+        Card::from_bytes(&[0; CARD_BYTES])
+    }
+}
+
+/// What can be read of a card. A flag reads as set where its byte is 01.
+impl Card {
+    /// Whether INIT was done.
+    pub fn is_initialised(&self) -> bool {
+        self.initialised == 1
+    }
+
+    /// The card's UID.
+    pub fn uid(&self) -> &[u8; UID_BYTES] {
+        &self.uid
+    }
+
+    /// The card's public key.
+    pub fn public_key(&self) -> &[u8; PUBLIC_KEY_BYTES] {
+        &self.public_key
+    }
+
+    /// Tries left for the PIN, at most 3.
+    pub fn pin_tries(&self) -> u8 {
+        self.pin_tries
+    }
+
+    /// Tries left for the PUK, at most 5.
+    pub fn puk_tries(&self) -> u8 {
+        self.puk_tries
+    }
+
+    /// Whether the PIN is verified.
+    pub fn is_verified(&self) -> bool {
+        self.verified == 1
+    }
+
+    /// The pairing secret, which the host needs for PAIR's cryptograms.
+    pub fn pairing_secret(&self) -> &[u8; KEY_BYTES] {
+        &self.secret
+    }
+
+    /// The five pairing slots.
+    pub fn slots(&self) -> &[Slot; SLOTS] {
+        &self.slots
+    }
+
+    /// Whether a first step of PAIR waits for its final one.
+    pub fn is_pairing_pending(&self) -> bool {
+        self.pending == 1
+    }
+
+    /// The kind of the card's key; none where the byte is over 2, which no sound card has.
+    pub fn key_kind(&self) -> Option<KeyKind> {
+        KeyKind::from_number(self.key_kind)
+    }
+
+    /// The key's UID, zero without a key.
+    pub fn key_uid(&self) -> &[u8; KEY_BYTES] {
+        &self.key_uid
+    }
+
+    /// The current path.
+    pub fn current_path(&self) -> &Path {
+        &self.current
+    }
+
+    /// The PIN-less path.
+    pub fn pinless_path(&self) -> &Path {
+        &self.pinless
+    }
+
+    /// The stage of the channel; none where the byte is over 2, which no sound card has.
+    pub fn stage(&self) -> Option<Stage> {
+        Stage::from_number(self.stage)
+    }
+}
+
+/// No PIN, PUK, secret or key is shown.
+impl fmt::Debug for Card {
+    fn fmt(&self, f: &mut fmt::Formatter<'_>) -> fmt::Result {
+        f.debug_struct("Card")
+            .field("initialised", &self.is_initialised())
+            .field("uid", &format_args!("{:02X?}", self.uid))
+            .field("pin_tries", &self.pin_tries)
+            .field("puk_tries", &self.puk_tries)
+            .field("verified", &self.is_verified())
+            .field("slots", &self.slots)
+            .field("pairing_pending", &self.is_pairing_pending())
+            .field("key_kind", &self.key_kind())
+            .field("current_path", &self.current)
+            .field("pinless_path", &self.pinless)
+            .field("stage", &self.stage())
+            .finish_non_exhaustive()
+    }
+}

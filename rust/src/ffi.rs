@@ -1,0 +1,171 @@
+//! The functions of `include/treadlewisp.h`, and all of this crate's unsafe code.
+//!
+//! What the header asks of a caller holds at every call here, because the arguments are references to Rust values:
+//! - a reference or slice is not null, a slice's not even when it is empty, and is valid for its whole length, which is under 2^63 bytes;
+//! - what is behind `&mut` overlaps nothing else that the call is given, and no other thread uses it;
+//! - what is behind `&` is written by no one, as no type here has interior mutability;
+//! - `Card` and `Session` are `repr(C)` and have the header's layout, asserted at compile time where they are declared.
+
+use std::mem::{offset_of, size_of, transmute};
+
+use crate::card::{Asked, Card};
+use crate::lengths::*;
+use crate::refusal::Refusal;
+use crate::session::Session;
+use crate::supply::SupplyKind;
+
+/// `tw_asked`.
+#[repr(C)]
+struct ReportAsked {
+    refusal: u8,
+    kind: u8,
+    count: usize,
+}
+
+/// `tw_told`.
+#[repr(C)]
+struct Report {
+    refusal: u8,
+    count: usize,
+}
+
+const _: () = assert!(size_of::<ReportAsked>() == 16 && offset_of!(ReportAsked, kind) == 1 && offset_of!(ReportAsked, count) == 8);
+const _: () = assert!(size_of::<Report>() == 16 && offset_of!(Report, count) == 8);
+
+extern "C" {
+    fn tw_fresh(card: *mut Card, uid: *const u8, public_key: *const u8);
+    fn tw_sound(card: *const Card) -> u8;
+    fn tw_reset(card: *mut Card) -> u8;
+    fn tw_ask(card: *const Card, cmd: *const u8, cmd_bytes: usize, buf: *mut u8, buf_bytes: usize) -> ReportAsked;
+    fn tw_answer(
+        card: *mut Card,
+        cmd: *const u8,
+        cmd_bytes: usize,
+        supply: *const u8,
+        supply_bytes: usize,
+        buf: *mut u8,
+        buf_bytes: usize,
+    ) -> Report;
+    fn tw_seal(session: *mut Session, header: *const u8, data: *const u8, data_bytes: usize, buf: *mut u8, buf_bytes: usize) -> Report;
+    fn tw_unseal(session: *mut Session, response: *const u8, response_bytes: usize, buf: *mut u8, buf_bytes: usize) -> Report;
+    fn tw_walk(input: *const u8, input_bytes: usize) -> Report;
+    fn tw_write(card: *const Card, buf: *mut u8, buf_bytes: usize) -> Report;
+    fn tw_read(card: *mut Card, record: *const u8, record_bytes: usize) -> u8;
+}
+
+/// What a refusal's number says. The library is proved to give 0 to 8 alone; any other number would come from another library, and stops
+/// the caller as a card that is not sound does.
+fn done(refusal: u8) -> Result<(), Refusal> {
+    match refusal {
+        0 => Ok(()),
+        number => Err(Refusal::from_number(number).unwrap_or(Refusal::Unsound)),
+    }
+}
+
+impl Report {
+    fn count(self) -> Result<usize, Refusal> {
+        done(self.refusal).map(|()| self.count)
+    }
+}
+
+pub(crate) fn fresh(card: &mut Card, uid: &[u8; UID_BYTES], public_key: &[u8; PUBLIC_KEY_BYTES]) {
+    // SAFETY: the card is 529 bytes to write, borrowed alone; the arrays are 16 and 65 bytes to read.
+    unsafe { tw_fresh(card, uid.as_ptr(), public_key.as_ptr()) }
+}
+
+pub(crate) fn sound(card: &Card) -> bool {
+    // SAFETY: the card is 529 bytes to read.
+    unsafe { tw_sound(card) == 1 }
+}
+
+pub(crate) fn reset(card: &mut Card) -> Result<(), Refusal> {
+    // SAFETY: the card is 529 bytes to read and write, borrowed alone.
+    done(unsafe { tw_reset(card) })
+}
+
+pub(crate) fn ask(card: &Card, command: &[u8], buffer: &mut [u8]) -> Result<Asked, Refusal> {
+    // SAFETY: the card is 529 bytes to read; command and buffer are given with their lengths, the buffer is borrowed alone.
+    let report = unsafe { tw_ask(card, command.as_ptr(), command.len(), buffer.as_mut_ptr(), buffer.len()) };
+    done(report.refusal)?;
+    Ok(Asked {
+        kind: SupplyKind::from_number(report.kind).unwrap_or(SupplyKind::None),
+        count: report.count,
+    })
+}
+
+pub(crate) fn answer(card: &mut Card, command: &[u8], supply: &[u8], buffer: &mut [u8]) -> Result<usize, Refusal> {
+    // SAFETY: the card is 529 bytes to read and write; command, supply and buffer are given with their lengths; card and buffer are each
+    // borrowed alone.
+    let report = unsafe {
+        tw_answer(
+            card,
+            command.as_ptr(),
+            command.len(),
+            supply.as_ptr(),
+            supply.len(),
+            buffer.as_mut_ptr(),
+            buffer.len(),
+        )
+    };
+    report.count()
+}
+
+pub(crate) fn seal(session: &mut Session, header: &[u8; HEADER_BYTES], data: &[u8], buffer: &mut [u8]) -> Result<usize, Refusal> {
+    // SAFETY: the session is 80 bytes to read and write, the header 4 bytes to read; data and buffer are given with their lengths; session
+    // and buffer are each borrowed alone.
+    let report = unsafe {
+        tw_seal(
+            session,
+            header.as_ptr(),
+            data.as_ptr(),
+            data.len(),
+            buffer.as_mut_ptr(),
+            buffer.len(),
+        )
+    };
+    report.count()
+}
+
+pub(crate) fn unseal(session: &mut Session, response: &[u8], buffer: &mut [u8]) -> Result<usize, Refusal> {
+    // SAFETY: the session is 80 bytes to read and write; response and buffer are given with their lengths; session and buffer are each
+    // borrowed alone.
+    let report = unsafe { tw_unseal(session, response.as_ptr(), response.len(), buffer.as_mut_ptr(), buffer.len()) };
+    report.count()
+}
+
+pub(crate) fn walk(input: &[u8]) -> Result<usize, Refusal> {
+    // SAFETY: the input is given with its length, to read.
+    let report = unsafe { tw_walk(input.as_ptr(), input.len()) };
+    report.count()
+}
+
+pub(crate) fn write(card: &Card, buffer: &mut [u8]) -> Result<usize, Refusal> {
+    // SAFETY: the card is 529 bytes to read; the buffer is given with its length and borrowed alone.
+    let report = unsafe { tw_write(card, buffer.as_mut_ptr(), buffer.len()) };
+    report.count()
+}
+
+pub(crate) fn read(card: &mut Card, record: &[u8]) -> Result<(), Refusal> {
+    // SAFETY: the card is 529 bytes to write, borrowed alone; the record is given with its length, to read.
+    done(unsafe { tw_read(card, record.as_ptr(), record.len()) })
+}
+
+pub(crate) fn card_of(bytes: [u8; CARD_BYTES]) -> Card {
+    // SAFETY: a card is made of bytes alone, without padding and of the same size, so any bytes are a card.
+    unsafe { transmute(bytes) }
+}
+
+pub(crate) fn bytes_of(card: Card) -> [u8; CARD_BYTES] {
+    // SAFETY: a card is made of bytes alone, without padding and of the same size, so every byte has a value.
+    unsafe { transmute(card) }
+}
+
+pub(crate) fn session_of(bytes: [u8; SESSION_BYTES]) -> Session {
+    // SAFETY: a session is made of bytes alone, without padding and of the same size, so any bytes are a session.
+    unsafe { transmute(bytes) }
+}
+
+pub(crate) fn session_bytes(session: Session) -> [u8; SESSION_BYTES] {
+    // SAFETY: a session is made of bytes alone, without padding and of the same size, so every byte has a value.
+    unsafe { transmute(session) }
+}

@@ -1,0 +1,92 @@
+//! The engine of a wallet card, for callers in Rust: safe functions over the library `treadlewisp`, which is written in Rattle and proved.
+//!
+//! A [`Card`] is a card's whole state. It takes a command and gives a response and the next state; a [`Session`] is the terminal's end of
+//! the encrypted channel. The engine does no curve arithmetic and makes no random numbers: [`Card::ask`] says which results a command needs
+//! (its *supply*, see [`SupplyKind`]), the host works them out, and [`Card::answer`] takes them.
+//!
+//! | Operation | Here | What it does |
+//! |---|---|---|
+//! | FRESH | [`Card::fresh`] | the card of a new device |
+//! | | [`Card::is_sound`] | whether 529 bytes are a sound card |
+//! | RESET | [`Card::reset`] | power-up |
+//! | ASK | [`Card::ask`] | which supply a command needs, and its opened data |
+//! | ANSWER | [`Card::answer`] | the response, and the next card |
+//! | SEAL | [`Session::seal`] | a sealed command |
+//! | UNSEAL | [`Session::unseal`] | what a sealed response holds |
+//! | WALK | [`walk`] | how many fields templates hold |
+//! | WRITE | [`Card::write`] | the card's stored record |
+//! | READ | [`Card::read`] | the card of a stored record |
+//!
+//! Every length, room and count is in bytes; [`walk`] alone counts fields. Buffers are the caller's. An operation that cannot be done gives
+//! a [`Refusal`] and leaves card, session and buffer as they were. No operation panics or allocates, and nothing is kept between calls.
+//!
+//! In C the caller has to ensure that pointers are valid, lengths right and arguments apart (`include/treadlewisp.h` says so at each
+//! function). Here references and slices see to it: any call that compiles is allowed.
+//!
+//! # Example
+//!
+//! A new card: SELECT answers its public key, GET STATUS is not there before INIT, and the card is stored and taken back.
+//!
+//! ```
+//! use treadlewisp::{command, Card, Refusal, StatusWord, ANSWER_ROOM_BYTES, WRITE_ROOM_BYTES};
+//!
+//! let mut card = Card::fresh(&[0x11; 16], &[0x04; 65]);
+//! let mut buffer = [0; ANSWER_ROOM_BYTES];
+//!
+//! let mut select = vec![command::CLASS_SELECT, command::SELECT, command::P1_SELECT, 0x00, 15];
+//! select.extend_from_slice(command::APPLICATION_ID);
+//! let count = card.answer(&select, &[], &mut buffer)?;
+//! assert_eq!(count, 2 + 65 + 2); // tag and length, public key, status word
+//! assert_eq!(buffer[..2], [0x80, 65]);
+//! assert_eq!(StatusWord::of(&buffer[..count]), Some(StatusWord::SUCCESS));
+//!
+//! let get_status = [command::CLASS_CARD, command::GET_STATUS, 0x00, 0x00];
+//! let count = card.answer(&get_status, &[], &mut buffer)?;
+//! assert_eq!(buffer[..count], [0x6D, 0x00]);
+//!
+//! let mut record = [0; WRITE_ROOM_BYTES];
+//! let count = card.write(&mut record)?;
+//! assert_eq!(count, 91);
+//! assert_eq!(Card::read(&record[..count])?, card);
+//! # Ok::<(), Refusal>(())
+//! ```
+//!
+//! # Building
+//!
+//! The library `libtreadlewisp.a` is linked from the repository's `target/staticlib`, where `tools/library` puts it, or from the folder
+//! that the environment variable `TREADLEWISP_LIB_DIR` names (a relative one counts from this package). It is for x86-64 Linux.
+
+#![deny(unsafe_code, unsafe_op_in_unsafe_fn, missing_docs)]
+
+mod card;
+pub mod command;
+#[allow(unsafe_code)]
+mod ffi;
+mod lengths;
+mod parts;
+mod refusal;
+mod session;
+mod status;
+mod supply;
+
+pub use card::{Asked, Card};
+pub use lengths::*;
+pub use parts::{KeyKind, Path, Slot, Stage};
+pub use refusal::Refusal;
+pub use session::Session;
+pub use status::StatusWord;
+pub use supply::SupplyKind;
+
+/// WALK: how many fields that are not templates the input holds. The count is in fields; the input may have any length in bytes.
+///
+/// Refused with [`Refusal::Malformed`] or [`Refusal::TooDeep`], by the first fault from left to right.
+///
+/// ```
+/// use treadlewisp::{walk, Refusal};
+/// assert_eq!(walk(&[0xA1, 0x05, 0x80, 0x01, 0x99, 0x81, 0x00]), Ok(2));
+/// assert_eq!(walk(&[0xA1, 0x00]), Ok(0));
+/// assert_eq!(walk(&[0x80, 0x81, 0x05]), Err(Refusal::Malformed));
+/// ```
+pub fn walk(input: &[u8]) -> Result<usize, Refusal> {
+    ffi::walk(input)
+}

@@ -1,0 +1,117 @@
+//! Parts of a card: pairing slots, paths, the kind of its key and the stage of its channel.
+
+use std::fmt;
+
+use crate::lengths::{COMPONENT_BYTES, KEY_BYTES, PATH_MAX_BYTES};
+
+/// A pairing slot: whether it is filled, and its key. 33 bytes.
+#[derive(Clone, PartialEq, Eq)]
+#[repr(C)]
+pub struct Slot {
+    filled: u8,
+    key: [u8; KEY_BYTES],
+}
+
+impl Slot {
+    /// Whether the slot is filled: its flag is 01.
+    pub fn is_filled(&self) -> bool {
+        self.filled == 1
+    }
+
+    /// The pairing key, which the host needs for OPEN's session keys; zero in a free slot of a sound card.
+    pub fn pairing_key(&self) -> &[u8; KEY_BYTES] {
+        &self.key
+    }
+}
+
+/// Says whether the slot is filled, and nothing of its key.
+impl fmt::Debug for Slot {
+    fn fmt(&self, f: &mut fmt::Formatter<'_>) -> fmt::Result {
+        f.debug_struct("Slot").field("filled", &self.is_filled()).finish_non_exhaustive()
+    }
+}
+
+/// A path of key derivation: components of 4 bytes, at most 10 of them. 41 bytes: the length in bytes, then room for 40.
+#[derive(Clone, PartialEq, Eq)]
+#[repr(C)]
+pub struct Path {
+    used_bytes: u8,
+    room: [u8; PATH_MAX_BYTES],
+}
+
+impl Path {
+    /// The bytes in use, 4 a component, the high byte first. Of a path that claims more than 40, which no sound card has, all 40.
+    pub fn bytes(&self) -> &[u8] {
+        self.room.get(..usize::from(self.used_bytes)).unwrap_or(&self.room)
+    }
+
+    /// Whether no byte is in use.
+    pub fn is_empty(&self) -> bool {
+        self.used_bytes == 0
+    }
+
+    /// The components, from the master key on.
+    pub fn components(&self) -> impl Iterator<Item = u32> + '_ {
+        self.bytes().chunks_exact(COMPONENT_BYTES).map(|component| {
+            let bytes = component.first_chunk().copied().unwrap_or_default();
+            u32::from_be_bytes(bytes)
+        })
+    }
+}
+
+/// The components in hexadecimal digits.
+impl fmt::Debug for Path {
+    fn fmt(&self, f: &mut fmt::Formatter<'_>) -> fmt::Result {
+        f.debug_list()
+            .entries(self.components().map(|component| format!("{component:08X}")))
+            .finish()
+    }
+}
+
+/// The kind of a card's key.
+#[derive(Clone, Copy, PartialEq, Eq, PartialOrd, Ord, Hash, Debug)]
+#[repr(u8)]
+pub enum KeyKind {
+    /// No key.
+    None = 0,
+    /// A key without a chain code: it signs, and nothing is derived from it.
+    Plain = 1,
+    /// An extended key.
+    Extended = 2,
+}
+
+impl KeyKind {
+    /// The kind with this number, if it is 0, 1 or 2.
+    pub const fn from_number(number: u8) -> Option<KeyKind> {
+        match number {
+            0 => Some(KeyKind::None),
+            1 => Some(KeyKind::Plain),
+            2 => Some(KeyKind::Extended),
+            _ => None,
+        }
+    }
+}
+
+/// The stage of the secure channel.
+#[derive(Clone, Copy, PartialEq, Eq, PartialOrd, Ord, Hash, Debug)]
+#[repr(u8)]
+pub enum Stage {
+    /// No channel.
+    Closed = 0,
+    /// OPEN has been answered.
+    Opened = 1,
+    /// MUTUAL has been answered: both ends have shown that they hold the keys.
+    Mutual = 2,
+}
+
+impl Stage {
+    /// The stage with this number, if it is 0, 1 or 2.
+    pub const fn from_number(number: u8) -> Option<Stage> {
+        match number {
+            0 => Some(Stage::Closed),
+            1 => Some(Stage::Opened),
+            2 => Some(Stage::Mutual),
+            _ => None,
+        }
+    }
+}

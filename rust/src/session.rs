@@ -1,0 +1,85 @@
+//! The terminal's end of the secure channel.
+
+use std::fmt;
+use std::mem::{align_of, offset_of, size_of};
+
+use crate::ffi;
+use crate::lengths::{HEADER_BYTES, IV_BYTES, KEY_BYTES, SESSION_BYTES};
+use crate::refusal::Refusal;
+
+/// The terminal's session: encryption key, MAC key, and the IV of the next message. 80 bytes, as `include/treadlewisp.h` has them; any keys
+/// and IV are a session. Its memory is not wiped when it is dropped. `Debug` shows no key.
+#[derive(Clone, PartialEq, Eq)]
+#[repr(C)]
+pub struct Session {
+    enc_key: [u8; KEY_BYTES],
+    mac_key: [u8; KEY_BYTES],
+    iv: [u8; IV_BYTES],
+}
+
+const _: () = assert!(size_of::<Session>() == SESSION_BYTES && align_of::<Session>() == 1);
+const _: () = assert!(offset_of!(Session, mac_key) == 32 && offset_of!(Session, iv) == 64);
+
+impl Session {
+    /// The session that OPEN begins, with its seed IV.
+    pub fn new(enc_key: &[u8; KEY_BYTES], mac_key: &[u8; KEY_BYTES], iv: &[u8; IV_BYTES]) -> Session {
+        Session {
+            enc_key: *enc_key,
+            mac_key: *mac_key,
+            iv: *iv,
+        }
+    }
+
+    /// SEAL: the whole sealed command from the buffer's start, and its length in bytes; the session becomes the next one. The header is CLA
+    /// INS P1 P2.
+    ///
+    /// Refused with [`Refusal::Room`] where the buffer is under [`SEAL_ROOM_BYTES`](crate::SEAL_ROOM_BYTES), or [`Refusal::TooLong`] where
+    /// there are more data than [`DATA_MAX_BYTES`](crate::DATA_MAX_BYTES); session and buffer are then as they were. Bytes past the count
+    /// are never touched.
+    ///
+    /// ```
+    /// use treadlewisp::{Refusal, Session, SEAL_ROOM_BYTES};
+    /// let mut session = Session::new(&[0x22; 32], &[0x33; 32], &[0x44; 16]);
+    /// let mut buffer = [0; SEAL_ROOM_BYTES];
+    /// let count = session.seal(&[0x80, 0x20, 0x00, 0x00], b"123456", &mut buffer)?;
+    /// assert_eq!(count, 4 + 1 + 16 + 16);
+    /// assert_eq!(session.iv()[..], buffer[5..21]);
+    /// # Ok::<(), Refusal>(())
+    /// ```
+    pub fn seal(&mut self, header: &[u8; HEADER_BYTES], data: &[u8], buffer: &mut [u8]) -> Result<usize, Refusal> {
+        ffi::seal(self, header, data, buffer)
+    }
+
+    /// UNSEAL: a response's plaintext, inner status word included, from the buffer's start, and its length in bytes; the session becomes
+    /// the next one.
+    ///
+    /// Refused with [`Refusal::Room`] where the buffer is under [`UNSEAL_ROOM_BYTES`](crate::UNSEAL_ROOM_BYTES), or
+    /// [`Refusal::NotGenuine`]; session and buffer are then as they were. Bytes past the count are never touched.
+    pub fn unseal(&mut self, response: &[u8], buffer: &mut [u8]) -> Result<usize, Refusal> {
+        ffi::unseal(self, response, buffer)
+    }
+
+    /// The session of these 80 bytes.
+    pub fn from_bytes(bytes: &[u8; SESSION_BYTES]) -> Session {
+        ffi::session_of(*bytes)
+    }
+
+    /// The session's 80 bytes, both keys among them.
+    pub fn to_bytes(&self) -> [u8; SESSION_BYTES] {
+        ffi::session_bytes(self.clone())
+    }
+
+    /// The IV of the next message: the seed IV, then the MAC of the latest message. It is no secret.
+    pub fn iv(&self) -> &[u8; IV_BYTES] {
+        &self.iv
+    }
+}
+
+/// No key is shown.
+impl fmt::Debug for Session {
+    fn fmt(&self, f: &mut fmt::Formatter<'_>) -> fmt::Result {
+        f.debug_struct("Session")
+            .field("iv", &format_args!("{:02X?}", self.iv))
+            .finish_non_exhaustive()
+    }
+}

@@ -1,0 +1,106 @@
+//! Kinds of supply: the results of curve arithmetic and the random bytes that ANSWER reads from the host.
+
+use std::fmt;
+
+/// A kind of supply, as ASK reports it. A flag is one byte, 00 (no) or 01 (yes); after 00 the rest is there but not read.
+#[derive(Clone, Copy, PartialEq, Eq, PartialOrd, Ord, Hash, Debug)]
+#[repr(u8)]
+pub enum SupplyKind {
+    /// ANSWER reads no supply.
+    None = 0,
+    /// INIT: flag, AES key 32; 33 bytes.
+    Init = 1,
+    /// OPEN: flag, encryption key 32, MAC key 32, salt 32, IV 16; 113 bytes.
+    Open = 2,
+    /// MUTUAL: random, 32 bytes.
+    Mutual = 3,
+    /// PAIR's first step: cryptogram 32, challenge 32, expected client cryptogram 32; 96 bytes.
+    PairFirst = 4,
+    /// PAIR's final step: salt 32, pairing key 32; 64 bytes.
+    PairFinal = 5,
+    /// LOAD: flag, key UID 32; 33 bytes.
+    Load = 6,
+    /// DERIVE: flag, 1 byte.
+    Derive = 7,
+    /// SIGN: public key 65, r 32, s 32; 129 bytes.
+    Sign = 8,
+}
+
+impl SupplyKind {
+    /// All kinds, in the order of their numbers.
+    pub const ALL: [SupplyKind; 9] = [
+        SupplyKind::None,
+        SupplyKind::Init,
+        SupplyKind::Open,
+        SupplyKind::Mutual,
+        SupplyKind::PairFirst,
+        SupplyKind::PairFinal,
+        SupplyKind::Load,
+        SupplyKind::Derive,
+        SupplyKind::Sign,
+    ];
+
+    /// The kind's number, 0 to 8.
+    pub const fn number(self) -> u8 {
+        self as u8
+    }
+
+    /// The kind with this number, if it is 0 to 8.
+    pub const fn from_number(number: u8) -> Option<SupplyKind> {
+        match number {
+            0 => Some(SupplyKind::None),
+            1 => Some(SupplyKind::Init),
+            2 => Some(SupplyKind::Open),
+            3 => Some(SupplyKind::Mutual),
+            4 => Some(SupplyKind::PairFirst),
+            5 => Some(SupplyKind::PairFinal),
+            6 => Some(SupplyKind::Load),
+            7 => Some(SupplyKind::Derive),
+            8 => Some(SupplyKind::Sign),
+            _ => None,
+        }
+    }
+
+    /// How many bytes ANSWER wants; 0 where it reads no supply.
+    pub const fn bytes(self) -> usize {
+        match self {
+            SupplyKind::None => 0,
+            SupplyKind::Init | SupplyKind::Load => 33,
+            SupplyKind::Open => 113,
+            SupplyKind::Mutual => 32,
+            SupplyKind::PairFirst => 96,
+            SupplyKind::PairFinal => 64,
+            SupplyKind::Derive => 1,
+            SupplyKind::Sign => 129,
+        }
+    }
+
+    /// Whether the supply's first byte is a flag.
+    pub const fn has_flag(self) -> bool {
+        matches!(self, SupplyKind::Init | SupplyKind::Open | SupplyKind::Load | SupplyKind::Derive)
+    }
+
+    /// The name of the command that reads this supply; none for kind 0.
+    pub const fn command_name(self) -> Option<&'static str> {
+        match self {
+            SupplyKind::None => None,
+            SupplyKind::Init => Some("INIT"),
+            SupplyKind::Open => Some("OPEN"),
+            SupplyKind::Mutual => Some("MUTUAL"),
+            SupplyKind::PairFirst => Some("PAIR first"),
+            SupplyKind::PairFinal => Some("PAIR final"),
+            SupplyKind::Load => Some("LOAD"),
+            SupplyKind::Derive => Some("DERIVE"),
+            SupplyKind::Sign => Some("SIGN"),
+        }
+    }
+}
+
+impl fmt::Display for SupplyKind {
+    fn fmt(&self, f: &mut fmt::Formatter<'_>) -> fmt::Result {
+        match self.command_name() {
+            None => write!(f, "no supply"),
+            Some(name) => write!(f, "supply for {name}, {} bytes", self.bytes()),
+        }
+    }
+}

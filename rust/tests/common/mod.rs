@@ -1,0 +1,171 @@
+//! A card with its terminal and its host, for the tests. Lengths are in bytes. INIT's data are enciphered by the plain AES of outside/.
+
+#![allow(dead_code)]
+
+#[path = "../../../outside/plain.rs"]
+pub mod plain;
+
+use plain::Aes;
+use treadlewisp::*;
+
+pub const UID: [u8; UID_BYTES] = [0x11; UID_BYTES];
+pub const POINT: [u8; PUBLIC_KEY_BYTES] = [0x04; PUBLIC_KEY_BYTES];
+pub const PIN: &[u8; PIN_BYTES] = b"024680";
+pub const WRONG_PIN: &[u8; PIN_BYTES] = b"024681";
+pub const PUK: &[u8; PUK_BYTES] = b"918273645546";
+pub const PAIRING_SECRET: [u8; KEY_BYTES] = [0x51; KEY_BYTES];
+pub const PAIRING_KEY: [u8; KEY_BYTES] = [0x52; KEY_BYTES];
+pub const CRYPTOGRAM: [u8; KEY_BYTES] = [0x53; KEY_BYTES];
+pub const ENC_KEY: [u8; KEY_BYTES] = [0x61; KEY_BYTES];
+pub const MAC_KEY: [u8; KEY_BYTES] = [0x62; KEY_BYTES];
+pub const SEED_IV: [u8; IV_BYTES] = [0x63; IV_BYTES];
+pub const KEY_UID: [u8; KEY_BYTES] = [0x71; KEY_BYTES];
+const INIT_KEY: [u8; KEY_BYTES] = [0x81; KEY_BYTES];
+const INIT_IV: [u8; IV_BYTES] = [0x82; IV_BYTES];
+const SALT: [u8; KEY_BYTES] = [0x91; KEY_BYTES];
+const RANDOM: [u8; KEY_BYTES] = [0x92; KEY_BYTES];
+const CHALLENGE: [u8; KEY_BYTES] = [0x93; KEY_BYTES];
+
+/// What fills a buffer before a call.
+pub const FILL: u8 = 0xA5;
+
+/// A command without sealing: header, Lc and data; the header alone where there are no data.
+pub fn plain_command(header: [u8; HEADER_BYTES], data: &[u8]) -> Vec<u8> {
+    let mut command = header.to_vec();
+    if !data.is_empty() {
+        command.push(u8::try_from(data.len()).expect("at most 255 bytes of data"));
+        command.extend_from_slice(data);
+    }
+    command
+}
+
+pub fn card_header(instruction: u8, p1: u8) -> [u8; HEADER_BYTES] {
+    [command::CLASS_CARD, instruction, p1, 0x00]
+}
+
+pub fn select_command() -> Vec<u8> {
+    let header = [command::CLASS_SELECT, command::SELECT, command::P1_SELECT, 0x00];
+    plain_command(header, command::APPLICATION_ID)
+}
+
+/// INIT: 41, a point, the IV and 64 bytes of ciphertext of PIN, PUK and pairing secret.
+pub fn init_command() -> Vec<u8> {
+    let mut content = [&PIN[..], PUK, &PAIRING_SECRET, &[0x80]].concat();
+    content.resize(64, 0);
+    Aes::new().cbc_encrypt(&INIT_KEY, &INIT_IV, &mut content);
+    let data = [&[0x41], &POINT[..], &INIT_IV, &content].concat();
+    plain_command(card_header(command::INIT, 0x00), &data)
+}
+
+/// A right supply of this kind.
+pub fn supply(kind: SupplyKind) -> Vec<u8> {
+    let yes: &[u8] = &[0x01];
+    let parts: Vec<&[u8]> = match kind {
+        SupplyKind::None => vec![],
+        SupplyKind::Init => vec![yes, &INIT_KEY],
+        SupplyKind::Open => vec![yes, &ENC_KEY, &MAC_KEY, &SALT, &SEED_IV],
+        SupplyKind::Mutual => vec![&RANDOM],
+        SupplyKind::PairFirst => vec![&SALT, &CHALLENGE, &CRYPTOGRAM],
+        SupplyKind::PairFinal => vec![&SALT, &PAIRING_KEY],
+        SupplyKind::Load => vec![yes, &KEY_UID],
+        SupplyKind::Derive => vec![yes],
+        SupplyKind::Sign => vec![&POINT, &[0; 31], &[0x80], &[0; 31], &[0x01]],
+    };
+    parts.concat()
+}
+
+/// A card, and the terminal's end of its channel.
+pub struct Life {
+    pub card: Card,
+    pub terminal: Session,
+}
+
+impl Life {
+    pub fn fresh() -> Life {
+        Life {
+            card: Card::fresh(&UID, &POINT),
+            terminal: Session::new(&ENC_KEY, &MAC_KEY, &SEED_IV),
+        }
+    }
+
+    /// A card after INIT.
+    pub fn initialised() -> Life {
+        let mut life = Life::fresh();
+        assert_eq!(life.plain(&init_command()), [0x90, 0x00]);
+        life
+    }
+
+    /// A card that is paired, with the channel mutually authenticated.
+    pub fn in_channel() -> Life {
+        let mut life = Life::initialised();
+        life.pair();
+        life.open();
+        life.mutual();
+        life
+    }
+
+    /// ASK and ANSWER with the supply that ASK names; gives the response. Bytes past the counts stay.
+    pub fn plain(&mut self, command: &[u8]) -> Vec<u8> {
+        let mut opened = [FILL; ASK_ROOM_BYTES];
+        let asked = self.card.ask(command, &mut opened).expect("ASK");
+        assert!(opened[asked.count..].iter().all(|&b| b == FILL));
+        let mut response = vec![FILL; ANSWER_ROOM_BYTES];
+        let count = self.card.answer(command, &supply(asked.kind), &mut response).expect("ANSWER");
+        assert!(response[count..].iter().all(|&b| b == FILL));
+        assert!(self.card.is_sound());
+        response.truncate(count);
+        response
+    }
+
+    /// SEAL, ASK, ANSWER, UNSEAL; gives the response's plaintext.
+    pub fn sealed(&mut self, instruction: u8, p1: u8, data: &[u8]) -> Vec<u8> {
+        let command = self.seal(instruction, p1, data);
+        let response = self.plain(&command);
+        let mut opened = vec![FILL; UNSEAL_ROOM_BYTES];
+        let count = self.terminal.unseal(&response, &mut opened).expect("UNSEAL");
+        assert!(opened[count..].iter().all(|&b| b == FILL));
+        opened.truncate(count);
+        opened
+    }
+
+    /// As [`Life::sealed`], where only a status word is answered.
+    pub fn sealed_status(&mut self, instruction: u8, p1: u8, data: &[u8]) -> StatusWord {
+        let opened = self.sealed(instruction, p1, data);
+        assert_eq!(opened.len(), STATUS_BYTES);
+        StatusWord::of(&opened).expect("two bytes")
+    }
+
+    pub fn seal(&mut self, instruction: u8, p1: u8, data: &[u8]) -> Vec<u8> {
+        let mut command = vec![FILL; SEAL_ROOM_BYTES];
+        let header = card_header(instruction, p1);
+        let count = self.terminal.seal(&header, data, &mut command).expect("SEAL");
+        assert!(command[count..].iter().all(|&b| b == FILL));
+        command.truncate(count);
+        command
+    }
+
+    /// PAIR, both steps; the first answers cryptogram and challenge, the final one the slot and the salt.
+    pub fn pair(&mut self) -> u8 {
+        let first = plain_command(card_header(command::PAIR, command::P1_PAIR_FIRST), &[0x0F; KEY_BYTES]);
+        assert_eq!(self.plain(&first), [&SALT[..], &CHALLENGE, &[0x90, 0x00]].concat());
+        assert!(self.card.is_pairing_pending());
+        let last = plain_command(card_header(command::PAIR, command::P1_PAIR_FINAL), &CRYPTOGRAM);
+        let response = self.plain(&last);
+        assert_eq!(response[1..], [&SALT[..], &[0x90, 0x00]].concat());
+        assert!(!self.card.is_pairing_pending());
+        response[0]
+    }
+
+    pub fn open(&mut self) {
+        let open = plain_command(card_header(command::OPEN, 0), &POINT);
+        assert_eq!(self.plain(&open), [&SALT[..], &SEED_IV, &[0x90, 0x00]].concat());
+        assert_eq!(self.card.stage(), Some(Stage::Opened));
+        self.terminal = Session::new(&ENC_KEY, &MAC_KEY, &SEED_IV);
+    }
+
+    pub fn mutual(&mut self) {
+        let opened = self.sealed(command::MUTUAL, 0x00, &[0x0E; KEY_BYTES]);
+        assert_eq!(opened, [&RANDOM[..], &[0x90, 0x00]].concat());
+        assert_eq!(self.card.stage(), Some(Stage::Mutual));
+    }
+}

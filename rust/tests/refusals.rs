@@ -1,0 +1,148 @@
+//! Each refusal, 1 to 8, by each operation that gives it: card, session and buffer are afterwards as they were.
+
+mod common;
+
+use common::*;
+use treadlewisp::*;
+
+/// A buffer of this length, and whether it is afterwards as before.
+fn with_buffer<T>(bytes: usize, call: impl FnOnce(&mut [u8]) -> T) -> T {
+    let mut buffer = vec![FILL; bytes];
+    let result = call(&mut buffer);
+    assert!(buffer.iter().all(|&b| b == FILL), "the buffer was changed");
+    result
+}
+
+#[test]
+fn unsound_1() {
+    let sound = Life::in_channel().card.to_bytes();
+    let mut bytes = sound;
+    bytes[100] = 4; // PIN tries
+    let mut card = Card::from_bytes(&bytes);
+    assert!(!card.is_sound());
+    assert_eq!(card.reset(), Err(Refusal::Unsound));
+    let select = select_command();
+    for room in [0, ANSWER_ROOM_BYTES] {
+        assert_eq!(with_buffer(room, |b| card.ask(&select, b)), Err(Refusal::Unsound));
+        assert_eq!(with_buffer(room, |b| card.answer(&select, &[], b)), Err(Refusal::Unsound));
+    }
+    assert_eq!(with_buffer(WRITE_ROOM_BYTES, |b| card.write(b)), Err(Refusal::Unsound));
+    assert_eq!(card.to_bytes(), bytes);
+    assert!(Card::from_bytes(&sound).is_sound());
+}
+
+#[test]
+fn room_2() {
+    let mut life = Life::in_channel();
+    let (card, terminal) = (life.card.clone(), life.terminal.clone());
+    let select = select_command();
+    let header = card_header(command::VERIFY, 0x00);
+    for short in [1, 100] {
+        let ask = with_buffer(ASK_ROOM_BYTES - short, |b| life.card.ask(&select, b));
+        assert_eq!(ask, Err(Refusal::Room));
+        let answer = with_buffer(ANSWER_ROOM_BYTES - short, |b| life.card.answer(&select, &[], b));
+        assert_eq!(answer, Err(Refusal::Room));
+        let write = with_buffer(WRITE_ROOM_BYTES - short, |b| life.card.write(b));
+        assert_eq!(write, Err(Refusal::Room));
+        let too_long = [0; DATA_MAX_BYTES + 1];
+        let seal = with_buffer(SEAL_ROOM_BYTES - short, |b| life.terminal.seal(&header, &too_long, b));
+        assert_eq!(seal, Err(Refusal::Room));
+        let unseal = with_buffer(UNSEAL_ROOM_BYTES - short, |b| life.terminal.unseal(&[], b));
+        assert_eq!(unseal, Err(Refusal::Room));
+    }
+    assert_eq!((life.card, life.terminal), (card, terminal));
+}
+
+#[test]
+fn bad_supply_3() {
+    let mut life = Life::fresh();
+    let before = life.card.clone();
+    let init = init_command();
+    let right = supply(SupplyKind::Init);
+    assert_eq!(right.len(), SupplyKind::Init.bytes());
+    let mut flag_2 = right.clone();
+    flag_2[0] = 2;
+    for wrong in [&[][..], &[0], &right[1..], &[&right[..], &[0]].concat(), &flag_2] {
+        let answer = with_buffer(ANSWER_ROOM_BYTES, |b| life.card.answer(&init, wrong, b));
+        assert_eq!(answer, Err(Refusal::BadSupply));
+        assert_eq!(life.card, before);
+    }
+    let mut buffer = [FILL; ANSWER_ROOM_BYTES];
+    assert_eq!(life.card.answer(&init, &right, &mut buffer), Ok(2));
+    assert_ne!(life.card, before);
+}
+
+/// A refused supply takes back what the command did before: the channel's IV does not move.
+#[test]
+fn bad_supply_3_in_a_channel() {
+    let mut life = Life::in_channel();
+    assert_eq!(life.sealed_status(command::VERIFY, 0x00, PIN), StatusWord::SUCCESS);
+    let load = life.seal(command::LOAD, command::P1_LOAD_SEED, &[0x5E; 64]);
+    let before = life.card.clone();
+    let answer = with_buffer(ANSWER_ROOM_BYTES, |b| life.card.answer(&load, &[0x01], b));
+    assert_eq!(answer, Err(Refusal::BadSupply));
+    assert_eq!(life.card, before);
+    let response = life.plain(&load);
+    let mut opened = [0; UNSEAL_ROOM_BYTES];
+    assert_eq!(life.terminal.unseal(&response, &mut opened), Ok(KEY_BYTES + STATUS_BYTES));
+}
+
+#[test]
+fn malformed_4_and_too_deep_5() {
+    assert_eq!(walk(&[]), Ok(0));
+    assert_eq!(walk(&[0x80]), Err(Refusal::Malformed));
+    assert_eq!(walk(&[0x80, 0x81, 0x05]), Err(Refusal::Malformed));
+    let nested = |depth: u8| {
+        let templates = (0..depth).rev().flat_map(|inner| [0xA1, 2 * inner + 2]);
+        templates.chain([0x80, 0x00]).collect::<Vec<u8>>()
+    };
+    assert_eq!(walk(&nested(4)), Ok(1));
+    assert_eq!(walk(&nested(5)), Err(Refusal::TooDeep));
+    assert_eq!(walk(&[&nested(5)[..], &[0x80]].concat()), Err(Refusal::TooDeep));
+    assert_eq!(walk(&[&[0x80, 0x80][..], &nested(5)].concat()), Err(Refusal::Malformed));
+}
+
+#[test]
+fn too_long_6() {
+    let mut life = Life::fresh();
+    let before = life.terminal.clone();
+    let header = card_header(command::LOAD, 0x03);
+    let data = [0x5E; DATA_MAX_BYTES + 1];
+    let seal = with_buffer(SEAL_ROOM_BYTES, |b| life.terminal.seal(&header, &data, b));
+    assert_eq!(seal, Err(Refusal::TooLong));
+    assert_eq!(life.terminal, before);
+    assert_eq!(life.seal(command::LOAD, 0x03, &data[..DATA_MAX_BYTES]).len(), 5 + MAC_BYTES + 224);
+    assert_ne!(life.terminal, before);
+}
+
+#[test]
+fn not_genuine_7() {
+    let mut life = Life::in_channel();
+    let command = life.seal(command::GET_STATUS, 0x00, &[]);
+    let response = life.plain(&command);
+    let before = life.terminal.clone();
+    for at in 0..response.len() {
+        let mut damaged = response.clone();
+        damaged[at] ^= 0x40;
+        let unseal = with_buffer(UNSEAL_ROOM_BYTES, |b| life.terminal.unseal(&damaged, b));
+        assert_eq!(unseal, Err(Refusal::NotGenuine), "byte {at}");
+    }
+    let unseal = with_buffer(UNSEAL_ROOM_BYTES, |b| life.terminal.unseal(&[], b));
+    assert_eq!(unseal, Err(Refusal::NotGenuine));
+    assert_eq!(life.terminal, before);
+    let mut opened = [0; UNSEAL_ROOM_BYTES];
+    assert_eq!(life.terminal.unseal(&response, &mut opened), Ok(13));
+}
+
+#[test]
+fn not_record_8() {
+    let life = Life::initialised();
+    let mut buffer = [FILL; WRITE_ROOM_BYTES];
+    let count = life.card.write(&mut buffer).expect("WRITE");
+    let record = &buffer[..count];
+    assert_eq!(Card::read(&[]), Err(Refusal::NotRecord));
+    assert_eq!(Card::read(&record[1..]), Err(Refusal::NotRecord));
+    assert_eq!(Card::read(&record[..count - 1]), Err(Refusal::NotRecord));
+    assert_eq!(Card::read(&[record, &[0]].concat()), Err(Refusal::NotRecord));
+    assert_eq!(Card::read(record), Ok(life.card));
+}
