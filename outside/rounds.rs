@@ -1,0 +1,150 @@
+//! How a work is timed: each implementation makes the same calls from the same state, by turns, round after round, and every result is
+//! held to the library's. Times are in seconds where nothing else is said; lengths are in bytes.
+
+use crate::boundary::Told;
+use crate::sides::{Side, State};
+use crate::works::Work;
+use std::hint::black_box;
+use std::time::Instant;
+
+/// The library, the byte-wise baseline, the baseline by word tables: in this order everywhere.
+pub const SIDES: usize = 3;
+pub const LIBRARY: usize = 0;
+pub const BYTE_WISE: usize = 1;
+pub const TABLES: usize = 2;
+pub const NAMES: [&str; SIDES] = ["library", "byte-wise", "tables"];
+
+/// The time of each round, for each implementation.
+pub struct Times {
+    /// Calls in a round.
+    calls: usize,
+    seconds: [Vec<f64>; SIDES],
+}
+
+fn median(mut numbers: Vec<f64>) -> f64 {
+    numbers.sort_by(f64::total_cmp);
+    let middle = numbers.len() / 2;
+    if numbers.len() % 2 == 0 {
+        (numbers[middle - 1] + numbers[middle]) / 2.0
+    } else {
+        numbers[middle]
+    }
+}
+
+impl Times {
+    pub fn new(calls: usize) -> Times {
+        Times {
+            calls,
+            seconds: Default::default(),
+        }
+    }
+
+    pub fn push(&mut self, seconds: [f64; SIDES]) {
+        for (all, one) in self.seconds.iter_mut().zip(seconds) {
+            all.push(one);
+        }
+    }
+
+    /// Nanoseconds a call in the best round.
+    pub fn best(&self, side: usize) -> f64 {
+        let least = self.seconds[side].iter().copied().fold(f64::MAX, f64::min);
+        least * 1e9 / self.calls as f64
+    }
+
+    /// Seconds of all rounds together.
+    pub fn total(&self, side: usize) -> f64 {
+        self.seconds[side].iter().sum()
+    }
+
+    /// The library's speed over the baseline's: the median of the rounds' ratios, which a busy machine moves less than the times.
+    pub fn ratio(&self, baseline: usize) -> f64 {
+        let rounds = self.seconds[LIBRARY].iter().zip(&self.seconds[baseline]);
+        median(rounds.map(|(library, other)| other / library).collect())
+    }
+
+    /// The same ratio from the best round of each.
+    pub fn best_ratio(&self, baseline: usize) -> f64 {
+        self.best(baseline) / self.best(LIBRARY)
+    }
+}
+
+/// Who begins changes from round to round.
+pub fn turns(round: usize) -> [usize; SIDES] {
+    [0, 1, 2].map(|turn| (round + turn) % SIDES)
+}
+
+/// Ends the run: what was measured would mean nothing.
+pub fn differ(work: &str, side: usize, what: &str) -> ! {
+    println!("DIFFERENCE in {work}, {}: {what}", NAMES[side]);
+    std::process::exit(1);
+}
+
+/// What one round of calls leaves: every number told, every buffer, the last state.
+#[derive(PartialEq)]
+struct Outcome {
+    told: Vec<Told>,
+    buffers: Vec<u8>,
+    state: State,
+}
+
+/// One round: each call has a buffer of its own, cleared before the clock starts.
+fn round(side: &mut dyn Side, state: &State, work: &Work, outcome: &mut Outcome) -> f64 {
+    side.begin(state);
+    outcome.buffers.fill(0);
+    outcome.told.clear();
+    let room_bytes = outcome.buffers.len() / work.calls.len();
+    let mut left = &mut outcome.buffers[..];
+    let start = Instant::now();
+    for call in &work.calls {
+        let (buffer, rest) = left.split_at_mut(room_bytes);
+        outcome.told.push(black_box(call).make(side, black_box(buffer)));
+        left = rest;
+    }
+    let seconds = start.elapsed().as_secs_f64();
+    outcome.state = side.state();
+    seconds
+}
+
+/// A first pass without a clock: each call does what it is meant to, and leaves the same state behind on every side.
+fn first_pass(sides: &mut [&mut dyn Side; SIDES], state: &State, work: &Work) {
+    sides.iter_mut().for_each(|side| side.begin(state));
+    for call in &work.calls {
+        for (number, side) in sides.iter_mut().enumerate() {
+            let mut buffer = vec![0; call.room_bytes()];
+            let told = call.make(*side, &mut buffer);
+            if !call.is_done(told, &buffer) {
+                differ(&work.name, number, "a call did not do what is measured");
+            }
+        }
+        for number in [BYTE_WISE, TABLES] {
+            if sides[number].state() != sides[LIBRARY].state() {
+                differ(&work.name, number, "another state than the library's behind a call");
+            }
+        }
+    }
+}
+
+/// Makes the work's rounds on every side, by turns.
+pub fn measure(sides: &mut [&mut dyn Side; SIDES], state: &State, work: &Work) -> Times {
+    first_pass(sides, state, work);
+    let buffers_bytes = work.calls.iter().map(|call| call.room_bytes()).sum();
+    let mut outcomes = NAMES.map(|_| Outcome {
+        told: Vec::with_capacity(work.calls.len()),
+        buffers: vec![0; buffers_bytes],
+        state: state.clone(),
+    });
+    let mut times = Times::new(work.calls.len());
+    for number in 0..work.rounds {
+        let mut seconds = [0.0; SIDES];
+        for side in turns(number) {
+            seconds[side] = round(sides[side], state, work, &mut outcomes[side]);
+        }
+        for side in [BYTE_WISE, TABLES] {
+            if outcomes[side] != outcomes[LIBRARY] {
+                differ(&work.name, side, "another result than the library's");
+            }
+        }
+        times.push(seconds);
+    }
+    times
+}
