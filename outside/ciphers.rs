@@ -4,7 +4,7 @@
 use crate::choice::array;
 use crate::plain::{Block, Key, BLOCK_BYTES};
 use crate::random::Random;
-use crate::rounds::{differ, turns, Times, BYTE_WISE, LIBRARY, SIDES, TABLES};
+use crate::rounds::{differ, on_moved_stack, turns, Times, BYTE_WISE, LIBRARY, SIDES, TABLES};
 use crate::{library, plain, tables};
 use std::hint::black_box;
 use std::time::Instant;
@@ -106,7 +106,7 @@ pub fn check(random: &mut Random) {
     println!("Both ciphers give FIPS 197, C.3; the tables give what the byte-wise one gives on {CHECKED_MESSAGES} random keys and {blocks} blocks, both directions and MAC.");
 }
 
-#[derive(Clone, Copy)]
+#[derive(Clone, Copy, PartialEq, Eq)]
 pub enum Operation {
     Encrypt,
     Decrypt,
@@ -143,11 +143,14 @@ pub fn measure(random: &mut Random, messages: &Messages, operation: Operation) -
         let mut seconds = [0.0; SIDES];
         for side in turns(round) {
             buffers[side].copy_from_slice(&content);
-            let start = Instant::now();
-            for part in buffers[side].chunks_exact_mut(messages.message_bytes) {
-                work_on(ciphers[side], operation, &key, &iv, black_box(part));
-            }
-            seconds[side] = start.elapsed().as_secs_f64();
+            let parts = |buffer: &mut [u8]| {
+                let start = Instant::now();
+                for part in buffer.chunks_exact_mut(messages.message_bytes) {
+                    work_on(ciphers[side], operation, &key, &iv, black_box(part));
+                }
+                start.elapsed().as_secs_f64()
+            };
+            seconds[side] = on_moved_stack(round, &mut || parts(&mut buffers[side]));
         }
         for side in [BYTE_WISE, TABLES] {
             if buffers[side] != buffers[LIBRARY] {

@@ -73,6 +73,26 @@ pub fn turns(round: usize) -> [usize; SIDES] {
     [0, 1, 2].map(|turn| (round + turn) % SIDES)
 }
 
+#[inline(never)]
+fn moved<const BYTES: usize>(timed: &mut dyn FnMut() -> f64) -> f64 {
+    let gap = [0u8; BYTES];
+    black_box(&gap);
+    let seconds = timed();
+    black_box(&gap);
+    seconds
+}
+
+/// Runs a round with the stack at one of four places, 16 bytes apart. Where it lies against the cache's lines moves the times by up to a tenth,
+/// and it is another place in each run of the program; so every run takes all four in turn.
+pub fn on_moved_stack(round: usize, timed: &mut dyn FnMut() -> f64) -> f64 {
+    match round % 4 {
+        0 => moved::<16>(timed),
+        1 => moved::<32>(timed),
+        2 => moved::<48>(timed),
+        _ => moved::<64>(timed),
+    }
+}
+
 /// Ends the run: what was measured would mean nothing.
 pub fn differ(work: &str, side: usize, what: &str) -> ! {
     println!("DIFFERENCE in {work}, {}: {what}", NAMES[side]);
@@ -137,7 +157,7 @@ pub fn measure(sides: &mut [&mut dyn Side; SIDES], state: &State, work: &Work) -
     for number in 0..work.rounds {
         let mut seconds = [0.0; SIDES];
         for side in turns(number) {
-            seconds[side] = round(sides[side], state, work, &mut outcomes[side]);
+            seconds[side] = on_moved_stack(number, &mut || round(sides[side], state, work, &mut outcomes[side]));
         }
         for side in [BYTE_WISE, TABLES] {
             if outcomes[side] != outcomes[LIBRARY] {
