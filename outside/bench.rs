@@ -28,11 +28,11 @@ use sides::{Side, State};
 use works::Work;
 
 const SEED: u64 = 0x7265_6164_6c65_7769;
-/// Calls in a round, and rounds. SEAL with the most data, READ and WRITE are called 100,000 times.
-const CALLS: usize = 1000;
-const MANY_ROUNDS: usize = 100;
-const ROUNDS: usize = 40;
-const WALK_CALLS: usize = 200;
+/// Calls of SEAL with the most data, and of the others.
+const SEAL_CALLS: usize = 100_000;
+const CALLS: usize = 20_000;
+/// Calls in a round: few, so that a round is short and most are not interrupted.
+const ROUND_CALLS: usize = 100;
 
 /// Lengths in bytes at which the growth is shown, beside the greatest: SEAL's data, and what is inside of the response that UNSEAL opens.
 const SEAL_BYTES: [usize; 5] = [0, 16, 32, 64, 128];
@@ -64,7 +64,7 @@ impl Bench {
         let mut byte_wise = model_side::Model::new(&self.state);
         let mut tables = by_tables::model_side::Model::new(&self.state);
         let mut sides: [&mut dyn Side; SIDES] = [&mut library, &mut byte_wise, &mut tables];
-        let times = measure(&mut sides, &self.state, &work);
+        let times = measure(&mut sides, &self.state, &work, ROUND_CALLS);
         let measured = Measured { work, times };
         measured.print();
         measured
@@ -73,17 +73,17 @@ impl Bench {
     /// The main table; answers SEAL with the most data, for the second table.
     fn operations(&mut self) -> Measured {
         print_head("call", "ns");
-        let seal = works::seal(&mut self.random, MAX_DATA_BYTES, MANY_ROUNDS, CALLS);
+        let seal = works::seal(&mut self.random, MAX_DATA_BYTES, SEAL_CALLS);
         let sealed = self.row(seal);
-        let get_status = self.row(works::get_status(ROUNDS, CALLS));
+        let get_status = self.row(works::get_status(CALLS));
         self.row(works::answers(&self.state, &get_status.work, "GET STATUS, ANSWER alone"));
-        let verify = self.row(works::verify(&self.state, ROUNDS, CALLS));
+        let verify = self.row(works::verify(&self.state, CALLS));
         self.row(works::answers(&self.state, &verify.work, "VERIFY, ANSWER alone"));
-        let read = works::read(&mut self.random, MANY_ROUNDS, CALLS);
+        let read = works::read(&mut self.random, CALLS);
         self.row(read);
-        self.row(works::write(MANY_ROUNDS, CALLS));
+        self.row(works::write(CALLS));
         let seconds = each_side(|side| format!("{:.2} s", sealed.times.total(side)));
-        println!("\nAll {} commands of the first row together: {seconds}.", MANY_ROUNDS * CALLS);
+        println!("\nAll {SEAL_CALLS} commands of the first row together: {seconds}.");
         sealed
     }
 
@@ -91,15 +91,15 @@ impl Bench {
     fn growth(&mut self, sealed_most: Measured) {
         print_head("call", "ns");
         let sealed = SEAL_BYTES.map(|bytes| {
-            let work = works::seal(&mut self.random, bytes, ROUNDS, CALLS);
+            let work = works::seal(&mut self.random, bytes, CALLS);
             self.row(work)
         });
         sealed_most.print();
         let unsealed = UNSEAL_BYTES.map(|bytes| {
-            let work = works::unseal(&mut self.random, &self.state, bytes, ROUNDS, CALLS);
+            let work = works::unseal(&mut self.random, &self.state, bytes, CALLS);
             self.row(work)
         });
-        let walked = WALK_BYTES.map(|bytes| self.row(works::walk(bytes, ROUNDS, WALK_CALLS)));
+        let walked = WALK_BYTES.map(|bytes| self.row(works::walk(bytes, CALLS)));
         println!("\nEach further 16 bytes cost, between the least and the greatest length:\n");
         print_growth("SEAL", &sealed[0], &sealed_most);
         print_growth("UNSEAL", &unsealed[0], &unsealed[unsealed.len() - 1]);
@@ -139,18 +139,18 @@ fn ciphers_alone(random: &mut Random) {
     let works = [
         Messages {
             message_bytes: 16,
-            messages: 1000,
-            rounds: 48,
+            messages: 100,
+            rounds: 400,
         },
         Messages {
             message_bytes: 240,
-            messages: 1000,
-            rounds: 48,
+            messages: 100,
+            rounds: 400,
         },
         Messages {
             message_bytes: 1 << 16,
             messages: 1,
-            rounds: 96,
+            rounds: 200,
         },
     ];
     let operations = [

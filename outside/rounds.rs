@@ -1,9 +1,9 @@
-//! How a work is timed: each implementation makes the same calls from the same state, by turns, round after round, and every result is
-//! held to the library's. Times are in seconds where nothing else is said; lengths are in bytes.
+//! How a work is timed: each implementation makes the same calls from the same state, by turns, round after round, and every result of the
+//! baselines is held to the library's. Times are in seconds where nothing else is said; lengths are in bytes.
 
 use crate::boundary::Told;
 use crate::sides::{Side, State};
-use crate::works::Work;
+use crate::works::{Call, Work};
 use std::hint::black_box;
 use std::time::Instant;
 
@@ -107,15 +107,30 @@ struct Outcome {
     state: State,
 }
 
+impl Outcome {
+    fn new(calls: &[Call], state: &State) -> Outcome {
+        Outcome {
+            told: Vec::with_capacity(calls.len()),
+            buffers: vec![0; calls.iter().map(|call| call.room_bytes()).sum()],
+            state: state.clone(),
+        }
+    }
+
+    fn is_done(&self, calls: &[Call]) -> bool {
+        let room_bytes = self.buffers.len() / calls.len();
+        let mut numbered = calls.iter().zip(&self.told).enumerate();
+        numbered.all(|(i, (call, told))| call.is_done(*told, &self.buffers[i * room_bytes..][..room_bytes]))
+    }
+}
+
 /// One round: each call has a buffer of its own, cleared before the clock starts.
-fn round(side: &mut dyn Side, state: &State, work: &Work, outcome: &mut Outcome) -> f64 {
-    side.begin(state);
+fn round(side: &mut dyn Side, calls: &[Call], outcome: &mut Outcome) -> f64 {
     outcome.buffers.fill(0);
     outcome.told.clear();
-    let room_bytes = outcome.buffers.len() / work.calls.len();
+    let room_bytes = outcome.buffers.len() / calls.len();
     let mut left = &mut outcome.buffers[..];
     let start = Instant::now();
-    for call in &work.calls {
+    for call in calls {
         let (buffer, rest) = left.split_at_mut(room_bytes);
         outcome.told.push(black_box(call).make(side, black_box(buffer)));
         left = rest;
@@ -125,45 +140,38 @@ fn round(side: &mut dyn Side, state: &State, work: &Work, outcome: &mut Outcome)
     seconds
 }
 
-/// A first pass without a clock: each call does what it is meant to, and leaves the same state behind on every side.
-fn first_pass(sides: &mut [&mut dyn Side; SIDES], state: &State, work: &Work) {
-    sides.iter_mut().for_each(|side| side.begin(state));
-    for call in &work.calls {
-        for (number, side) in sides.iter_mut().enumerate() {
-            let mut buffer = vec![0; call.room_bytes()];
-            let told = call.make(*side, &mut buffer);
-            if !call.is_done(told, &buffer) {
-                differ(&work.name, number, "a call did not do what is measured");
-            }
-        }
-        for number in [BYTE_WISE, TABLES] {
-            if sides[number].state() != sides[LIBRARY].state() {
-                differ(&work.name, number, "another state than the library's behind a call");
-            }
+/// The calls did what they are meant to, and each baseline's outcome is the library's.
+fn hold(work: &Work, calls: &[Call], outcomes: &[Outcome; SIDES]) {
+    if !outcomes[LIBRARY].is_done(calls) {
+        differ(&work.name, LIBRARY, "a call did not do what is measured");
+    }
+    for side in [BYTE_WISE, TABLES] {
+        if outcomes[side] != outcomes[LIBRARY] {
+            differ(&work.name, side, "another result than the library's");
         }
     }
 }
 
-/// Makes the work's rounds on every side, by turns.
-pub fn measure(sides: &mut [&mut dyn Side; SIDES], state: &State, work: &Work) -> Times {
-    first_pass(sides, state, work);
-    let buffers_bytes = work.calls.iter().map(|call| call.room_bytes()).sum();
-    let mut outcomes = NAMES.map(|_| Outcome {
-        told: Vec::with_capacity(work.calls.len()),
-        buffers: vec![0; buffers_bytes],
-        state: state.clone(),
-    });
-    let mut times = Times::new(work.calls.len());
-    for number in 0..work.rounds {
+/// Makes the calls of a work on every side, by turns, so many in each round; the state goes on from round to round. Before that the first
+/// round is made once call by call, so that the state behind each is compared too.
+pub fn measure(sides: &mut [&mut dyn Side; SIDES], state: &State, work: &Work, round_calls: usize) -> Times {
+    let mut outcomes = NAMES.map(|_| Outcome::new(&work.calls[..1], state));
+    sides.iter_mut().for_each(|side| side.begin(state));
+    for call in work.calls[..round_calls].chunks(1) {
+        for side in 0..SIDES {
+            round(sides[side], call, &mut outcomes[side]);
+        }
+        hold(work, call, &outcomes);
+    }
+    let mut outcomes = NAMES.map(|_| Outcome::new(&work.calls[..round_calls], state));
+    let mut times = Times::new(round_calls);
+    sides.iter_mut().for_each(|side| side.begin(state));
+    for (number, calls) in work.calls.chunks_exact(round_calls).enumerate() {
         let mut seconds = [0.0; SIDES];
         for side in turns(number) {
-            seconds[side] = on_moved_stack(number, &mut || round(sides[side], state, work, &mut outcomes[side]));
+            seconds[side] = on_moved_stack(number, &mut || round(sides[side], calls, &mut outcomes[side]));
         }
-        for side in [BYTE_WISE, TABLES] {
-            if outcomes[side] != outcomes[LIBRARY] {
-                differ(&work.name, side, "another result than the library's");
-            }
-        }
+        hold(work, calls, &outcomes);
         times.push(seconds);
     }
     times

@@ -11,6 +11,7 @@ use crate::model::status::{NOT_REFUSED, SUCCESS};
 use crate::model_side::Model;
 use crate::random::Random;
 use crate::sides::{Side, State};
+use std::rc::Rc;
 
 const GET_STATUS: Header = [0x80, 0xf2, 0x00, 0x00];
 const VERIFY: Header = [0x80, 0x20, 0x00, 0x00];
@@ -27,16 +28,15 @@ pub enum Call {
     Exchange { header: Header, data: Vec<u8> },
     Write,
     Read { record: Vec<u8> },
-    Walk { input: Vec<u8> },
+    Walk { input: Rc<[u8]> },
 }
 
-/// Calls that are made one behind the other from the same state, and how many rounds of them are timed.
+/// Calls of one kind, each with its own inputs, that are made one behind the other.
 pub struct Work {
     pub name: String,
     /// The length that each call works on: data, plaintext, record or input.
     pub bytes: usize,
     pub calls: Vec<Call>,
-    pub rounds: usize,
 }
 
 impl Call {
@@ -121,28 +121,27 @@ pub fn start(random: &mut Random) -> State {
     }
 }
 
-fn work(name: String, bytes: usize, rounds: usize, calls: usize, call: impl FnMut(usize) -> Call) -> Work {
+fn work(name: String, bytes: usize, calls: usize, call: impl FnMut(usize) -> Call) -> Work {
     Work {
         name,
         bytes,
         calls: (0..calls).map(call).collect(),
-        rounds,
     }
 }
 
-pub fn seal(random: &mut Random, data_bytes: usize, rounds: usize, calls: usize) -> Work {
+pub fn seal(random: &mut Random, data_bytes: usize, calls: usize) -> Work {
     let name = format!("SEAL, {data_bytes} bytes of data");
-    work(name, data_bytes, rounds, calls, |_| Call::Seal {
+    work(name, data_bytes, calls, |_| Call::Seal {
         header: array(random),
         data: random.bytes(data_bytes),
     })
 }
 
 /// UNSEAL of responses that the card seals one behind the other.
-pub fn unseal(random: &mut Random, state: &State, plaintext_bytes: usize, rounds: usize, calls: usize) -> Work {
+pub fn unseal(random: &mut Random, state: &State, plaintext_bytes: usize, calls: usize) -> Work {
     let mut session = card_of(&state.card).session;
     let name = format!("UNSEAL, {plaintext_bytes} bytes inside");
-    work(name, plaintext_bytes, rounds, calls, |_| {
+    work(name, plaintext_bytes, calls, |_| {
         let field = seal_response(&mut session, &random.bytes(plaintext_bytes));
         Call::Unseal {
             response: [&field[..], &SUCCESS.to_be_bytes()].concat(),
@@ -150,17 +149,17 @@ pub fn unseal(random: &mut Random, state: &State, plaintext_bytes: usize, rounds
     })
 }
 
-pub fn get_status(rounds: usize, calls: usize) -> Work {
-    work("GET STATUS, whole exchange".into(), 0, rounds, calls, |_| Call::Exchange {
+pub fn get_status(calls: usize) -> Work {
+    work("GET STATUS, whole exchange".into(), 0, calls, |_| Call::Exchange {
         header: GET_STATUS,
         data: Vec::new(),
     })
 }
 
 /// VERIFY with the right PIN.
-pub fn verify(state: &State, rounds: usize, calls: usize) -> Work {
+pub fn verify(state: &State, calls: usize) -> Work {
     let pin = card_of(&state.card).pin;
-    work("VERIFY, whole exchange".into(), PIN_BYTES, rounds, calls, |_| Call::Exchange {
+    work("VERIFY, whole exchange".into(), PIN_BYTES, calls, |_| Call::Exchange {
         header: VERIFY,
         data: pin.to_vec(),
     })
@@ -181,26 +180,25 @@ pub fn answers(state: &State, exchanges: &Work, name: &str) -> Work {
         name: name.into(),
         bytes: exchanges.bytes,
         calls: exchanges.calls.iter().map(command_of).collect(),
-        rounds: exchanges.rounds,
     }
 }
 
-pub fn write(rounds: usize, calls: usize) -> Work {
+pub fn write(calls: usize) -> Work {
     let name = format!("WRITE, a record of {WRITE_ROOM_BYTES} bytes");
-    work(name, WRITE_ROOM_BYTES, rounds, calls, |_| Call::Write)
+    work(name, WRITE_ROOM_BYTES, calls, |_| Call::Write)
 }
 
-pub fn read(random: &mut Random, rounds: usize, calls: usize) -> Work {
+pub fn read(random: &mut Random, calls: usize) -> Work {
     let name = format!("READ, a record of {WRITE_ROOM_BYTES} bytes");
-    work(name, WRITE_ROOM_BYTES, rounds, calls, |_| Call::Read {
+    work(name, WRITE_ROOM_BYTES, calls, |_| Call::Read {
         record: record_of(&full_card(random)),
     })
 }
 
 /// WALK of templates of 16 bytes, one behind the other.
-pub fn walk(input_bytes: usize, rounds: usize, calls: usize) -> Work {
-    let input = TEMPLATE.repeat(input_bytes / TEMPLATE.len());
-    work(format!("WALK, {input_bytes} bytes"), input_bytes, rounds, calls, |_| Call::Walk {
+pub fn walk(input_bytes: usize, calls: usize) -> Work {
+    let input: Rc<[u8]> = TEMPLATE.repeat(input_bytes / TEMPLATE.len()).into();
+    work(format!("WALK, {input_bytes} bytes"), input_bytes, calls, |_| Call::Walk {
         input: input.clone(),
     })
 }
