@@ -1,134 +1,187 @@
-//! How fast the proved library is beside the plain implementation: the same input, the same run, by turns, the best of several rounds.
-//! Speeds are in MB/s, a million bytes a second; a ratio above 1 says that the library is faster.
+//! How fast the proved library is beside two baselines in Rust: the plain model of document 01 over the byte-wise cipher, and the same model
+//! over AES by word tables. The same input in one run, results compared; the first difference ends it with a status that is not 0. It prints
+//! the tables of docs/PERFORMANCE.md. Lengths are in bytes.
 
-use crate::library;
-use crate::plain::{Aes, Block, Key, BLOCK_BYTES, KEY_BYTES};
-use crate::random::Random;
-use std::hint::black_box;
-use std::time::Instant;
+#[allow(dead_code)]
+mod boundary;
+mod by_tables;
+#[allow(dead_code)]
+mod choice;
+mod ciphers;
+mod library;
+#[allow(dead_code)]
+mod model;
+mod model_side;
+mod plain;
+mod random;
+mod rounds;
+mod sides;
+mod tables;
+mod works;
 
-/// A work on messages of the same length, which lie in one buffer; each round works on every message once.
-struct Work {
-    name: &'static str,
-    message_bytes: usize,
-    messages: usize,
-    rounds: usize,
+use ciphers::{Messages, Operation};
+use model::message::MAX_DATA_BYTES;
+use plain::BLOCK_BYTES;
+use random::Random;
+use rounds::{measure, Times, BYTE_WISE, NAMES, SIDES, TABLES};
+use sides::{Side, State};
+use works::Work;
+
+const SEED: u64 = 0x7265_6164_6c65_7769;
+/// Calls of SEAL with the most data, and of the others.
+const SEAL_CALLS: usize = 100_000;
+const CALLS: usize = 20_000;
+/// Calls in a round: few, so that a round is short and most are not interrupted.
+const ROUND_CALLS: usize = 100;
+
+/// Lengths in bytes at which the growth is shown, beside the greatest: SEAL's data, and what is inside of the response that UNSEAL opens.
+const SEAL_BYTES: [usize; 5] = [0, 16, 32, 64, 128];
+const UNSEAL_BYTES: [usize; 6] = [2, 16, 32, 64, 128, MAX_DATA_BYTES];
+/// WALK's input.
+const WALK_BYTES: [usize; 5] = [16, 64, 256, 1024, 4096];
+
+/// A work that was measured.
+struct Measured {
+    work: Work,
+    times: Times,
 }
 
-#[derive(Clone, Copy)]
-enum Operation {
-    Encrypt,
-    Decrypt,
-    Mac,
-}
-
-fn with_library(operation: Operation, key: &Key, iv: &Block, part: &mut [u8]) {
-    let answer = match operation {
-        Operation::Encrypt => library::cbc_encrypt(key, iv, part),
-        Operation::Decrypt => library::cbc_decrypt(key, iv, part),
-        Operation::Mac => {
-            let mut mac = [0; BLOCK_BYTES];
-            let answer = library::cbc_mac(key, part, &mut mac);
-            part[..BLOCK_BYTES].copy_from_slice(&mac);
-            answer
-        }
-    };
-    assert_eq!(answer, 0);
-}
-
-fn with_plain(aes: &Aes, operation: Operation, key: &Key, iv: &Block, part: &mut [u8]) {
-    match operation {
-        Operation::Encrypt => aes.cbc_encrypt(key, iv, part),
-        Operation::Decrypt => aes.cbc_decrypt(key, iv, part),
-        Operation::Mac => {
-            let mac = aes.cbc_mac(key, part);
-            part[..BLOCK_BYTES].copy_from_slice(&mac);
-        }
+impl Measured {
+    /// Prints the row of the work, in nanoseconds a call.
+    fn print(&self) {
+        print_row(&self.work.name, &self.times, |ns| format!("{ns:.0}"));
     }
 }
 
-/// The seconds that one round takes on the buffer.
-fn timed(work: &Work, buffer: &mut [u8], mut one: impl FnMut(&mut [u8])) -> f64 {
-    let start = Instant::now();
-    for part in buffer.chunks_exact_mut(work.message_bytes) {
-        one(black_box(part));
+struct Bench {
+    random: Random,
+    state: State,
+}
+
+impl Bench {
+    fn row(&self, work: Work) -> Measured {
+        let mut library = sides::Library::new(&self.state);
+        let mut byte_wise = model_side::Model::new(&self.state);
+        let mut tables = by_tables::model_side::Model::new(&self.state);
+        let mut sides: [&mut dyn Side; SIDES] = [&mut library, &mut byte_wise, &mut tables];
+        let times = measure(&mut sides, &self.state, &work, ROUND_CALLS);
+        let measured = Measured { work, times };
+        measured.print();
+        measured
     }
-    start.elapsed().as_secs_f64()
-}
 
-fn median(mut numbers: Vec<f64>) -> f64 {
-    numbers.sort_by(f64::total_cmp);
-    numbers[numbers.len() / 2]
-}
-
-/// Prints the speeds of the best rounds, their ratio, and the median of the rounds' own ratios, which a busy machine moves less; answers the
-/// lesser of the two ratios.
-fn compare(aes: &Aes, work: &Work, operation: Operation, label: &str) -> f64 {
-    let mut random = Random::new(1);
-    let mut key: Key = [0; KEY_BYTES];
-    let mut iv: Block = [0; BLOCK_BYTES];
-    random.fill(&mut key);
-    random.fill(&mut iv);
-    let content = random.bytes(work.message_bytes * work.messages);
-    let mut library_buffer = content.clone();
-    let mut plain_buffer = content.clone();
-    let mut library_best = f64::MAX;
-    let mut plain_best = f64::MAX;
-    let mut ratios = Vec::new();
-    for round in 0..work.rounds {
-        library_buffer.copy_from_slice(&content);
-        plain_buffer.copy_from_slice(&content);
-        let mut seconds = [0.0; 2];
-        for turn in [round % 2, 1 - round % 2] {
-            seconds[turn] = match turn {
-                0 => timed(work, &mut library_buffer, |part| with_library(operation, &key, &iv, part)),
-                _ => timed(work, &mut plain_buffer, |part| with_plain(aes, operation, &key, &iv, part)),
-            };
-        }
-        assert!(library_buffer == plain_buffer, "the library and the plain implementation differ");
-        library_best = library_best.min(seconds[0]);
-        plain_best = plain_best.min(seconds[1]);
-        ratios.push(seconds[1] / seconds[0]);
+    /// The main table; answers SEAL with the most data, for the second table.
+    fn operations(&mut self) -> Measured {
+        print_head("call", "ns");
+        let seal = works::seal(&mut self.random, MAX_DATA_BYTES, SEAL_CALLS);
+        let sealed = self.row(seal);
+        let get_status = self.row(works::get_status(CALLS));
+        self.row(works::answers(&self.state, &get_status.work, "GET STATUS, ANSWER alone"));
+        let verify = self.row(works::verify(&self.state, CALLS));
+        self.row(works::answers(&self.state, &verify.work, "VERIFY, ANSWER alone"));
+        let read = works::read(&mut self.random, CALLS);
+        self.row(read);
+        self.row(works::write(CALLS));
+        let seconds = each_side(|side| format!("{:.2} s", sealed.times.total(side)));
+        println!("\nAll {SEAL_CALLS} commands of the first row together: {seconds}.");
+        sealed
     }
-    let megabytes = content.len() as f64 / 1e6;
-    let ratio = plain_best / library_best;
-    let typical = median(ratios);
-    println!(
-        "{:<26} {:<8} library {:5.1} MB/s   plain {:5.1} MB/s   library/plain {:.2} (median of {} rounds {:.2})",
-        work.name,
-        label,
-        megabytes / library_best,
-        megabytes / plain_best,
-        ratio,
-        work.rounds,
-        typical
-    );
-    ratio.min(typical)
+
+    /// How the cost grows with the length.
+    fn growth(&mut self, sealed_most: Measured) {
+        print_head("call", "ns");
+        let sealed = SEAL_BYTES.map(|bytes| {
+            let work = works::seal(&mut self.random, bytes, CALLS);
+            self.row(work)
+        });
+        sealed_most.print();
+        let unsealed = UNSEAL_BYTES.map(|bytes| {
+            let work = works::unseal(&mut self.random, &self.state, bytes, CALLS);
+            self.row(work)
+        });
+        let walked = WALK_BYTES.map(|bytes| self.row(works::walk(bytes, CALLS)));
+        println!("\nEach further 16 bytes cost, between the least and the greatest length:\n");
+        print_growth("SEAL", &sealed[0], &sealed_most);
+        print_growth("UNSEAL", &unsealed[0], &unsealed[unsealed.len() - 1]);
+        print_growth("WALK", &walked[0], &walked[walked.len() - 1]);
+    }
 }
 
-pub fn run() {
-    let aes = Aes::new();
+/// A figure for each implementation, with its name.
+fn each_side(figure: impl Fn(usize) -> String) -> String {
+    let figures = (0..SIDES).map(|side| format!("{} {}", NAMES[side], figure(side)));
+    figures.collect::<Vec<_>>().join(", ")
+}
+
+fn print_head(what: &str, unit: &str) {
+    let figures = NAMES.map(|name| format!("{name}, {unit}")).join(" | ");
+    println!("\n| {what} | {figures} | speed to byte-wise | speed to tables |");
+    println!("|---|---|---|---|---|---|");
+}
+
+/// The best round's figure of each, and the ratios: the median, and in brackets that of the best rounds.
+fn print_row(name: &str, times: &Times, figure: impl Fn(f64) -> String) {
+    let figures = [0, 1, 2].map(|side| figure(times.best(side))).join(" | ");
+    let ratios = [BYTE_WISE, TABLES].map(|side| format!("{:.2} ({:.2})", times.ratio(side), times.best_ratio(side)));
+    println!("| {name} | {figures} | {} |", ratios.join(" | "));
+}
+
+/// Whole blocks of 16 bytes count: padding fills the last one.
+fn print_growth(operation: &str, least: &Measured, most: &Measured) {
+    let steps = most.work.bytes / BLOCK_BYTES - least.work.bytes / BLOCK_BYTES;
+    let cost = |side| (most.times.best(side) - least.times.best(side)) / steps as f64;
+    println!("- {operation}: {}", each_side(|side| format!("{:.1} ns", cost(side))));
+}
+
+/// The ciphers alone, in millions of bytes a second, each message with its own key expansion.
+fn ciphers_alone(random: &mut Random) {
+    print_head("AES-256 in CBC", "MB/s");
     let works = [
-        Work {
-            name: "1 message of 1048576 bytes",
-            message_bytes: 1 << 20,
-            messages: 1,
-            rounds: 25,
+        Messages {
+            message_bytes: 16,
+            messages: 100,
+            rounds: 400,
         },
-        Work {
-            name: "1000 messages of 240 bytes",
+        Messages {
             message_bytes: 240,
-            messages: 1000,
-            rounds: 100,
+            messages: 100,
+            rounds: 400,
+        },
+        Messages {
+            message_bytes: 1 << 16,
+            messages: 1,
+            rounds: 200,
         },
     ];
-    println!("AES-256 in CBC, each message with its own key expansion; MB/s: a million bytes a second, in the best round");
+    let operations = [
+        ("encrypt", Operation::Encrypt),
+        ("decrypt", Operation::Decrypt),
+        ("MAC", Operation::Mac),
+    ];
     let mut least = f64::MAX;
     for work in &works {
-        least = least.min(compare(&aes, work, Operation::Encrypt, "encrypt"));
-        compare(&aes, work, Operation::Decrypt, "decrypt");
-        compare(&aes, work, Operation::Mac, "mac");
+        for (name, operation) in operations {
+            let times = ciphers::measure(random, work, operation);
+            let name = format!("{name}, messages of {} bytes", work.message_bytes);
+            print_row(&name, &times, |ns| format!("{:.1}", work.message_bytes as f64 * 1e3 / ns));
+            if operation == Operation::Encrypt {
+                least = least.min(times.ratio(BYTE_WISE)).min(times.best_ratio(BYTE_WISE));
+            }
+        }
     }
-    let verdict = if least >= 1.0 { "met" } else { "NOT met" };
-    println!("bar, enciphering not slower than the plain implementation: {verdict} (least ratio {least:.2})");
+    println!("\nThe least ratio of enciphering to the byte-wise cipher: {least:.2}.");
+}
+
+fn main() {
+    let mut random = Random::new(SEED);
+    let state = works::start(&mut random);
+    println!("The library, the model over the byte-wise cipher, and the model over AES by word tables; seed {SEED:#x}.");
+    ciphers::check(&mut random);
+    println!("ns: nanoseconds a call, in the best round. Speed to a baseline: its time over the library's, the median of the rounds,");
+    println!("and in brackets that of the best rounds; over 1 the library is faster, under 1 slower.");
+    let mut bench = Bench { random, state };
+    let sealed = bench.operations();
+    bench.growth(sealed);
+    ciphers_alone(&mut bench.random);
+    println!("\nEvery result was the same on all three.");
 }

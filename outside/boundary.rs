@@ -1,13 +1,10 @@
-//! The functions that the library exports to C, for Rust, and the model's card and session as the bytes that lie at that boundary. Lengths
-//! and counts are in bytes; a slice is passed as its start and its length.
+//! The functions that the library exports to C, for Rust. Cards and sessions lie at that boundary as the bytes that the model's layout
+//! gives. Lengths and counts are in bytes; a slice is passed as its start and its length.
 
-use crate::model::card::*;
+use crate::model::card::{POINT_BYTES, UID_BYTES};
 use crate::model::message::HEADER_BYTES;
-use crate::plain::{BLOCK_BYTES, KEY_BYTES};
 
-/// Every field of both structs is made of bytes, so neither has padding.
-pub const CARD_BYTES: usize = 529;
-pub const SESSION_BYTES: usize = 2 * KEY_BYTES + BLOCK_BYTES;
+pub use crate::model::layout::{card_bytes, card_of, session_bytes, CARD_BYTES, SESSION_BYTES};
 
 #[repr(C)]
 #[derive(Clone, Copy, PartialEq, Eq, Debug)]
@@ -135,75 +132,4 @@ pub fn write(card: &[u8], buffer: &mut [u8]) -> Told {
 
 pub fn read(card: &mut [u8], record: &[u8]) -> u8 {
     unsafe { c::tw_read(writable(card, CARD_BYTES), record.as_ptr(), record.len()) }
-}
-
-/// The card as the boundary has it, field after field.
-pub fn card_bytes(card: &Card) -> Vec<u8> {
-    let mut bytes = vec![card.initialised];
-    bytes.extend(card.uid);
-    bytes.extend(card.public_key);
-    bytes.extend(card.pin);
-    bytes.extend(card.puk);
-    bytes.extend([card.pin_tries, card.puk_tries, card.verified]);
-    bytes.extend(card.pairing_secret);
-    for slot in card.slots {
-        bytes.push(slot.filled);
-        bytes.extend(slot.key);
-    }
-    bytes.push(card.pending);
-    bytes.extend(card.expected);
-    bytes.push(card.key_kind);
-    bytes.extend(card.key_uid);
-    for path in [card.current_path, card.pinless_path] {
-        bytes.push(path.used_bytes);
-        bytes.extend(path.bytes);
-    }
-    bytes.push(card.stage);
-    bytes.extend(session_bytes(&card.session));
-    bytes
-}
-
-pub fn session_bytes(session: &Session) -> Vec<u8> {
-    [&session.enc_key[..], &session.mac_key, &session.iv].concat()
-}
-
-/// Takes the next N bytes.
-fn next<const N: usize>(left: &mut &[u8]) -> [u8; N] {
-    let (part, rest) = left.split_at(N);
-    *left = rest;
-    part.try_into().expect("N bytes")
-}
-
-fn next_byte(left: &mut &[u8]) -> u8 {
-    next::<1>(left)[0]
-}
-
-/// The card of these 529 bytes, sound or not.
-pub fn card_of(bytes: &[u8]) -> Card {
-    let mut left = bytes;
-    let initialised = next_byte(&mut left);
-    let mut card = Card::fresh(next(&mut left), next(&mut left));
-    card.initialised = initialised;
-    card.pin = next(&mut left);
-    card.puk = next(&mut left);
-    [card.pin_tries, card.puk_tries, card.verified] = next(&mut left);
-    card.pairing_secret = next(&mut left);
-    for slot in &mut card.slots {
-        slot.filled = next_byte(&mut left);
-        slot.key = next(&mut left);
-    }
-    card.pending = next_byte(&mut left);
-    card.expected = next(&mut left);
-    card.key_kind = next_byte(&mut left);
-    card.key_uid = next(&mut left);
-    for path in [&mut card.current_path, &mut card.pinless_path] {
-        path.used_bytes = next_byte(&mut left);
-        path.bytes = next(&mut left);
-    }
-    card.stage = next_byte(&mut left);
-    card.session.enc_key = next(&mut left);
-    card.session.mac_key = next(&mut left);
-    card.session.iv = next(&mut left);
-    assert!(left.is_empty());
-    card
 }

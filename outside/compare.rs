@@ -1,9 +1,12 @@
 //! Holds the proved library to the plain implementation on pseudo-random inputs, and every wrong length to its number. The first difference
 //! is printed and ends the run with a status that is not 0. Lengths are in bytes.
 
-use crate::library;
-use crate::plain::{Aes, Block, Key, BLOCK_BYTES, KEY_BYTES};
-use crate::random::Random;
+mod library;
+mod plain;
+mod random;
+
+use plain::{Aes, Block, Key, BLOCK_BYTES, KEY_BYTES};
+use random::Random;
 
 const SEED: u64 = 0x7265_6164_6c65_7769;
 const CASES: usize = 20_000;
@@ -236,7 +239,7 @@ fn check_plain(aes: &Aes) {
     expect(block == plaintext, 0, "the plain implementation on SP 800-38A, F.2.5, decryption");
 }
 
-pub fn run() {
+fn main() {
     let aes = Aes::new();
     check_plain(&aes);
     let mut random = Random::new(SEED);

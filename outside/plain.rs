@@ -24,7 +24,7 @@ fn x_times(b: u8) -> u8 {
 }
 
 /// The product of two bytes in the field, bit by bit.
-fn product(a: u8, b: u8) -> u8 {
+pub fn product(a: u8, b: u8) -> u8 {
     let mut sum = 0;
     let mut power = a;
     let mut rest = b;
@@ -51,8 +51,8 @@ fn sbox_rule(b: u8) -> u8 {
 
 /// The two tables, made once.
 pub struct Aes {
-    sbox: [u8; 256],
-    inv_sbox: [u8; 256],
+    pub sbox: [u8; 256],
+    pub inv_sbox: [u8; 256],
 }
 
 impl Aes {

@@ -3,10 +3,10 @@
 
 use super::card::*;
 use super::message::{decrypt, unpad, HEADER_BYTES};
+use super::plain::{Block, Key, BLOCK_BYTES, KEY_BYTES};
 use super::sealed_commands;
 use super::status::*;
 use super::template::field;
-use crate::plain::{Block, Key, BLOCK_BYTES, KEY_BYTES};
 
 const APPLICATION_ID: &[u8] = b"StatusWalletApp";
 const VERSION: [u8; 2] = [0x02, 0x00];

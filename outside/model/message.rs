@@ -2,7 +2,7 @@
 //! ciphertext behind it; lengths are in bytes.
 
 use super::card::Session;
-use crate::plain::{Aes, Block, Key, BLOCK_BYTES};
+use super::plain::{Aes, Block, Key, BLOCK_BYTES};
 use std::sync::LazyLock;
 
 pub const HEADER_BYTES: usize = 4;

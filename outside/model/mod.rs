@@ -4,8 +4,12 @@
 pub mod card;
 pub mod commands;
 pub mod engine;
+pub mod layout;
 pub mod message;
 pub mod record;
 pub mod sealed_commands;
 pub mod status;
 pub mod template;
+
+/// The cipher beneath: the module of this name beside the model.
+use super::plain;

@@ -2,7 +2,7 @@
 //! content; lengths are in bytes.
 
 use super::card::{Card, Path, Slot, EXTENDED_KEY, KEY_UID_BYTES, NO_KEY, PATH_BYTES, SLOTS, YES};
-use crate::plain::KEY_BYTES;
+use super::plain::KEY_BYTES;
 
 const INITIALISED: u8 = 0x10;
 const UID: u8 = 0x11;
