@@ -1,16 +1,10 @@
 // A card on the command line: calls are read line by line from standard input, and what each gives is written (docs/SOFTCARD.md).
 // Every length, room and count is in bytes and is written with its unit.
 // Proved: every function is safe and ends. What the operations give is proved in the crates below.
-mod args;
-mod card_calls;
-mod channel_calls;
-mod desk;
-mod fields;
 mod plays;
-mod show;
-mod steps;
 
 use desk::Desk;
+use desk::args;
 use libc::STDIN_FILENO;
 use print::say;
 

@@ -1,10 +1,10 @@
 // Which call a line is, whether it has the words that the call takes, and the call itself.
-use crate::args;
-use crate::args::is_word;
-use crate::card_calls;
-use crate::channel_calls;
-use crate::desk::Desk;
+use desk::Desk;
+use desk::args;
+use desk::args::is_word;
 use print::say;
+use soft_calls::card_calls;
+use soft_calls::channel_calls;
 
 enum Call {
     Fresh,

@@ -1,17 +1,17 @@
--- `fields::say_fields` is safe and ends. The measure is the number of fields left.
+-- `fields::find` is safe and ends. The measure is the number of fields left.
 -- Assumes nothing.
 use Prim.Native.Nat.{_-_, _≤_, _+_}
 use mathlib.Core.Path.{_≡_}
 use lib.ListN.{length}
 use borrow.Author.Needs.{needs}
-use Rattle.softcard.proofs.fields.say_fields.Statement.{statement}
-use Rattle.softcard.proofs.fields.say_fields.Tie as tie
+use Rattle.card_show.proofs.fields.find.Statement.{statement}
+use Rattle.card_show.proofs.fields.find.Tie as tie
 
 abbrev Inv-loop : tie.InvT-loop
-Inv-loop «record» at₀ k₀ at k = Unit {0}
+Inv-loop name at₀ k₀ at k = Unit {0}
 
 abbrev μ-loop : tie.MeasureT-loop
-μ-loop «record» at₀ k₀ at k = 31 - k
+μ-loop name at₀ k₀ at k = 31 - k
 
 loop-holds : tie.Need-loop-holds Inv-loop μ-loop
 loop-holds c = search needs
@@ -19,8 +19,11 @@ loop-holds c = search needs
 len-of-requires : tie.Need-len-of-requires Inv-loop μ-loop
 len-of-requires c κs = search needs
 
-say-field-requires : tie.Need-say-field-requires Inv-loop μ-loop
-say-field-requires c κs = search needs
+is-named-requires : tie.Need-is-named-requires Inv-loop μ-loop
+is-named-requires c κs = search needs
+
+returns : tie.Need-returns Inv-loop μ-loop
+returns c = search needs
 
 wrapping-add-usize-requires : tie.Need-wrapping-add-usize-requires Inv-loop μ-loop
 wrapping-add-usize-requires c κs = search needs
@@ -34,20 +37,21 @@ loop-less c = search needs
 loop-again : tie.Need-loop-again Inv-loop μ-loop
 loop-again c = search needs
 
-returns : tie.Need-returns Inv-loop μ-loop
-returns c = search needs
+returns-2 : tie.Need-returns-2 Inv-loop μ-loop
+returns-2 c = search needs
 
-pub say-fields-spec : {M : Type 1} → statement M
-say-fields-spec =
+pub find-spec : {M : Type 1} → statement M
+find-spec =
     tie.close
     (tie.spec
     Inv-loop
     μ-loop
     loop-holds
     len-of-requires
-    say-field-requires
+    is-named-requires
+    returns
     wrapping-add-usize-requires
     add-k
     loop-less
     loop-again
-    returns)
+    returns-2)

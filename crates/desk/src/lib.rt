@@ -1,4 +1,8 @@
-// What the soft card holds: the card, the terminal's session, and the bytes that were last written.
+// What the soft card holds: the card, the terminal's session, and the bytes that were last written; and the words of a call as bytes
+// and numbers. Every length is in bytes.
+// Proved: every function is safe and ends.
+pub mod args;
+
 use card_bytes::CARD_BYTES;
 use card_bytes::SESSION_BYTES;
 

@@ -1,17 +1,13 @@
 // The calls on the card alone: FRESH, RESET, READ, WRITE, soundness, and its fields.
-use crate::args;
-use crate::desk;
-use crate::desk::Desk;
-use crate::fields;
-use crate::show;
-use crate::steps;
 use card_bytes::CARD_BYTES;
+use desk::Desk;
+use desk::args;
 use print::say;
 use words::VALUE_MAX_BYTES;
 
 // The card changes, and is shown.
 pub fn put_card(d: Desk, card: [u8; CARD_BYTES]) -> Desk {
-    show::say_card(card);
+    card_show::say_card(card);
     desk::with_card(d, card)
 }
 
@@ -68,7 +64,7 @@ pub fn write(d: Desk, line: &[u8]) -> Desk {
     if !room.ok {
         return d;
     }
-    steps::write(d, room.len)
+    soft_steps::write(d, room.len)
 }
 
 pub fn sound(d: Desk) {
@@ -83,7 +79,7 @@ pub fn sound(d: Desk) {
 pub fn card(d: Desk) {
     say(b"card: 529 bytes\n");
     let found = d.card;
-    fields::say_fields(found);
+    card_show::say_fields(found);
 }
 
 fn with_bytes(card: [u8; CARD_BYTES], at: usize, bytes: &[u8]) -> [u8; CARD_BYTES] {
@@ -108,7 +104,7 @@ pub fn set(d: Desk, line: &[u8]) -> Desk {
     let w = words::word(line, 1);
     let start = w.start;
     let end = w.end;
-    let field = fields::find(&line[start..end]);
+    let field = card_show::find(&line[start..end]);
     if field.len == 0 {
         args::bad(b"the card has no such field");
         return d;

@@ -1,6 +1,13 @@
-// What is written of a card and of a session.
+// What the soft card writes of a card and of a session.
+// Every length and place is in bytes.
+// Proved: every function is safe and ends.
+mod fields;
+
 use card_bytes::CARD_BYTES;
 use card_bytes::SESSION_BYTES;
+pub use fields::Field;
+pub use fields::find;
+pub use fields::say_fields;
 use print::say;
 
 fn say_number(words: &[u8], b: u8) {

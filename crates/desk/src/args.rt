@@ -1,5 +1,5 @@
 // The words of a call as bytes and numbers. What is wrong with one is written as the answer to a bad line.
-use crate::desk::Last;
+use crate::Last;
 use print::say;
 use words::VALUE_MAX_BYTES;
 
