@@ -4,6 +4,7 @@
 mod both;
 mod boundary;
 mod choice;
+mod directed;
 mod host;
 mod lives;
 mod model;
@@ -14,6 +15,8 @@ mod records;
 mod requests;
 mod rows;
 mod states;
+mod sweeps;
+mod table;
 mod tally;
 mod templates;
 mod terminal;
@@ -76,6 +79,8 @@ fn main() {
         return;
     }
     rows::run(&mut both, options.seed);
+    directed::run(&mut both, options.seed);
+    sweeps::run(&mut both, options.seed);
     let mut lives = 0;
     while both.tally.calls() < options.calls / 100 * (100 - PAIRS_PERCENT) {
         lives::live(&mut both, options.seed, lives);
@@ -100,7 +105,11 @@ fn report(options: &Options, both: &Both, done: &pairs::Done, lives: u64) {
     for what in &missing {
         println!("NEVER OCCURRED: {what}");
     }
-    if !missing.is_empty() {
+    let too_many = both.tally.too_many();
+    for what in &too_many {
+        println!("CANNOT OCCUR, by the tables: {what}");
+    }
+    if !missing.is_empty() || !too_many.is_empty() {
         std::process::exit(1);
     }
     println!("no difference, and no byte around a card, session or buffer was changed");

@@ -86,7 +86,8 @@ pub fn unsound_card(random: &mut Random, from: &Card) -> Card {
         4 => pre_initialised_with_more(random),
         _ => {
             let mut card = if chance(random, 50) { *from } else { sound_card(random) };
-            break_rule(random, &mut card);
+            let rule = random.below(RULES);
+            break_rule(random, &mut card, rule);
             card
         }
     }
@@ -100,8 +101,11 @@ fn pre_initialised_with_more(random: &mut Random) -> Card {
     card_of(&bytes)
 }
 
+/// How many rules of soundness `break_rule` breaks.
+pub const RULES: usize = 20;
+
 /// Breaks one rule of the paper's list; some need another field to be as it is not, so a card may stay sound.
-pub fn break_rule(random: &mut Random, card: &mut Card) {
+pub fn break_rule(random: &mut Random, card: &mut Card, rule: usize) {
     let flag = 2 + random.below(254) as u8;
     let slot = random.below(SLOTS);
     let path = if chance(random, 50) {
@@ -109,7 +113,7 @@ pub fn break_rule(random: &mut Random, card: &mut Card) {
     } else {
         &mut card.pinless_path
     };
-    match random.below(20) {
+    match rule {
         0 => card.initialised = flag,
         1 => card.verified = flag,
         2 => card.pending = flag,
