@@ -185,7 +185,7 @@ impl Both {
         self.tally.operation(Operation::Ask, model.refusal);
         self.tally.room(Operation::Ask, buffer.len());
         self.tally.card(Operation::Ask, model.refusal, card);
-        self.tally.kind(model.kind);
+        self.tally.kind(card, model);
         model
     }
 

@@ -24,7 +24,7 @@ mod terminal;
 use both::Both;
 
 const SEED: u64 = 0x7265_6164_6c65_7769;
-const CALLS: usize = 200_000;
+const CALLS: usize = 500_000;
 /// Of the calls, those that the two runs make.
 const PAIRS_PERCENT: usize = 25;
 
@@ -86,6 +86,7 @@ fn main() {
         lives::live(&mut both, options.seed, lives);
         lives += 1;
     }
+    pairs::directed(&mut both, &mut done, options.seed);
     let mut pairs = 0;
     while both.tally.calls() < options.calls {
         pairs::run(&mut both, &mut done, options.seed, pairs);

@@ -5,11 +5,11 @@ use crate::both::{hex, Both};
 use crate::choice::{array, byte, chance, pick, some_bytes};
 use crate::host::{room, supply_for, supply_of, Way};
 use crate::model::card::*;
-use crate::model::commands::Name;
+use crate::model::commands::{Name, FOR_PAIR_FINAL, FOR_PAIR_FIRST};
 use crate::model::engine::*;
 use crate::model::message::HEADER_BYTES;
 use crate::model::status::*;
-use crate::plain::{Key, BLOCK_BYTES};
+use crate::plain::BLOCK_BYTES;
 use crate::random::Random;
 use crate::requests::{is_sealed_kind, right, Request};
 use crate::states::{random_session, sound_card};
@@ -50,12 +50,11 @@ fn filled(random: &mut Random) -> Slot {
     }
 }
 
-/// A command for one row: the card that gets it, and how the supply is to be.
-struct Trial {
-    card: Card,
-    command: Vec<u8>,
-    way: Way,
-    init_key: Key,
+/// A call for one row: the card that gets the command, and the supply.
+pub struct Trial {
+    pub card: Card,
+    pub command: Vec<u8>,
+    pub supply: Vec<u8>,
 }
 
 pub fn run(both: &mut Both, seed: u64) {
@@ -71,14 +70,8 @@ pub fn run(both: &mut Both, seed: u64) {
 /// ASK, ANSWER and, where the answer is sealed, UNSEAL; the answer has to be that of the row.
 fn meet(both: &mut Both, random: &mut Random, row: Row) {
     let (_, _, status, sealed) = row;
-    let Trial {
-        mut card,
-        command,
-        way,
-        init_key,
-    } = trial(both, random, row);
+    let Trial { mut card, command, supply } = trial(both, random, row);
     let mut session = card.session;
-    let supply = supply_for(random, &card, &command, &init_key, way);
     both.ask(&card, &command, &mut room(random, ASK_ROOM_BYTES));
     let mut buffer = room(random, ANSWER_ROOM_BYTES);
     let answered = both.answer(&mut card, &command, &supply, &mut buffer);
@@ -92,10 +85,9 @@ fn meet(both: &mut Both, random: &mut Random, row: Row) {
     }
 }
 
-fn trial(both: &mut Both, random: &mut Random, (name, situation, status, sealed): Row) -> Trial {
+pub fn trial(both: &mut Both, random: &mut Random, (name, situation, status, sealed): Row) -> Trial {
     let mut card = ready_card(random, situation);
     let init_key = array(random);
-    let way = if status == DATA_INVALID { Way::Refusing } else { Way::Right };
     let mut command = match name {
         None => no_command(random, status),
         Some(name) => {
@@ -113,12 +105,9 @@ fn trial(both: &mut Both, random: &mut Random, (name, situation, status, sealed)
         let at = HEADER_BYTES + 1 + random.below(command.len() - HEADER_BYTES - 1);
         command[at] ^= 1 << random.below(8);
     }
-    Trial {
-        card,
-        command,
-        way,
-        init_key,
-    }
+    let way = if status == DATA_INVALID { Way::Refusing } else { Way::Right };
+    let supply = supply_for(random, &card, &command, &init_key, way);
+    Trial { card, command, supply }
 }
 
 /// A command that is none: its class or its instruction is unknown.
@@ -231,37 +220,35 @@ fn forms(both: &mut Both, random: &mut Random) {
     }
 }
 
-/// Which command reads each kind, and where the card then stands.
-const READERS: [(u8, Name, Situation); 8] = [
-    (1, Name::Init, Situation::PreInitialised),
-    (2, Name::Open, Situation::Closed),
-    (3, Name::Mutual, Situation::Opened),
-    (4, Name::Pair, Situation::Closed),
-    (5, Name::Pair, Situation::Pending),
-    (6, Name::Load, Situation::Authenticated),
-    (7, Name::Derive, Situation::Authenticated),
-    (8, Name::Sign, Situation::Authenticated),
-];
-
-/// Every way of every supply.
+/// Every way of every supply, wherever the card can stand.
 fn supplies(both: &mut Both, random: &mut Random) {
-    for (kind, name, situation) in READERS {
-        for way in every_supplied(kind) {
-            let mut card = ready_card(random, situation);
-            let init_key = array(random);
-            let mut request = right(random, &card, name, &init_key);
-            if situation == Situation::Pending {
-                (request.header[2], request.data) = (0x01, card.expected.to_vec());
-            }
-            let command = as_sent(both, random, &card, &request);
-            let supply = supply_of(random, kind, &init_key, way);
-            let answered = both.answer(&mut card, &command, &supply, &mut room(random, ANSWER_ROOM_BYTES));
-            let is_read = matches!(way, Supplied::Right | Supplied::No);
-            let wanted = if is_read { NOT_REFUSED } else { WRONG_SUPPLY };
-            if answered.told.refusal != wanted {
-                println!("THE DIRECTED SUPPLY {way:?} of kind {kind} gave {answered:x?}: {}", hex(&command));
-                std::process::exit(1);
+    for situation in EVERY_SITUATION {
+        for kind in kinds(situation).iter().copied().filter(|&kind| kind != 0) {
+            for way in every_supplied(kind) {
+                supply(both, random, situation, kind, way);
             }
         }
+    }
+}
+
+fn supply(both: &mut Both, random: &mut Random, situation: Situation, kind: u8, way: Supplied) {
+    let mut card = ready_card(random, situation);
+    let init_key = array(random);
+    let mut request = right(random, &card, reader(kind), &init_key);
+    match kind {
+        FOR_PAIR_FIRST => (request.header[2], request.data) = (0x00, random.bytes(CRYPTOGRAM_BYTES)),
+        FOR_PAIR_FINAL => (request.header[2], request.data) = (0x01, card.expected.to_vec()),
+        _ => {}
+    }
+    let command = as_sent(both, random, &card, &request);
+    let supply = supply_of(random, kind, &init_key, way);
+    let asked = both.ask(&card, &command, &mut room(random, ASK_ROOM_BYTES));
+    let answered = both.answer(&mut card, &command, &supply, &mut room(random, ANSWER_ROOM_BYTES));
+    let is_right = matches!(way, Supplied::Right | Supplied::No);
+    let wanted = if is_right { NOT_REFUSED } else { WRONG_SUPPLY };
+    if asked.kind != kind || answered.told.refusal != wanted {
+        let got = format!("{asked:?} and {answered:x?}");
+        println!("THE DIRECTED SUPPLY {way:?} of kind {kind} got {got}: {}", hex(&command));
+        std::process::exit(1);
     }
 }

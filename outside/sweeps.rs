@@ -5,6 +5,7 @@ use crate::both::{hex, Both};
 use crate::boundary::{card_bytes, card_of, CARD_BYTES};
 use crate::choice::array;
 use crate::directed::ready_card;
+use crate::model::card::YES;
 use crate::model::engine::*;
 use crate::model::message::{seal_response, MAX_DATA_BYTES};
 use crate::model::record::record_of;
@@ -34,6 +35,7 @@ pub fn run(both: &mut Both, seed: u64) {
     }
     messages(both, random);
     rooms_of_a_session(both, random);
+    long_inputs(both, random);
     templates(both, &mut Vec::new());
 }
 
@@ -146,6 +148,36 @@ fn messages(both: &mut Both, random: &mut Random) {
             println!("THE SWEEP of messages with {data_bytes} bytes gave {told:?} and {opened:?}");
             std::process::exit(1);
         }
+    }
+}
+
+/// Inputs whose lengths a count of one or two bytes would take for shorter ones.
+fn long_inputs(both: &mut Both, random: &mut Random) {
+    for more_bytes in [256, 512, 65_536] {
+        let longer = |bytes: &[u8]| [bytes, &vec![0; more_bytes]].concat();
+        let card = ready_card(random, Situation::Closed);
+        let slot = card.slots.iter().position(|slot| slot.filled == YES).expect("a filled slot") as u8;
+        let open = [&[0x80, 0x10, slot, 0x00, 65, 0x04][..], &random.bytes(64)].concat();
+        let supply = [&[1], &random.bytes(112)[..]].concat();
+        for command in [SELECT, &longer(SELECT), &longer(&[]), &open, &longer(&open)] {
+            both.ask(&card, command, &mut random.bytes(ASK_ROOM_BYTES + more_bytes));
+            for supply in [&supply, &longer(&supply)] {
+                both.answer(
+                    &mut card.clone(),
+                    command,
+                    supply,
+                    &mut random.bytes(ANSWER_ROOM_BYTES + more_bytes),
+                );
+            }
+        }
+        both.read(&longer(&record_of(&card)));
+        let mut session = random_session(random);
+        both.seal(&mut session, array(random), &longer(&[]), &mut random.bytes(SEAL_ROOM_BYTES));
+        let field = seal_response(&mut session.clone(), &random.bytes(20));
+        let response = [&longer(&field)[..], &[0x90, 0x00]].concat();
+        both.unseal(&mut session, &response, &mut random.bytes(UNSEAL_ROOM_BYTES));
+        both.walk(&[0x80, 0x00].repeat(more_bytes + 1));
+        both.walk(&longer(&[0x80]));
     }
 }
 

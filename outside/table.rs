@@ -2,7 +2,7 @@
 //! A run has to meet every row, and nothing beside them. Lengths are in bytes.
 
 use crate::model::card::{Card, AUTHENTICATED, NO, OPENED, YES};
-use crate::model::commands::{supply_of_kind, Name, INSTRUCTIONS};
+use crate::model::commands::*;
 use crate::model::engine::*;
 use crate::model::status::*;
 
@@ -241,3 +241,28 @@ pub fn every_supplied(kind: u8) -> Vec<Supplied> {
 }
 
 pub const MOST_KIND: u8 = 8;
+
+/// The kinds that ASK can tell in this situation, 0 being none.
+pub fn kinds(situation: Situation) -> &'static [u8] {
+    match situation {
+        Situation::PreInitialised => &[0, 1],
+        Situation::Closed => &[0, 2, 4],
+        Situation::Pending => &[0, 2, 4, 5],
+        Situation::Opened => &[0, 2, 3, 4],
+        Situation::Authenticated => &[0, 2, 6, 7, 8],
+    }
+}
+
+/// The command that reads this kind of supply.
+pub fn reader(kind: u8) -> Name {
+    match kind {
+        FOR_INIT => Name::Init,
+        FOR_OPEN => Name::Open,
+        FOR_MUTUAL => Name::Mutual,
+        FOR_PAIR_FIRST | FOR_PAIR_FINAL => Name::Pair,
+        FOR_LOAD => Name::Load,
+        FOR_DERIVE => Name::Derive,
+        FOR_SIGN => Name::Sign,
+        _ => panic!("document 01 has no kind {kind}"),
+    }
+}

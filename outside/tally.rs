@@ -3,7 +3,7 @@
 
 use crate::model::card::Card;
 use crate::model::commands::{Comparison, Name};
-use crate::model::engine::Answered;
+use crate::model::engine::{Answered, Asked};
 use crate::model::status::*;
 use crate::table::*;
 use std::collections::BTreeMap;
@@ -24,7 +24,8 @@ pub struct Tally {
     rooms: BTreeMap<(Operation, Room), usize>,
     /// Calls on a sound card by where it stood.
     situations: BTreeMap<(Operation, Situation), usize>,
-    kinds: BTreeMap<u8, usize>,
+    /// ASK's kinds by where the card stood.
+    kinds: BTreeMap<(Situation, u8), usize>,
     comparisons: BTreeMap<Comparison, usize>,
     answers: BTreeMap<Row, usize>,
     forms: BTreeMap<(Situation, Form), usize>,
@@ -54,8 +55,11 @@ impl Tally {
         }
     }
 
-    pub fn kind(&mut self, kind: u8) {
-        *self.kinds.entry(kind).or_default() += 1;
+    /// The kind that ASK told on this card, where it was not refused.
+    pub fn kind(&mut self, card: &Card, asked: Asked) {
+        if asked.refusal == NOT_REFUSED {
+            *self.kinds.entry((situation_of(card), asked.kind)).or_default() += 1;
+        }
     }
 
     /// A supply that was read, for a command that reads this kind.
@@ -93,10 +97,10 @@ impl Tally {
                 EVERY_SITUATION.map(|situation| (operation, situation)),
             );
         }
-        lacking(&mut missing, &self.kinds, 0..=MOST_KIND);
         lacking(&mut missing, &self.comparisons, COMPARISONS);
         lacking(&mut missing, &self.answers, every_row());
         for situation in EVERY_SITUATION {
+            lacking(&mut missing, &self.kinds, kinds(situation).iter().map(|&kind| (situation, kind)));
             lacking(&mut missing, &self.forms, EVERY_FORM.map(|form| (situation, form)));
         }
         for kind in 1..=MOST_KIND {
@@ -109,11 +113,12 @@ impl Tally {
         missing
     }
 
-    /// Answers that the tables do not have.
+    /// Answers and kinds that the tables do not have.
     pub fn too_many(&self) -> Vec<String> {
         let rows = every_row();
-        let beside = self.answers.keys().filter(|row| !rows.contains(row));
-        beside.map(|row| format!("{row:x?}")).collect()
+        let answers = self.answers.keys().filter(|row| !rows.contains(row)).map(|row| format!("{row:x?}"));
+        let asked = self.kinds.keys().filter(|(situation, kind)| !kinds(*situation).contains(kind));
+        answers.chain(asked.map(|row| format!("{row:?}"))).collect()
     }
 
     pub fn print(&self) {
@@ -135,7 +140,8 @@ impl Tally {
             "status words: {}",
             listed(words.iter().map(|(word, count)| format!("{word:04x}: {count}")))
         );
-        println!("kinds: {}", listed(shown(&self.kinds)));
+        let kinds = summed(&self.kinds, |(_, kind)| *kind);
+        println!("kinds: {}", listed(shown(&kinds)));
         println!("comparisons: {}", listed(shown(&self.comparisons)));
         println!("calls that a sound card got, by where it stood:");
         for (operation, _) in REFUSALS {
@@ -192,7 +198,7 @@ pub fn every_row() -> Vec<Row> {
 }
 
 /// The wanted keys that were not counted.
-fn lacking<K: Ord + std::fmt::Debug>(missing: &mut Vec<String>, counts: &BTreeMap<K, usize>, wanted: impl IntoIterator<Item = K>) {
+pub fn lacking<K: Ord + std::fmt::Debug>(missing: &mut Vec<String>, counts: &BTreeMap<K, usize>, wanted: impl IntoIterator<Item = K>) {
     let lacks = wanted.into_iter().filter(|key| !counts.contains_key(key));
     missing.extend(lacks.map(|key| format!("{key:x?}")));
 }
