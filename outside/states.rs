@@ -136,7 +136,10 @@ pub fn break_rule(random: &mut Random, card: &mut Card, rule: usize) {
             )
         }
         13 => path.used_bytes = pick(random, &[1, 2, 3, 5, 38, 39, 41, 42, 44, 48, 128, 255]),
-        14 => path.bytes[random.below(PATH_BYTES)] ^= 1,
+        14 => {
+            let used_bytes = (path.used_bytes as usize).min(PATH_BYTES - 1);
+            path.bytes[used_bytes + random.below(PATH_BYTES - used_bytes)] ^= 1;
+        }
         15 => (card.key_kind, card.current_path) = (pick(random, &[NO_KEY, SINGLE_KEY]), Path::of(&[0; COMPONENT_BYTES])),
         16 => (card.key_kind, card.key_uid) = (NO_KEY, array(random)),
         17 => (card.slots[slot].filled, card.slots[slot].key) = (NO, array(random)),

@@ -39,11 +39,11 @@ pub fn run(both: &mut Both, seed: u64) {
     templates(both, &mut Vec::new());
 }
 
-/// A card with this rule broken, in every situation but the first. It has to be unsound in one of them, and then is refused by all.
+/// Cards with this rule broken, in every situation but the first. Some stay sound, not all; an unsound one is refused by all.
 fn broken_rule(both: &mut Both, random: &mut Random, rule: usize) {
     let mut unsound = 0;
-    for situation in &EVERY_SITUATION[1..] {
-        let mut card = ready_card(random, *situation);
+    for situation in EVERY_SITUATION[1..].repeat(3) {
+        let mut card = ready_card(random, situation);
         break_rule(random, &mut card, rule);
         if both.sound(&card) {
             continue;
