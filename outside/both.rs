@@ -9,6 +9,7 @@ use crate::model::status::{SHORT_BUFFER, UNSOUND};
 use crate::random::Random;
 use crate::table::Operation;
 use crate::tally::Tally;
+use std::hint::black_box;
 
 /// Bytes on each side of what the library may write, which no call may change.
 const GUARD_BYTES: usize = 64;
@@ -102,8 +103,10 @@ impl Both {
         }
     }
 
-    /// The model's bytes and those that the library left.
+    /// The model's bytes and those that the library left. Through the black box they are read anew: what Rust takes for granted of bytes
+    /// that a call only borrows is what is to be found out here.
     fn same_bytes(&self, call: &Call, what: &str, model: &[u8], library: &Guarded) {
+        let library = black_box(library);
         if model != library.content() {
             self.differ(call, what, &hex(model), &hex(library.content()));
         }
