@@ -47,9 +47,9 @@ impl Done {
             (Comparison::Puk(false), false),
         ];
         let mut missing = Vec::new();
-        lacking(&mut missing, &self.compared, wanted);
-        lacking(&mut missing, &self.refusals, REFUSALS_ON_BOTH);
-        lacking(&mut missing, &self.answers, rows_of_pairs());
+        missing.extend(lacking("comparison, the same entry on both", &self.compared, wanted));
+        missing.extend(lacking("refusal", &self.refusals, REFUSALS_ON_BOTH));
+        missing.extend(lacking("answer", &self.answers, rows_of_pairs()));
         missing.into_iter().map(|what| format!("two runs: {what}")).collect()
     }
 

@@ -7,6 +7,7 @@ use crate::model::engine::{Answered, Asked};
 use crate::model::status::*;
 use crate::table::*;
 use std::collections::BTreeMap;
+use std::fmt::Debug;
 
 const COMPARISONS: [Comparison; 4] = [
     Comparison::Pin(true),
@@ -85,30 +86,34 @@ impl Tally {
     pub fn missing(&self) -> Vec<String> {
         let mut missing = Vec::new();
         for (operation, refusals) in REFUSALS {
-            lacking(&mut missing, &self.operations, refusals.iter().map(|&refusal| (operation, refusal)));
+            missing.extend(lacking(
+                "refusal",
+                &self.operations,
+                refusals.iter().map(|&refusal| (operation, refusal)),
+            ));
         }
         for (operation, _) in ROOMS {
-            lacking(&mut missing, &self.rooms, EVERY_ROOM.map(|room| (operation, room)));
+            missing.extend(lacking("buffer", &self.rooms, EVERY_ROOM.map(|room| (operation, room))));
         }
         for operation in [Operation::Reset, Operation::Ask, Operation::Answer, Operation::Write] {
-            lacking(
-                &mut missing,
+            missing.extend(lacking(
+                "sound card",
                 &self.situations,
                 EVERY_SITUATION.map(|situation| (operation, situation)),
-            );
+            ));
         }
-        lacking(&mut missing, &self.comparisons, COMPARISONS);
-        lacking(&mut missing, &self.answers, every_row());
+        missing.extend(lacking("comparison", &self.comparisons, COMPARISONS));
+        missing.extend(lacking("answer", &self.answers, every_row()));
         for situation in EVERY_SITUATION {
-            lacking(&mut missing, &self.kinds, kinds(situation).iter().map(|&kind| (situation, kind)));
-            lacking(&mut missing, &self.forms, EVERY_FORM.map(|form| (situation, form)));
+            missing.extend(lacking("kind", &self.kinds, kinds(situation).iter().map(|&kind| (situation, kind))));
+            missing.extend(lacking("form", &self.forms, EVERY_FORM.map(|form| (situation, form))));
         }
         for kind in 1..=MOST_KIND {
-            lacking(
-                &mut missing,
+            missing.extend(lacking(
+                "supply",
                 &self.supplies,
                 every_supplied(kind).into_iter().map(|way| (kind, way)),
-            );
+            ));
         }
         missing
     }
@@ -116,9 +121,13 @@ impl Tally {
     /// Answers and kinds that the tables do not have.
     pub fn too_many(&self) -> Vec<String> {
         let rows = every_row();
-        let answers = self.answers.keys().filter(|row| !rows.contains(row)).map(|row| format!("{row:x?}"));
+        let answers = self
+            .answers
+            .keys()
+            .filter(|row| !rows.contains(row))
+            .map(|row| format!("answer {row:x?}"));
         let asked = self.kinds.keys().filter(|(situation, kind)| !kinds(*situation).contains(kind));
-        answers.chain(asked.map(|row| format!("{row:?}"))).collect()
+        answers.chain(asked.map(|row| format!("kind {row:?}"))).collect()
     }
 
     pub fn print(&self) {
@@ -198,9 +207,9 @@ pub fn every_row() -> Vec<Row> {
 }
 
 /// The wanted keys that were not counted.
-pub fn lacking<K: Ord + std::fmt::Debug>(missing: &mut Vec<String>, counts: &BTreeMap<K, usize>, wanted: impl IntoIterator<Item = K>) {
+pub fn lacking<K: Ord + Debug>(what: &str, counts: &BTreeMap<K, usize>, wanted: impl IntoIterator<Item = K>) -> Vec<String> {
     let lacks = wanted.into_iter().filter(|key| !counts.contains_key(key));
-    missing.extend(lacks.map(|key| format!("{key:x?}")));
+    lacks.map(|key| format!("{what} {key:x?}")).collect()
 }
 
 fn summed<K, S: Ord>(counts: &BTreeMap<K, usize>, by: impl Fn(&K) -> S) -> BTreeMap<S, usize> {
@@ -211,12 +220,12 @@ fn summed<K, S: Ord>(counts: &BTreeMap<K, usize>, by: impl Fn(&K) -> S) -> BTree
     sums
 }
 
-fn shown<K: std::fmt::Debug>(counts: &BTreeMap<K, usize>) -> impl Iterator<Item = String> + '_ {
+fn shown<K: Debug>(counts: &BTreeMap<K, usize>) -> impl Iterator<Item = String> + '_ {
     counts.iter().map(|(key, count)| format!("{key:?}: {count}"))
 }
 
 /// The counts under one first part of the key, if there are any.
-fn print_part<A: PartialEq + std::fmt::Debug, B: std::fmt::Debug>(counts: &BTreeMap<(A, B), usize>, part: A) {
+fn print_part<A: PartialEq + Debug, B: Debug>(counts: &BTreeMap<(A, B), usize>, part: A) {
     let of_it = counts.iter().filter(|((a, _), _)| *a == part);
     let parts = listed(of_it.map(|((_, b), count)| format!("{b:?}: {count}")));
     if !parts.is_empty() {
