@@ -201,18 +201,9 @@ pub fn card_of(bytes: &[u8]) -> Card {
         path.bytes = next(&mut left);
     }
     card.stage = next_byte(&mut left);
-    card.session = session_of(left);
-    card
-}
-
-/// The session of these 80 bytes.
-pub fn session_of(bytes: &[u8]) -> Session {
-    let mut left = bytes;
-    let session = Session {
-        enc_key: next(&mut left),
-        mac_key: next(&mut left),
-        iv: next(&mut left),
-    };
+    card.session.enc_key = next(&mut left);
+    card.session.mac_key = next(&mut left);
+    card.session.iv = next(&mut left);
     assert!(left.is_empty());
-    session
+    card
 }

@@ -5,6 +5,7 @@ use crate::boundary::{self, CARD_BYTES, SESSION_BYTES};
 use crate::model::card::{Card, Session, POINT_BYTES, UID_BYTES};
 use crate::model::engine::{self, Asked, Told};
 use crate::model::message::HEADER_BYTES;
+use crate::plain::KEY_BYTES;
 
 pub trait Engine {
     /// The card as its 529 bytes, and the session as its 80 bytes.
@@ -56,7 +57,11 @@ impl Engine for Model {
     }
 
     fn put_session(&mut self, session: &[u8]) {
-        self.session = boundary::session_of(session);
+        let (enc_key, behind_enc_key) = session.split_at(KEY_BYTES);
+        let (mac_key, iv) = behind_enc_key.split_at(KEY_BYTES);
+        self.session.enc_key.copy_from_slice(enc_key);
+        self.session.mac_key.copy_from_slice(mac_key);
+        self.session.iv.copy_from_slice(iv);
     }
 
     fn fresh(&mut self, uid: [u8; UID_BYTES], public_key: [u8; POINT_BYTES]) {
