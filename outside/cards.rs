@@ -1,5 +1,6 @@
 //! The proved library beside the plain model of document 01, over the C boundary: the paper's rows, whole lives of cards, and the two
-//! runs of demand 3. The first difference ends the run with a status that is not 0, and so does a status word or refusal that never occurred.
+//! runs of demand 3. The first difference ends the run with a status that is not 0, and so does a row of the tables that never occurred, or an
+//! answer that they do not have.
 
 mod both;
 mod boundary;
@@ -113,5 +114,5 @@ fn report(options: &Options, both: &Both, done: &pairs::Done, lives: u64) {
     if !missing.is_empty() || !too_many.is_empty() {
         std::process::exit(1);
     }
-    println!("no difference, and no byte around a card, session or buffer was changed");
+    println!("no difference; no input was changed, and no byte around what the library was lent");
 }

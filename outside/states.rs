@@ -136,14 +136,17 @@ pub fn break_rule(random: &mut Random, card: &mut Card, rule: usize) {
             )
         }
         13 => path.used_bytes = pick(random, &[1, 2, 3, 5, 38, 39, 41, 42, 44, 48, 128, 255]),
-        14 => {
-            let used_bytes = (path.used_bytes as usize).min(PATH_BYTES - 1);
-            path.bytes[used_bytes + random.below(PATH_BYTES - used_bytes)] ^= 1;
-        }
+        14 => change_past_end(random, path),
         15 => (card.key_kind, card.current_path) = (pick(random, &[NO_KEY, SINGLE_KEY]), Path::of(&[0; COMPONENT_BYTES])),
         16 => (card.key_kind, card.key_uid) = (NO_KEY, array(random)),
         17 => (card.slots[slot].filled, card.slots[slot].key) = (NO, array(random)),
         18 => (card.pending, card.expected) = (NO, array(random)),
         _ => (card.stage, card.session) = (CLOSED, random_session(random)),
     }
+}
+
+/// A byte past the path's end is not zero any more, where there is one.
+fn change_past_end(random: &mut Random, path: &mut Path) {
+    let used_bytes = (path.used_bytes as usize).min(PATH_BYTES - 1);
+    path.bytes[used_bytes + random.below(PATH_BYTES - used_bytes)] ^= 1;
 }
