@@ -3,10 +3,13 @@
 
 use crate::boundary::{self, CARD_BYTES};
 use crate::model::card::{Card, Session, POINT_BYTES, UID_BYTES};
-use crate::model::engine::{self, Answered, Asked, Told};
+use crate::model::engine::{self, Answered, Asked, Told, ASK_ROOM_BYTES};
 use crate::model::message::HEADER_BYTES;
+use crate::model::status::{SHORT_BUFFER, UNSOUND};
 use crate::random::Random;
-use crate::tally::{Operation, Tally};
+use crate::table::Operation;
+use crate::tally::Tally;
+use std::hint::black_box;
 
 /// Bytes on each side of what the library may write, which no call may change.
 const GUARD_BYTES: usize = 64;
@@ -37,6 +40,10 @@ impl Guarded {
         &self.bytes[self.start..self.start + self.length]
     }
 
+    fn array<const N: usize>(&self) -> &[u8; N] {
+        self.content().try_into().expect("N bytes")
+    }
+
     fn is_guarded(&self) -> bool {
         let end = self.start + self.length;
         self.bytes[..self.start].iter().chain(&self.bytes[end..]).all(|&b| b == GUARD)
@@ -47,7 +54,7 @@ pub fn hex(bytes: &[u8]) -> String {
     bytes.iter().map(|b| format!("{b:02x}")).collect()
 }
 
-/// One call: its operation and inputs, for the report of a difference.
+/// One call: its operation and inputs, those first that it may not change.
 struct Call<'a> {
     operation: Operation,
     inputs: Vec<(&'static str, &'a [u8])>,
@@ -96,8 +103,10 @@ impl Both {
         }
     }
 
-    /// The model's bytes and those that the library left.
+    /// The model's bytes and those that the library left. Through the black box they are read anew: what Rust takes for granted of bytes
+    /// that a call only borrows is what is to be found out here.
     fn same_bytes(&self, call: &Call, what: &str, model: &[u8], library: &Guarded) {
+        let library = black_box(library);
         if model != library.content() {
             self.differ(call, what, &hex(model), &hex(library.content()));
         }
@@ -107,55 +116,66 @@ impl Both {
         }
     }
 
+    /// The first inputs of the call, as the library was given them, are as they were.
+    fn unchanged(&self, call: &Call, given: &[&Guarded]) {
+        for ((name, bytes), given) in call.inputs.iter().zip(given) {
+            self.same_bytes(call, name, bytes, given);
+        }
+    }
+
     pub fn fresh(&mut self, uid: [u8; UID_BYTES], public_key: [u8; POINT_BYTES]) -> Card {
         let card = Card::fresh(uid, public_key);
         let garbage = self.alignment.bytes(CARD_BYTES);
         let mut lent = self.guarded(&garbage);
-        boundary::fresh(lent.slice(), &uid, &public_key);
+        let (given_uid, given_key) = (self.guarded(&uid), self.guarded(&public_key));
+        boundary::fresh(lent.slice(), given_uid.array(), given_key.array());
         let call = Call {
             operation: Operation::Fresh,
             inputs: vec![("uid", &uid), ("public key", &public_key)],
         };
         self.same_bytes(&call, "the card", &boundary::card_bytes(&card), &lent);
+        self.unchanged(&call, &[&given_uid, &given_key]);
         self.tally.operation(Operation::Fresh, 0);
         card
     }
 
     pub fn sound(&mut self, card: &Card) -> bool {
         let before = boundary::card_bytes(card);
-        let mut lent = self.guarded(&before);
-        let library = boundary::sound(lent.slice());
+        let lent = self.guarded(&before);
+        let library = boundary::sound(lent.content());
         let model = card.is_sound();
         let call = Call {
             operation: Operation::Sound,
             inputs: vec![("card", &before)],
         };
         self.same_result(&call, (0, u8::from(model), 0), (0, library, 0));
-        self.same_bytes(&call, "the card", &before, &lent);
+        self.unchanged(&call, &[&lent]);
         self.tally.operation(Operation::Sound, 0);
         model
     }
 
     pub fn reset(&mut self, card: &mut Card) -> u8 {
-        let before = boundary::card_bytes(card);
-        let mut lent = self.guarded(&before);
+        let before = *card;
+        let before_bytes = boundary::card_bytes(card);
+        let mut lent = self.guarded(&before_bytes);
         let library = boundary::reset(lent.slice());
         let model = engine::reset(card);
         let call = Call {
             operation: Operation::Reset,
-            inputs: vec![("card", &before)],
+            inputs: vec![("card", &before_bytes)],
         };
         self.same_result(&call, (model, 0, 0), (library, 0, 0));
         self.same_bytes(&call, "the card", &boundary::card_bytes(card), &lent);
         self.tally.operation(Operation::Reset, model);
+        self.tally.card(Operation::Reset, model, &before);
         model
     }
 
     pub fn ask(&mut self, card: &Card, command: &[u8], buffer: &mut [u8]) -> Asked {
         let before = boundary::card_bytes(card);
-        let mut lent = self.guarded(&before);
+        let (lent, given) = (self.guarded(&before), self.guarded(command));
         let mut room = self.guarded(buffer);
-        let library = boundary::ask(lent.slice(), command, room.slice());
+        let library = boundary::ask(lent.content(), given.content(), room.slice());
         let model = engine::ask(card, command, buffer);
         let call = Call {
             operation: Operation::Ask,
@@ -163,34 +183,52 @@ impl Both {
         };
         let of_model = (model.refusal, model.kind, model.count);
         self.same_result(&call, of_model, (library.refusal, library.kind, library.count));
-        self.same_bytes(&call, "the card", &before, &lent);
         self.same_bytes(&call, "the buffer", buffer, &room);
+        self.unchanged(&call, &[&lent, &given]);
         self.tally.operation(Operation::Ask, model.refusal);
-        self.tally.kind(model.kind);
+        self.tally.room(Operation::Ask, buffer.len());
+        self.tally.card(Operation::Ask, model.refusal, card);
+        self.tally.kind(card, model);
         model
     }
 
     pub fn answer(&mut self, card: &mut Card, command: &[u8], supply: &[u8], buffer: &mut [u8]) -> Answered {
-        let before = boundary::card_bytes(card);
-        let mut lent = self.guarded(&before);
+        let before = *card;
+        let before_bytes = boundary::card_bytes(card);
+        let mut lent = self.guarded(&before_bytes);
+        let (given, supplied) = (self.guarded(command), self.guarded(supply));
         let mut room = self.guarded(buffer);
-        let library = boundary::answer(lent.slice(), command, supply, room.slice());
+        let library = boundary::answer(lent.slice(), given.content(), supplied.content(), room.slice());
         let model = engine::answer(card, command, supply, buffer);
         let call = Call {
             operation: Operation::Answer,
             inputs: vec![
-                ("card", &before),
                 ("command", command),
                 ("supply", supply),
+                ("card", &before_bytes),
                 ("buffer as the model left it", buffer),
             ],
         };
         self.told(&call, model.told, library);
         self.same_bytes(&call, "the card", &boundary::card_bytes(card), &lent);
         self.same_bytes(&call, "the buffer", buffer, &room);
-        self.tally.operation(Operation::Answer, model.told.refusal);
-        self.tally.answer(command, &model);
+        self.unchanged(&call, &[&given, &supplied]);
+        self.tally_answer(&before, command, supply, buffer.len(), &model);
         model
+    }
+
+    fn tally_answer(&mut self, before: &Card, command: &[u8], supply: &[u8], room_bytes: usize, model: &Answered) {
+        let refusal = model.told.refusal;
+        self.tally.operation(Operation::Answer, refusal);
+        self.tally.room(Operation::Answer, room_bytes);
+        self.tally.card(Operation::Answer, refusal, before);
+        self.tally.answer(before, command, model);
+        if refusal != UNSOUND && refusal != SHORT_BUFFER {
+            let kind = engine::ask(before, command, &mut [0; ASK_ROOM_BYTES]).kind;
+            if kind != 0 {
+                self.tally.supply(kind, supply);
+            }
+        }
     }
 
     fn told(&self, call: &Call, model: Told, library: boundary::Told) {
@@ -200,78 +238,89 @@ impl Both {
     pub fn seal(&mut self, session: &mut Session, header: [u8; HEADER_BYTES], data: &[u8], buffer: &mut [u8]) -> Told {
         let before = boundary::session_bytes(session);
         let mut lent = self.guarded(&before);
+        let (given_header, given) = (self.guarded(&header), self.guarded(data));
         let mut room = self.guarded(buffer);
-        let library = boundary::seal(lent.slice(), &header, data, room.slice());
+        let library = boundary::seal(lent.slice(), given_header.array(), given.content(), room.slice());
         let model = engine::seal(session, header, data, buffer);
         let call = Call {
             operation: Operation::Seal,
             inputs: vec![
-                ("session", &before),
                 ("header", &header),
                 ("data", data),
+                ("session", &before),
                 ("buffer as the model left it", buffer),
             ],
         };
         self.told(&call, model, library);
         self.same_bytes(&call, "the session", &boundary::session_bytes(session), &lent);
         self.same_bytes(&call, "the buffer", buffer, &room);
+        self.unchanged(&call, &[&given_header, &given]);
         self.tally.operation(Operation::Seal, model.refusal);
+        self.tally.room(Operation::Seal, buffer.len());
         model
     }
 
     pub fn unseal(&mut self, session: &mut Session, response: &[u8], buffer: &mut [u8]) -> Told {
         let before = boundary::session_bytes(session);
         let mut lent = self.guarded(&before);
+        let given = self.guarded(response);
         let mut room = self.guarded(buffer);
-        let library = boundary::unseal(lent.slice(), response, room.slice());
+        let library = boundary::unseal(lent.slice(), given.content(), room.slice());
         let model = engine::unseal(session, response, buffer);
         let call = Call {
             operation: Operation::Unseal,
             inputs: vec![
-                ("session", &before),
                 ("response", response),
+                ("session", &before),
                 ("buffer as the model left it", buffer),
             ],
         };
         self.told(&call, model, library);
         self.same_bytes(&call, "the session", &boundary::session_bytes(session), &lent);
         self.same_bytes(&call, "the buffer", buffer, &room);
+        self.unchanged(&call, &[&given]);
         self.tally.operation(Operation::Unseal, model.refusal);
+        self.tally.room(Operation::Unseal, buffer.len());
         model
     }
 
     pub fn walk(&mut self, input: &[u8]) -> Told {
+        let given = self.guarded(input);
         let model = engine::walk(input);
         let call = Call {
             operation: Operation::Walk,
             inputs: vec![("input", input)],
         };
-        self.told(&call, model, boundary::walk(input));
+        self.told(&call, model, boundary::walk(given.content()));
+        self.unchanged(&call, &[&given]);
         self.tally.operation(Operation::Walk, model.refusal);
         model
     }
 
     pub fn write(&mut self, card: &Card, buffer: &mut [u8]) -> Told {
         let before = boundary::card_bytes(card);
-        let mut lent = self.guarded(&before);
+        let lent = self.guarded(&before);
         let mut room = self.guarded(buffer);
-        let library = boundary::write(lent.slice(), room.slice());
+        let library = boundary::write(lent.content(), room.slice());
         let model = engine::write(card, buffer);
         let call = Call {
             operation: Operation::Write,
             inputs: vec![("card", &before), ("buffer as the model left it", buffer)],
         };
         self.told(&call, model, library);
-        self.same_bytes(&call, "the card", &before, &lent);
         self.same_bytes(&call, "the buffer", buffer, &room);
+        self.unchanged(&call, &[&lent]);
         self.tally.operation(Operation::Write, model.refusal);
+        self.tally.room(Operation::Write, buffer.len());
+        self.tally.card(Operation::Write, model.refusal, card);
         model
     }
 
     pub fn read(&mut self, record: &[u8]) -> (u8, Card) {
         let garbage = self.alignment.bytes(CARD_BYTES);
         let mut lent = self.guarded(&garbage);
-        let library = boundary::read(lent.slice(), record);
+        let given = self.guarded(record);
+        let library = boundary::read(lent.slice(), given.content());
         let (model, card) = engine::read(record);
         let call = Call {
             operation: Operation::Read,
@@ -279,6 +328,7 @@ impl Both {
         };
         self.same_result(&call, (model, 0, 0), (library, 0, 0));
         self.same_bytes(&call, "the card", &boundary::card_bytes(&card), &lent);
+        self.unchanged(&call, &[&given]);
         self.tally.operation(Operation::Read, model);
         (model, card)
     }

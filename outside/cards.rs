@@ -1,9 +1,11 @@
 //! The proved library beside the plain model of document 01, over the C boundary: the paper's rows, whole lives of cards, and the two
-//! runs of demand 3. The first difference ends the run with a status that is not 0, and so does a status word or refusal that never occurred.
+//! runs of demand 3. The first difference ends the run with a status that is not 0, and so does a row of the tables that never occurred, or an
+//! answer that they do not have.
 
 mod both;
 mod boundary;
 mod choice;
+mod directed;
 mod host;
 mod lives;
 mod model;
@@ -14,6 +16,8 @@ mod records;
 mod requests;
 mod rows;
 mod states;
+mod sweeps;
+mod table;
 mod tally;
 mod templates;
 mod terminal;
@@ -21,7 +25,7 @@ mod terminal;
 use both::Both;
 
 const SEED: u64 = 0x7265_6164_6c65_7769;
-const CALLS: usize = 200_000;
+const CALLS: usize = 500_000;
 /// Of the calls, those that the two runs make.
 const PAIRS_PERCENT: usize = 25;
 
@@ -76,11 +80,14 @@ fn main() {
         return;
     }
     rows::run(&mut both, options.seed);
+    directed::run(&mut both, options.seed);
+    sweeps::run(&mut both, options.seed);
     let mut lives = 0;
     while both.tally.calls() < options.calls / 100 * (100 - PAIRS_PERCENT) {
         lives::live(&mut both, options.seed, lives);
         lives += 1;
     }
+    pairs::directed(&mut both, &mut done, options.seed);
     let mut pairs = 0;
     while both.tally.calls() < options.calls {
         pairs::run(&mut both, &mut done, options.seed, pairs);
@@ -100,8 +107,12 @@ fn report(options: &Options, both: &Both, done: &pairs::Done, lives: u64) {
     for what in &missing {
         println!("NEVER OCCURRED: {what}");
     }
-    if !missing.is_empty() {
+    let too_many = both.tally.too_many();
+    for what in &too_many {
+        println!("CANNOT OCCUR, by the tables: {what}");
+    }
+    if !missing.is_empty() || !too_many.is_empty() {
         std::process::exit(1);
     }
-    println!("no difference, and no byte around a card, session or buffer was changed");
+    println!("no difference; no input was changed, and no byte around what the library was lent");
 }

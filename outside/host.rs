@@ -1,10 +1,12 @@
 //! The host beside the card: it gives the supply that a command asks for, or a wrong one, and the buffers. Lengths are in bytes.
 
 use crate::choice::{array, byte, chance, pick, some_bytes};
-use crate::model::card::{Card, YES};
+use crate::model::card::{Card, NO, YES};
 use crate::model::commands::{supply_of_kind, FOR_INIT, FOR_SIGN};
 use crate::model::engine::{ask, ASK_ROOM_BYTES};
+use crate::plain::Key;
 use crate::random::Random;
+use crate::table::Supplied;
 
 /// How a supply is to be.
 #[derive(Clone, Copy, PartialEq, Eq)]
@@ -17,28 +19,45 @@ pub enum Way {
 }
 
 /// The supply for this command on this card; a random one where none is read. INIT's AES key is the one that the terminal took.
-pub fn supply_for(random: &mut Random, card: &Card, command: &[u8], init_key: &[u8; 32], way: Way) -> Vec<u8> {
+pub fn supply_for(random: &mut Random, card: &Card, command: &[u8], init_key: &Key, way: Way) -> Vec<u8> {
     let asked = ask(card, command, &mut [0; ASK_ROOM_BYTES]);
     if asked.kind == 0 {
         return some_bytes(random, 0, 140);
     }
-    let wanted = supply_of_kind(asked.kind);
+    let has_flag = supply_of_kind(asked.kind).has_flag;
+    match way {
+        Way::Refusing if has_flag => supply_of(random, asked.kind, init_key, Supplied::No),
+        Way::Right | Way::Refusing => supply_of(random, asked.kind, init_key, Supplied::Right),
+        Way::Wrong => {
+            let mut supply = supply_of(random, asked.kind, init_key, Supplied::Right);
+            spoil(random, &mut supply, has_flag);
+            supply
+        }
+    }
+}
+
+/// A supply of this kind that is right, or wrong in this one way.
+pub fn supply_of(random: &mut Random, kind: u8, init_key: &Key, how: Supplied) -> Vec<u8> {
+    let wanted = supply_of_kind(kind);
     let mut supply = random.bytes(wanted.bytes);
     if wanted.has_flag {
         supply[0] = YES;
     }
-    if asked.kind == FOR_INIT {
+    if kind == FOR_INIT {
         supply[1..].copy_from_slice(init_key);
     }
-    if asked.kind == FOR_SIGN {
+    if kind == FOR_SIGN {
         supply[65..97].copy_from_slice(&random_number(random));
         supply[97..].copy_from_slice(&random_number(random));
     }
-    match way {
-        Way::Right => {}
-        Way::Refusing if wanted.has_flag => supply[0] = 0,
-        Way::Refusing => {}
-        Way::Wrong => spoil(random, &mut supply, wanted.has_flag),
+    match how {
+        Supplied::Right => {}
+        Supplied::No => supply[0] = NO,
+        Supplied::BadFlag => supply[0] = 2 + random.below(254) as u8,
+        Supplied::Empty => supply.clear(),
+        Supplied::LoneNo => supply = vec![NO],
+        Supplied::Short => drop(supply.pop()),
+        Supplied::Long => supply.push(byte(random)),
     }
     supply
 }

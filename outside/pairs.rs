@@ -4,12 +4,16 @@
 use crate::both::{hex, Both};
 use crate::boundary::card_bytes;
 use crate::choice::{array, chance, digits, pick};
+use crate::directed::{self, Trial};
 use crate::host::{room, short_room, supply_for, Way};
 use crate::model::card::{Card, AUTHENTICATED, NO, PIN_BYTES, PIN_TRIES, PUK_BYTES, PUK_TRIES, YES};
-use crate::model::commands::Comparison;
+use crate::model::commands::{Comparison, Name};
 use crate::model::engine::{self, ANSWER_ROOM_BYTES, ASK_ROOM_BYTES};
+use crate::model::status::*;
 use crate::random::Random;
 use crate::states::sound_card;
+use crate::table::{name_of, situation_of, Operation, Situation};
+use crate::tally::{every_row, lacking, Row};
 use crate::terminal::Terminal;
 use std::collections::BTreeMap;
 
@@ -25,6 +29,10 @@ pub struct Done {
     pub left_out: usize,
     /// Comparisons in both runs, while the entries that are compared with were different, and while they were the same.
     pub compared: BTreeMap<(Comparison, bool), usize>,
+    /// Refusals of the calls on both.
+    refusals: BTreeMap<(Operation, u8), usize>,
+    /// Answers on both.
+    answers: BTreeMap<Row, usize>,
 }
 
 impl Done {
@@ -38,10 +46,16 @@ impl Done {
             (Comparison::Puk(false), true),
             (Comparison::Puk(false), false),
         ];
-        let missing = wanted.iter().filter(|made| !self.compared.contains_key(made));
-        missing
-            .map(|(made, same)| format!("pairs: {made:?}, the same entry on both: {same}"))
-            .collect()
+        let mut missing = Vec::new();
+        missing.extend(lacking("comparison, the same entry on both", &self.compared, wanted));
+        missing.extend(lacking("refusal", &self.refusals, REFUSALS_ON_BOTH));
+        missing.extend(lacking("answer", &self.answers, rows_of_pairs()));
+        missing.into_iter().map(|what| format!("two runs: {what}")).collect()
+    }
+
+    fn refusal(&mut self, operation: Operation, refusal: u8) {
+        self.calls += 1;
+        *self.refusals.entry((operation, refusal)).or_default() += 1;
     }
 
     pub fn print(&self) {
@@ -50,11 +64,31 @@ impl Done {
             self.pairs, self.calls
         );
         println!("  {} calls left out, whose comparisons come out differently", self.left_out);
+        for ((operation, refusal), count) in &self.refusals {
+            println!("  {operation:?} with refusal {refusal} on both: {count}");
+        }
+        println!("  {} rows of command, situation and status word on both", self.answers.len());
         for ((comparison, same), count) in &self.compared {
             let entries = if *same { "the same entry" } else { "different entries" };
             println!("  {comparison:?} in both runs, with {entries} on the cards: {count}");
         }
     }
+}
+
+/// The cards are sound, so none of these is refused as unsound.
+const REFUSALS_ON_BOTH: [(Operation, u8); 6] = [
+    (Operation::Reset, NOT_REFUSED),
+    (Operation::Ask, NOT_REFUSED),
+    (Operation::Ask, SHORT_BUFFER),
+    (Operation::Answer, NOT_REFUSED),
+    (Operation::Answer, SHORT_BUFFER),
+    (Operation::Answer, WRONG_SUPPLY),
+];
+
+/// The rows that two cards can meet: pre-initialised ones have no PIN and PUK to differ in.
+fn rows_of_pairs() -> Vec<Row> {
+    let rows = every_row().into_iter();
+    rows.filter(|(_, situation, ..)| *situation != Situation::PreInitialised).collect()
 }
 
 /// Two cards under the same calls.
@@ -75,7 +109,7 @@ pub fn run(both: &mut Both, done: &mut Done, seed: u64, number: u64) {
         if chance(random, 2) {
             let refusals = (both.reset(&mut two.first), both.reset(&mut two.second));
             same(both, refusals.0 == refusals.1, "RESET's refusal");
-            done.calls += 1;
+            done.refusal(Operation::Reset, refusals.0);
         } else {
             exchange(both, random, done, &mut terminal, &mut two);
         }
@@ -97,20 +131,43 @@ fn begin(random: &mut Random) -> Two {
         1 => (first.verified, first.pin_tries, first.puk_tries) = (NO, 0, PUK_TRIES),
         _ => {}
     }
+    let differ = random.below(3);
+    twins(random, first, differ != 1, differ != 0)
+}
+
+/// This card, and one with another PIN, PUK or both.
+fn twins(random: &mut Random, first: Card, other_pin: bool, other_puk: bool) -> Two {
     let mut second = first;
-    match random.below(3) {
-        0 => second.pin = digits(random),
-        1 => second.puk = digits(random),
-        _ => (second.pin, second.puk) = (digits(random), digits(random)),
+    if other_pin {
+        second.pin = digits(random);
+    }
+    if other_puk {
+        second.puk = digits(random);
     }
     Two { first, second }
+}
+
+/// Each row on two cards: they differ in PIN and PUK, or in the one that is not compared where the comparison comes out right.
+pub fn directed(both: &mut Both, done: &mut Done, seed: u64) {
+    both.walk = "the directed pairs".to_string();
+    let mut random = Random::new(seed.rotate_left(43));
+    let random = &mut random;
+    for row in rows_of_pairs() {
+        let Trial { card, command, supply } = directed::trial(both, random, row);
+        let right = |name| row.0 == Some(name) && row.2 == SUCCESS;
+        let mut two = twins(random, card, !right(Name::Verify), !right(Name::Unblock));
+        done.pairs += 1;
+        ask_both(both, random, done, &two, &command);
+        let buffer = room(random, ANSWER_ROOM_BYTES);
+        answer_both(both, done, &mut two, &command, &supply, buffer);
+        agree(both, &two);
+    }
 }
 
 fn exchange(both: &mut Both, random: &mut Random, done: &mut Done, terminal: &mut Terminal, two: &mut Two) {
     let guide = if chance(random, 50) { two.first } else { two.second };
     let command = terminal.command(both, random, &guide);
-    ask_both(both, random, two, &command);
-    done.calls += 1;
+    ask_both(both, random, done, two, &command);
     let way = pick(random, &[Way::Right, Way::Right, Way::Right, Way::Right, Way::Refusing, Way::Wrong]);
     let supply = supply_for(random, &two.first, &command, &terminal.init_key, way);
     let short = chance(random, 5);
@@ -119,25 +176,35 @@ fn exchange(both: &mut Both, random: &mut Random, done: &mut Done, terminal: &mu
     } else {
         room(random, ANSWER_ROOM_BYTES)
     };
-    if !alike(both, done, two, &command, &supply, &buffer) {
-        done.left_out += 1;
-        terminal.go_back();
-        return;
-    }
-    done.calls += 1;
-    let (mut first, mut second) = (buffer.clone(), buffer);
-    let of_first = both.answer(&mut two.first, &command, &supply, &mut first);
-    let of_second = both.answer(&mut two.second, &command, &supply, &mut second);
-    same(both, of_first.told == of_second.told, "ANSWER's refusal and count");
-    same(both, first == second, "ANSWER's buffer");
-    if of_first.sealed {
-        terminal.receive(both, random, &first[..of_first.told.count]);
-    } else {
-        terminal.received_plain(&two.first);
+    match answer_both(both, done, two, &command, &supply, buffer) {
+        None => terminal.go_back(),
+        Some((true, response)) => terminal.receive(both, random, &response),
+        Some((false, _)) => terminal.received_plain(&two.first),
     }
 }
 
-fn ask_both(both: &mut Both, random: &mut Random, two: &Two, command: &[u8]) {
+/// Whether the answer was sealed, and the response; none where the call does not belong to the list.
+fn answer_both(both: &mut Both, done: &mut Done, two: &mut Two, command: &[u8], supply: &[u8], buffer: Vec<u8>) -> Option<(bool, Vec<u8>)> {
+    if !alike(both, done, two, command, supply, &buffer) {
+        done.left_out += 1;
+        return None;
+    }
+    let situation = situation_of(&two.first);
+    let (mut first, mut second) = (buffer.clone(), buffer);
+    let of_first = both.answer(&mut two.first, command, supply, &mut first);
+    let of_second = both.answer(&mut two.second, command, supply, &mut second);
+    same(both, of_first.told == of_second.told, "ANSWER's refusal and count");
+    same(both, first == second, "ANSWER's buffer");
+    done.refusal(Operation::Answer, of_first.told.refusal);
+    if let Some(status) = of_first.status {
+        let row = (name_of(command), situation, status, of_first.sealed);
+        *done.answers.entry(row).or_default() += 1;
+    }
+    first.truncate(of_first.told.count);
+    Some((of_first.sealed, first))
+}
+
+fn ask_both(both: &mut Both, random: &mut Random, done: &mut Done, two: &Two, command: &[u8]) {
     let short = chance(random, 5);
     let mut first = if short {
         short_room(random, ASK_ROOM_BYTES)
@@ -149,6 +216,7 @@ fn ask_both(both: &mut Both, random: &mut Random, two: &Two, command: &[u8]) {
     let of_second = both.ask(&two.second, command, &mut second);
     same(both, of_first == of_second, "ASK's refusal, kind and count");
     same(both, first == second, "ASK's buffer");
+    done.refusal(Operation::Ask, of_first.refusal);
 }
 
 /// Whether the call belongs to the list: both runs compare or neither does, which must be so, and the outcomes are alike.

@@ -5,7 +5,7 @@ use crate::choice::{array, byte, chance, damaged, pick, some_bytes};
 use crate::model::card::{Card, PATH_BYTES};
 use crate::model::record::record_of;
 use crate::random::Random;
-use crate::states::{break_rule, sound_card};
+use crate::states::{break_rule, sound_card, RULES};
 
 const HEAD_BYTES: usize = 3;
 
@@ -37,7 +37,8 @@ pub fn random_record(random: &mut Random, from: &Card) -> Vec<u8> {
 /// The record of a card with one rule broken, its paths cut to what can be written.
 fn record_of_unsound(random: &mut Random, card: &Card) -> Vec<u8> {
     let mut broken = *card;
-    break_rule(random, &mut broken);
+    let rule = random.below(RULES);
+    break_rule(random, &mut broken, rule);
     for path in [&mut broken.current_path, &mut broken.pinless_path] {
         path.used_bytes = path.used_bytes.min(PATH_BYTES as u8);
     }

@@ -86,7 +86,8 @@ pub fn unsound_card(random: &mut Random, from: &Card) -> Card {
         4 => pre_initialised_with_more(random),
         _ => {
             let mut card = if chance(random, 50) { *from } else { sound_card(random) };
-            break_rule(random, &mut card);
+            let rule = random.below(RULES);
+            break_rule(random, &mut card, rule);
             card
         }
     }
@@ -100,8 +101,11 @@ fn pre_initialised_with_more(random: &mut Random) -> Card {
     card_of(&bytes)
 }
 
+/// How many rules of soundness `break_rule` breaks.
+pub const RULES: usize = 20;
+
 /// Breaks one rule of the paper's list; some need another field to be as it is not, so a card may stay sound.
-pub fn break_rule(random: &mut Random, card: &mut Card) {
+pub fn break_rule(random: &mut Random, card: &mut Card, rule: usize) {
     let flag = 2 + random.below(254) as u8;
     let slot = random.below(SLOTS);
     let path = if chance(random, 50) {
@@ -109,7 +113,7 @@ pub fn break_rule(random: &mut Random, card: &mut Card) {
     } else {
         &mut card.pinless_path
     };
-    match random.below(20) {
+    match rule {
         0 => card.initialised = flag,
         1 => card.verified = flag,
         2 => card.pending = flag,
@@ -132,11 +136,17 @@ pub fn break_rule(random: &mut Random, card: &mut Card) {
             )
         }
         13 => path.used_bytes = pick(random, &[1, 2, 3, 5, 38, 39, 41, 42, 44, 48, 128, 255]),
-        14 => path.bytes[random.below(PATH_BYTES)] ^= 1,
+        14 => change_past_end(random, path),
         15 => (card.key_kind, card.current_path) = (pick(random, &[NO_KEY, SINGLE_KEY]), Path::of(&[0; COMPONENT_BYTES])),
         16 => (card.key_kind, card.key_uid) = (NO_KEY, array(random)),
         17 => (card.slots[slot].filled, card.slots[slot].key) = (NO, array(random)),
         18 => (card.pending, card.expected) = (NO, array(random)),
         _ => (card.stage, card.session) = (CLOSED, random_session(random)),
     }
+}
+
+/// A byte past the path's end is not zero any more, where there is one.
+fn change_past_end(random: &mut Random, path: &mut Path) {
+    let used_bytes = (path.used_bytes as usize).min(PATH_BYTES - 1);
+    path.bytes[used_bytes + random.below(PATH_BYTES - used_bytes)] ^= 1;
 }

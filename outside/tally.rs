@@ -1,38 +1,13 @@
-//! How often each operation was called, each refusal and status word given, each kind of supply asked for and each comparison made; and what
-//! has to occur in a run that shows something.
+//! How often each operation was called and what came of it, beside the tables of what can occur: a row that never occurred is missing, and
+//! an answer that has no row is one too many.
 
-use crate::model::commands::{Comparison, Name, INSTRUCTIONS};
-use crate::model::engine::Answered;
+use crate::model::card::Card;
+use crate::model::commands::{Comparison, Name};
+use crate::model::engine::{Answered, Asked};
 use crate::model::status::*;
+use crate::table::*;
 use std::collections::BTreeMap;
-
-#[derive(Clone, Copy, PartialEq, Eq, PartialOrd, Ord, Debug)]
-pub enum Operation {
-    Fresh,
-    Sound,
-    Reset,
-    Ask,
-    Answer,
-    Seal,
-    Unseal,
-    Walk,
-    Write,
-    Read,
-}
-
-/// The refusals that each operation can give, 0 being none.
-const REFUSALS: [(Operation, &[u8]); 10] = [
-    (Operation::Fresh, &[NOT_REFUSED]),
-    (Operation::Sound, &[NOT_REFUSED]),
-    (Operation::Reset, &[NOT_REFUSED, UNSOUND]),
-    (Operation::Ask, &[NOT_REFUSED, UNSOUND, SHORT_BUFFER]),
-    (Operation::Answer, &[NOT_REFUSED, UNSOUND, SHORT_BUFFER, WRONG_SUPPLY]),
-    (Operation::Seal, &[NOT_REFUSED, SHORT_BUFFER, LONG_DATA]),
-    (Operation::Unseal, &[NOT_REFUSED, SHORT_BUFFER, NOT_GENUINE]),
-    (Operation::Walk, &[NOT_REFUSED, MALFORMED, TOO_DEEP]),
-    (Operation::Write, &[NOT_REFUSED, UNSOUND, SHORT_BUFFER]),
-    (Operation::Read, &[NOT_REFUSED, NOT_A_RECORD]),
-];
+use std::fmt::Debug;
 
 const COMPARISONS: [Comparison; 4] = [
     Comparison::Pin(true),
@@ -41,61 +16,22 @@ const COMPARISONS: [Comparison; 4] = [
     Comparison::Puk(false),
 ];
 
-/// The plain status words of each command beside those of a wrong form (6700) and of an instruction that is unknown at the time (6D00).
-const PLAIN: [(Name, &[u16]); 15] = [
-    (Name::Select, &[0x9000, 0x6a82, 0x6a86]),
-    (Name::Init, &[0x9000, 0x6a80, 0x6a86]),
-    (Name::Open, &[0x9000, 0x6a80, 0x6a86]),
-    (Name::Mutual, &[0x6985, 0x6982, 0x6a86]),
-    (Name::Pair, &[0x9000, 0x6a80, 0x6a84, 0x6a86, 0x6982, 0x6985]),
-    (Name::Unpair, &[0x6985, 0x6982]),
-    (Name::Status, &[0x6985, 0x6982]),
-    (Name::Verify, &[0x6985, 0x6982]),
-    (Name::Change, &[0x6985, 0x6982]),
-    (Name::Unblock, &[0x6985, 0x6982]),
-    (Name::Load, &[0x6985, 0x6982]),
-    (Name::Derive, &[0x6985, 0x6982]),
-    (Name::Remove, &[0x6985, 0x6982]),
-    (Name::SetPinlessPath, &[0x6985, 0x6982]),
-    (Name::Sign, &[0x6985, 0x6982]),
-];
-
-/// The sealed status words of each command. 63C5 is none: a wrong entry has cost a try, and 5 are the most.
-const SEALED: [(Name, &[u16]); 11] = [
-    (Name::Mutual, &[0x9000, 0x6985, 0x6a86]),
-    (Name::Unpair, &[0x9000, 0x6985, 0x6a86]),
-    (Name::Status, &[0x9000, 0x6a86]),
-    (Name::Verify, &[0x9000, 0x63c0, 0x63c1, 0x63c2, 0x6a86]),
-    (Name::Change, &[0x9000, 0x6985, 0x6a80, 0x6a86]),
-    (
-        Name::Unblock,
-        &[0x9000, 0x63c0, 0x63c1, 0x63c2, 0x63c3, 0x63c4, 0x6985, 0x6a80, 0x6a86],
-    ),
-    (Name::Load, &[0x9000, 0x6985, 0x6a80, 0x6a86]),
-    (Name::Derive, &[0x9000, 0x6984, 0x6985, 0x6a80, 0x6a86]),
-    (Name::Remove, &[0x9000, 0x6985, 0x6a86]),
-    (Name::SetPinlessPath, &[0x9000, 0x6985, 0x6a80, 0x6a86]),
-    (Name::Sign, &[0x9000, 0x6985, 0x6a80, 0x6a86]),
-];
-
-const MOST_KIND: u8 = 8;
-
-/// A command by its first two bytes; none where they name none.
-fn name_of(command: &[u8]) -> Option<Name> {
-    let wanted_class = |name| if name == Name::Select { 0x00 } else { 0x80 };
-    let known = INSTRUCTIONS
-        .iter()
-        .find(|known| command.starts_with(&[wanted_class(known.0), known.1]));
-    known.map(|known| known.0)
-}
+/// An answer: the command, where the card stood, the status word, and whether it was sealed.
+pub type Row = (Option<Name>, Situation, u16, bool);
 
 #[derive(Default)]
 pub struct Tally {
     operations: BTreeMap<(Operation, u8), usize>,
-    kinds: BTreeMap<u8, usize>,
+    rooms: BTreeMap<(Operation, Room), usize>,
+    /// Calls on a sound card by where it stood.
+    situations: BTreeMap<(Operation, Situation), usize>,
+    /// ASK's kinds by where the card stood.
+    kinds: BTreeMap<(Situation, u8), usize>,
     comparisons: BTreeMap<Comparison, usize>,
-    /// By command, status word, and whether it was sealed.
-    answers: BTreeMap<(Option<Name>, u16, bool), usize>,
+    answers: BTreeMap<Row, usize>,
+    forms: BTreeMap<(Situation, Form), usize>,
+    /// Supplies by the kind that was read.
+    supplies: BTreeMap<(u8, Supplied), usize>,
 }
 
 impl Tally {
@@ -107,102 +43,193 @@ impl Tally {
         *self.operations.entry((operation, refusal)).or_default() += 1;
     }
 
-    pub fn kind(&mut self, kind: u8) {
-        *self.kinds.entry(kind).or_default() += 1;
+    pub fn room(&mut self, operation: Operation, bytes: usize) {
+        if let Some(room) = room_of(operation, bytes) {
+            *self.rooms.entry((operation, room)).or_default() += 1;
+        }
     }
 
-    pub fn answer(&mut self, command: &[u8], answered: &Answered) {
-        if let Some(status) = answered.status {
-            *self.answers.entry((name_of(command), status, answered.sealed)).or_default() += 1;
+    /// A call that this card, as it was before, did not refuse as unsound.
+    pub fn card(&mut self, operation: Operation, refusal: u8, card: &Card) {
+        if refusal != UNSOUND {
+            *self.situations.entry((operation, situation_of(card))).or_default() += 1;
         }
+    }
+
+    /// The kind that ASK told on this card, where it was not refused.
+    pub fn kind(&mut self, card: &Card, asked: Asked) {
+        if asked.refusal == NOT_REFUSED {
+            *self.kinds.entry((situation_of(card), asked.kind)).or_default() += 1;
+        }
+    }
+
+    /// A supply that was read, for a command that reads this kind.
+    pub fn supply(&mut self, kind: u8, supply: &[u8]) {
+        *self.supplies.entry((kind, supplied(kind, supply))).or_default() += 1;
+    }
+
+    /// What ANSWER gave on this card, as it was before.
+    pub fn answer(&mut self, card: &Card, command: &[u8], answered: &Answered) {
+        let Some(status) = answered.status else { return };
+        let situation = situation_of(card);
+        *self
+            .answers
+            .entry((name_of(command), situation, status, answered.sealed))
+            .or_default() += 1;
+        *self.forms.entry((situation, form_of(command))).or_default() += 1;
         if let Some(comparison) = answered.comparison {
             *self.comparisons.entry(comparison).or_default() += 1;
         }
     }
 
-    fn status_words(&self) -> BTreeMap<u16, usize> {
-        let mut words = BTreeMap::new();
-        for ((_, status, _), count) in &self.answers {
-            *words.entry(*status).or_default() += count;
-        }
-        words
-    }
-
-    fn refusals(&self) -> BTreeMap<u8, usize> {
-        let mut refusals = BTreeMap::new();
-        for ((_, refusal), count) in &self.operations {
-            *refusals.entry(*refusal).or_default() += count;
-        }
-        refusals
-    }
-
-    /// What should have occurred and did not.
+    /// What has to occur and did not.
     pub fn missing(&self) -> Vec<String> {
         let mut missing = Vec::new();
         for (operation, refusals) in REFUSALS {
-            for refusal in refusals.iter().filter(|&&r| !self.operations.contains_key(&(operation, r))) {
-                missing.push(format!("{operation:?} with refusal {refusal}"));
-            }
+            missing.extend(lacking(
+                "refusal",
+                &self.operations,
+                refusals.iter().map(|&refusal| (operation, refusal)),
+            ));
         }
-        for kind in (0..=MOST_KIND).filter(|kind| !self.kinds.contains_key(kind)) {
-            missing.push(format!("kind {kind}"));
+        for (operation, _) in ROOMS {
+            missing.extend(lacking("buffer", &self.rooms, EVERY_ROOM.map(|room| (operation, room))));
         }
-        for comparison in COMPARISONS.iter().filter(|c| !self.comparisons.contains_key(c)) {
-            missing.push(format!("comparison {comparison:?}"));
+        for operation in [Operation::Reset, Operation::Ask, Operation::Answer, Operation::Write] {
+            missing.extend(lacking(
+                "sound card",
+                &self.situations,
+                EVERY_SITUATION.map(|situation| (operation, situation)),
+            ));
         }
-        for status in [WRONG_LENGTH, UNKNOWN_INSTRUCTION, UNKNOWN_CLASS] {
-            if !self.status_words().contains_key(&status) {
-                missing.push(format!("status word {status:04x}"));
-            }
+        missing.extend(lacking("comparison", &self.comparisons, COMPARISONS));
+        missing.extend(lacking("answer", &self.answers, every_row()));
+        for situation in EVERY_SITUATION {
+            missing.extend(lacking("kind", &self.kinds, kinds(situation).iter().map(|&kind| (situation, kind))));
+            missing.extend(lacking("form", &self.forms, EVERY_FORM.map(|form| (situation, form))));
         }
-        for (sealed, names) in [(false, &PLAIN[..]), (true, &SEALED[..])] {
-            for (name, statuses) in names {
-                for status in statuses.iter().filter(|&&s| !self.answers.contains_key(&(Some(*name), s, sealed))) {
-                    missing.push(format!("{name:?} with {status:04x}, sealed: {sealed}"));
-                }
-            }
+        for kind in 1..=MOST_KIND {
+            missing.extend(lacking(
+                "supply",
+                &self.supplies,
+                every_supplied(kind).into_iter().map(|way| (kind, way)),
+            ));
         }
         missing
+    }
+
+    /// Answers and kinds that the tables do not have.
+    pub fn too_many(&self) -> Vec<String> {
+        let rows = every_row();
+        let answers = self
+            .answers
+            .keys()
+            .filter(|row| !rows.contains(row))
+            .map(|row| format!("answer {row:x?}"));
+        let asked = self.kinds.keys().filter(|(situation, kind)| !kinds(*situation).contains(kind));
+        answers.chain(asked.map(|row| format!("kind {row:?}"))).collect()
     }
 
     pub fn print(&self) {
         println!("calls per operation, and of them per refusal (0: none):");
         for (operation, _) in REFUSALS {
             let of_it = self.operations.iter().filter(|((o, _), _)| *o == operation);
-            let parts: Vec<String> = of_it.clone().map(|((_, refusal), count)| format!("{refusal}: {count}")).collect();
-            let all: usize = of_it.map(|(_, count)| count).sum();
-            println!("  {:<8}{all:>9}   {}", format!("{operation:?}"), parts.join(", "));
+            let all: usize = of_it.clone().map(|(_, count)| count).sum();
+            let parts = listed(of_it.map(|((_, refusal), count)| format!("{refusal}: {count}")));
+            println!("  {:<8}{all:>9}   {parts}", format!("{operation:?}"));
         }
-        let refusals = self.refusals().into_iter().filter(|(refusal, _)| *refusal != NOT_REFUSED);
+        let refusals = summed(&self.operations, |(_, refusal)| *refusal);
+        let refusals = refusals.iter().filter(|(refusal, _)| **refusal != NOT_REFUSED);
         println!(
             "refusals: {}",
             listed(refusals.map(|(refusal, count)| format!("{refusal}: {count}")))
         );
-        let words = self.status_words().into_iter();
+        let words = summed(&self.answers, |(_, _, status, _)| *status);
         println!(
             "status words: {}",
-            listed(words.map(|(word, count)| format!("{word:04x}: {count}")))
+            listed(words.iter().map(|(word, count)| format!("{word:04x}: {count}")))
         );
-        println!(
-            "kinds: {}",
-            listed(self.kinds.iter().map(|(kind, count)| format!("{kind}: {count}")))
-        );
-        println!(
-            "comparisons: {}",
-            listed(self.comparisons.iter().map(|(made, count)| format!("{made:?}: {count}")))
-        );
+        let kinds = summed(&self.kinds, |(_, kind)| *kind);
+        println!("kinds: {}", listed(shown(&kinds)));
+        println!("comparisons: {}", listed(shown(&self.comparisons)));
+        println!("calls that a sound card got, by where it stood:");
+        for (operation, _) in REFUSALS {
+            print_part(&self.situations, operation);
+        }
+        println!("buffers beside the least room:");
+        for (operation, _) in ROOMS {
+            print_part(&self.rooms, operation);
+        }
+        println!("supplies that were read, by kind:");
+        for kind in 1..=MOST_KIND {
+            print_part(&self.supplies, kind);
+        }
+        println!("forms of commands, by where the card stood:");
+        for situation in EVERY_SITUATION {
+            print_part(&self.forms, situation);
+        }
     }
 
     /// The answers of each command.
     pub fn print_commands(&self) {
         println!("answers per command and status word (s: sealed):");
-        let names = INSTRUCTIONS.iter().map(|known| Some(known.0)).chain([None]);
-        for name in names {
-            let of_it = self.answers.iter().filter(|((n, _, _), _)| *n == name);
-            let shown = of_it.map(|((_, status, sealed), count)| format!("{status:04x}{}: {count}", if *sealed { "s" } else { "" }));
+        for name in every_name() {
+            let of_it = self.answers.iter().filter(|((n, ..), _)| *n == name);
+            let of_it: BTreeMap<Row, usize> = of_it.map(|(row, count)| (*row, *count)).collect();
+            let words = summed(&of_it, |(_, _, status, sealed)| (*status, *sealed));
+            let parts = words
+                .iter()
+                .map(|((status, sealed), count)| format!("{status:04x}{}: {count}", if *sealed { "s" } else { "" }));
             let name = name.map_or("unknown".to_string(), |name| format!("{name:?}"));
-            println!("  {name:<15} {}", listed(shown));
+            println!("  {name:<15} {}", listed(parts));
         }
+        let rows = every_row();
+        let least = rows.iter().filter_map(|row| self.answers.get(row)).min();
+        println!(
+            "{} rows of command, situation and status word, each at least {} times",
+            rows.len(),
+            least.unwrap_or(&0)
+        );
+    }
+}
+
+/// Every answer that document 01 lets occur.
+pub fn every_row() -> Vec<Row> {
+    let mut rows = Vec::new();
+    for name in every_name() {
+        for situation in EVERY_SITUATION {
+            let row = |sealed| move |&status: &u16| (name, situation, status, sealed);
+            rows.extend(plain_words(situation, name).iter().map(row(false)));
+            rows.extend(sealed_words(situation, name).iter().map(row(true)));
+        }
+    }
+    rows
+}
+
+/// The wanted keys that were not counted.
+pub fn lacking<K: Ord + Debug>(what: &str, counts: &BTreeMap<K, usize>, wanted: impl IntoIterator<Item = K>) -> Vec<String> {
+    let lacks = wanted.into_iter().filter(|key| !counts.contains_key(key));
+    lacks.map(|key| format!("{what} {key:x?}")).collect()
+}
+
+fn summed<K, S: Ord>(counts: &BTreeMap<K, usize>, by: impl Fn(&K) -> S) -> BTreeMap<S, usize> {
+    let mut sums = BTreeMap::new();
+    for (key, count) in counts {
+        *sums.entry(by(key)).or_default() += count;
+    }
+    sums
+}
+
+fn shown<K: Debug>(counts: &BTreeMap<K, usize>) -> impl Iterator<Item = String> + '_ {
+    counts.iter().map(|(key, count)| format!("{key:?}: {count}"))
+}
+
+/// The counts under one first part of the key, if there are any.
+fn print_part<A: PartialEq + Debug, B: Debug>(counts: &BTreeMap<(A, B), usize>, part: A) {
+    let of_it = counts.iter().filter(|((a, _), _)| *a == part);
+    let parts = listed(of_it.map(|((_, b), count)| format!("{b:?}: {count}")));
+    if !parts.is_empty() {
+        println!("  {:<15}{parts}", format!("{part:?}"));
     }
 }
 

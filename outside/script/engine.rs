@@ -1,0 +1,191 @@
+//! The two engines that a script can be played on: the plain model of document 01, and the library, whose card and session lie as their bytes
+//! and are changed in place. Each holds one card and the terminal's session; lengths and counts are in bytes.
+
+use crate::boundary::{self, CARD_BYTES, SESSION_BYTES};
+use crate::model::card::{Card, Session, POINT_BYTES, UID_BYTES};
+use crate::model::engine::{self, Asked, Told};
+use crate::model::message::HEADER_BYTES;
+use crate::plain::KEY_BYTES;
+
+pub trait Engine {
+    /// The card as its 529 bytes, and the session as its 80 bytes.
+    fn card(&self) -> Vec<u8>;
+    fn put_card(&mut self, card: &[u8]);
+    fn session(&self) -> Vec<u8>;
+    fn put_session(&mut self, session: &[u8]);
+
+    fn fresh(&mut self, uid: [u8; UID_BYTES], public_key: [u8; POINT_BYTES]);
+    fn sound(&self) -> bool;
+    /// RESET's refusal.
+    fn reset(&mut self) -> u8;
+    fn ask(&self, command: &[u8], buffer: &mut [u8]) -> Asked;
+    fn answer(&mut self, command: &[u8], supply: &[u8], buffer: &mut [u8]) -> Told;
+    fn seal(&mut self, header: [u8; HEADER_BYTES], data: &[u8], buffer: &mut [u8]) -> Told;
+    fn unseal(&mut self, response: &[u8], buffer: &mut [u8]) -> Told;
+    fn walk(&self, input: &[u8]) -> Told;
+    fn write(&self, buffer: &mut [u8]) -> Told;
+    /// READ's refusal.
+    fn read(&mut self, record: &[u8]) -> u8;
+}
+
+pub struct Model {
+    card: Card,
+    session: Session,
+}
+
+impl Model {
+    /// FRESH of zeros and a session of zeros.
+    pub fn new() -> Model {
+        Model {
+            card: Card::fresh([0; UID_BYTES], [0; POINT_BYTES]),
+            session: Session::ZERO,
+        }
+    }
+}
+
+impl Engine for Model {
+    fn card(&self) -> Vec<u8> {
+        boundary::card_bytes(&self.card)
+    }
+
+    fn put_card(&mut self, card: &[u8]) {
+        self.card = boundary::card_of(card);
+    }
+
+    fn session(&self) -> Vec<u8> {
+        boundary::session_bytes(&self.session)
+    }
+
+    fn put_session(&mut self, session: &[u8]) {
+        let (enc_key, behind_enc_key) = session.split_at(KEY_BYTES);
+        let (mac_key, iv) = behind_enc_key.split_at(KEY_BYTES);
+        self.session.enc_key.copy_from_slice(enc_key);
+        self.session.mac_key.copy_from_slice(mac_key);
+        self.session.iv.copy_from_slice(iv);
+    }
+
+    fn fresh(&mut self, uid: [u8; UID_BYTES], public_key: [u8; POINT_BYTES]) {
+        self.card = Card::fresh(uid, public_key);
+    }
+
+    fn sound(&self) -> bool {
+        self.card.is_sound()
+    }
+
+    fn reset(&mut self) -> u8 {
+        engine::reset(&mut self.card)
+    }
+
+    fn ask(&self, command: &[u8], buffer: &mut [u8]) -> Asked {
+        engine::ask(&self.card, command, buffer)
+    }
+
+    fn answer(&mut self, command: &[u8], supply: &[u8], buffer: &mut [u8]) -> Told {
+        engine::answer(&mut self.card, command, supply, buffer).told
+    }
+
+    fn seal(&mut self, header: [u8; HEADER_BYTES], data: &[u8], buffer: &mut [u8]) -> Told {
+        engine::seal(&mut self.session, header, data, buffer)
+    }
+
+    fn unseal(&mut self, response: &[u8], buffer: &mut [u8]) -> Told {
+        engine::unseal(&mut self.session, response, buffer)
+    }
+
+    fn walk(&self, input: &[u8]) -> Told {
+        engine::walk(input)
+    }
+
+    fn write(&self, buffer: &mut [u8]) -> Told {
+        engine::write(&self.card, buffer)
+    }
+
+    fn read(&mut self, record: &[u8]) -> u8 {
+        let (refusal, card) = engine::read(record);
+        self.card = card;
+        refusal
+    }
+}
+
+pub struct Library {
+    card: [u8; CARD_BYTES],
+    session: [u8; SESSION_BYTES],
+}
+
+impl Library {
+    /// FRESH of zeros and a session of zeros.
+    pub fn new() -> Library {
+        let mut library = Library {
+            card: [0; CARD_BYTES],
+            session: [0; SESSION_BYTES],
+        };
+        library.fresh([0; UID_BYTES], [0; POINT_BYTES]);
+        library
+    }
+}
+
+fn told(library: boundary::Told) -> Told {
+    Told {
+        refusal: library.refusal,
+        count: library.count,
+    }
+}
+
+impl Engine for Library {
+    fn card(&self) -> Vec<u8> {
+        self.card.to_vec()
+    }
+
+    fn put_card(&mut self, card: &[u8]) {
+        self.card.copy_from_slice(card);
+    }
+
+    fn session(&self) -> Vec<u8> {
+        self.session.to_vec()
+    }
+
+    fn put_session(&mut self, session: &[u8]) {
+        self.session.copy_from_slice(session);
+    }
+
+    fn fresh(&mut self, uid: [u8; UID_BYTES], public_key: [u8; POINT_BYTES]) {
+        boundary::fresh(&mut self.card, &uid, &public_key);
+    }
+
+    fn sound(&self) -> bool {
+        boundary::sound(&self.card) == 1
+    }
+
+    fn reset(&mut self) -> u8 {
+        boundary::reset(&mut self.card)
+    }
+
+    fn ask(&self, command: &[u8], buffer: &mut [u8]) -> Asked {
+        let boundary::Asked { refusal, kind, count } = boundary::ask(&self.card, command, buffer);
+        Asked { refusal, kind, count }
+    }
+
+    fn answer(&mut self, command: &[u8], supply: &[u8], buffer: &mut [u8]) -> Told {
+        told(boundary::answer(&mut self.card, command, supply, buffer))
+    }
+
+    fn seal(&mut self, header: [u8; HEADER_BYTES], data: &[u8], buffer: &mut [u8]) -> Told {
+        told(boundary::seal(&mut self.session, &header, data, buffer))
+    }
+
+    fn unseal(&mut self, response: &[u8], buffer: &mut [u8]) -> Told {
+        told(boundary::unseal(&mut self.session, response, buffer))
+    }
+
+    fn walk(&self, input: &[u8]) -> Told {
+        told(boundary::walk(input))
+    }
+
+    fn write(&self, buffer: &mut [u8]) -> Told {
+        told(boundary::write(&self.card, buffer))
+    }
+
+    fn read(&mut self, record: &[u8]) -> u8 {
+        boundary::read(&mut self.card, record)
+    }
+}
