@@ -168,6 +168,7 @@ impl Both {
         self.same_bytes(&call, "the card", &boundary::card_bytes(card), &lent);
         self.tally.operation(Operation::Reset, model);
         self.tally.card(Operation::Reset, model, &before);
+        self.next_card_sound(&call, model, &lent);
         model
     }
 
@@ -214,7 +215,15 @@ impl Both {
         self.same_bytes(&call, "the buffer", buffer, &room);
         self.unchanged(&call, &[&given, &supplied]);
         self.tally_answer(&before, command, supply, buffer.len(), &model);
+        self.next_card_sound(&call, model.told.refusal, &lent);
         model
+    }
+
+    /// The card that a call left, where it was not refused, is sound by the library's own word.
+    fn next_card_sound(&self, call: &Call, refusal: u8, card: &Guarded) {
+        if refusal == 0 {
+            self.same_result(call, (0, 1, 0), (0, boundary::sound(card.content()), 0));
+        }
     }
 
     fn tally_answer(&mut self, before: &Card, command: &[u8], supply: &[u8], room_bytes: usize, model: &Answered) {
