@@ -5,6 +5,7 @@ use crate::lent_calls;
 use crate::pair;
 use crate::pair::Pair;
 use card_bytes::CARD_BYTES;
+use desk::args::is_word;
 use words::VALUE_MAX_BYTES;
 
 // A buffer before a call: both have the same bytes.
@@ -67,13 +68,6 @@ fn write(p: Pair, one: &mut [u8], two: &mut [u8]) -> Pair {
 }
 
 // ---- the words of a line
-fn is_word(line: &[u8], k: usize, text: &[u8]) -> bool {
-    let w = words::word(line, k);
-    let start = w.start;
-    let end = w.end;
-    octets::same(&line[start..end], text)
-}
-
 fn number(line: &[u8], k: usize) -> usize {
     let w = words::word(line, k);
     let start = w.start;

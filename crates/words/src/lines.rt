@@ -93,29 +93,14 @@ pub fn trimmed(s: &[u8]) -> usize {
     n
 }
 
-// The first place from `at` on with no blank, or the line's end.
-fn blanks_end(s: &[u8], at: usize) -> usize
+// The first place from `at` on with a blank, or with none where `blank` is false; the line's end where there is no such place.
+fn until(s: &[u8], at: usize, blank: bool) -> usize
     requires { ⌜ at ≤ length (now s) ⌝ }
     ensures { λ r. ⌜ (at ≤ r) × (r ≤ length (now (s .entry))) ⌝ }
 {
     let mut i = at;
     while i < s.len() {
-        if !is_blank(s[i]) {
-            return i;
-        }
-        i += 1;
-    }
-    i
-}
-
-// The first place from `at` on with a blank, or the line's end.
-fn word_end(s: &[u8], at: usize) -> usize
-    requires { ⌜ at ≤ length (now s) ⌝ }
-    ensures { λ r. ⌜ (at ≤ r) × (r ≤ length (now (s .entry))) ⌝ }
-{
-    let mut i = at;
-    while i < s.len() {
-        if is_blank(s[i]) {
+        if is_blank(s[i]) == blank {
             return i;
         }
         i += 1;
@@ -127,14 +112,14 @@ fn word_end(s: &[u8], at: usize) -> usize
 pub fn word(s: &[u8], k: usize) -> Span
     ensures { λ r. ⌜ (r .start ≤ r .end) × (r .end ≤ length (now (s .entry))) ⌝ }
 {
-    let mut at = blanks_end(s, 0);
+    let mut at = until(s, 0, false);
     let mut i = 0;
     while i < k {
-        let end = word_end(s, at);
-        at = blanks_end(s, end);
+        let end = until(s, at, true);
+        at = until(s, end, false);
         i += 1;
     }
-    let end = word_end(s, at);
+    let end = until(s, at, true);
     Span { start: at, end }
 }
 
@@ -156,6 +141,6 @@ pub fn count(s: &[u8]) -> usize {
 
 // Whether the first word begins with '#'.
 pub fn is_comment(s: &[u8]) -> bool {
-    let at = blanks_end(s, 0);
+    let at = until(s, 0, false);
     if at < s.len() { s[at] == b'#' } else { false }
 }

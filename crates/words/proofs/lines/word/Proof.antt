@@ -13,17 +13,17 @@ Inv-loop s k at₀ i₀ at i = at ≤ length s
 abbrev μ-loop : tie.MeasureT-loop
 μ-loop s k at₀ i₀ at i = k - i
 
-blanks-end-requires : tie.Need-blanks-end-requires Inv-loop μ-loop
-blanks-end-requires c κs = search needs
+until-requires : tie.Need-until-requires Inv-loop μ-loop
+until-requires c κs = search needs
 
 loop-holds : tie.Need-loop-holds Inv-loop μ-loop
 loop-holds c = search needs
 
-word-end-requires : tie.Need-word-end-requires Inv-loop μ-loop
-word-end-requires c κs = search needs
+until-requires-2 : tie.Need-until-requires-2 Inv-loop μ-loop
+until-requires-2 c κs = search needs
 
-blanks-end-requires-2 : tie.Need-blanks-end-requires-2 Inv-loop μ-loop
-blanks-end-requires-2 c κs = search needs
+until-requires-3 : tie.Need-until-requires-3 Inv-loop μ-loop
+until-requires-3 c κs = search needs
 
 add-i : tie.Need-add-i Inv-loop μ-loop
 add-i c = search needs
@@ -34,8 +34,8 @@ loop-less c = search needs
 loop-again : tie.Need-loop-again Inv-loop μ-loop
 loop-again c = search needs
 
-word-end-requires-2 : tie.Need-word-end-requires-2 Inv-loop μ-loop
-word-end-requires-2 c κs = search needs
+until-requires-4 : tie.Need-until-requires-4 Inv-loop μ-loop
+until-requires-4 c κs = search needs
 
 returns : tie.Need-returns Inv-loop μ-loop
 returns c = search needs
@@ -46,12 +46,12 @@ word-spec =
     (tie.spec
     Inv-loop
     μ-loop
-    blanks-end-requires
+    until-requires
     loop-holds
-    word-end-requires
-    blanks-end-requires-2
+    until-requires-2
+    until-requires-3
     add-i
     loop-less
     loop-again
-    word-end-requires-2
+    until-requires-4
     returns)

@@ -1,17 +1,17 @@
--- `lines::blanks_end` meets its contract. The loop's invariant: the place lies between the start and the line's end.
+-- `lines::until` meets its contract. The loop's invariant: the place lies between the start and the line's end.
 -- Assumes nothing.
 use Prim.Native.Nat.{_-_, _≤_, _+_}
 use mathlib.Core.Path.{_≡_}
 use lib.ListN.{length}
 use borrow.Author.Needs.{needs}
-use Rattle.words.proofs.lines.blanks_end.Statement.{statement}
-use Rattle.words.proofs.lines.blanks_end.Tie as tie
+use Rattle.words.proofs.lines.until.Statement.{statement}
+use Rattle.words.proofs.lines.until.Tie as tie
 
 abbrev Inv-loop : tie.InvT-loop
-Inv-loop s at i₀ i = (at ≤ i) × (i ≤ length s)
+Inv-loop s at blank i₀ i = (at ≤ i) × (i ≤ length s)
 
 abbrev μ-loop : tie.MeasureT-loop
-μ-loop s at i₀ i = length s - i
+μ-loop s at blank i₀ i = length s - i
 
 loop-holds : tie.Need-loop-holds Inv-loop μ-loop
 loop-holds c = search needs
@@ -37,8 +37,8 @@ loop-again c = search needs
 returns-2 : tie.Need-returns-2 Inv-loop μ-loop
 returns-2 c = search needs
 
-pub blanks-end-spec : {M : Type 1} → statement M
-blanks-end-spec =
+pub until-spec : {M : Type 1} → statement M
+until-spec =
     tie.close
     (tie.spec
     Inv-loop
