@@ -10,14 +10,14 @@ ghost use Rattle.template.specs.Writing.{Wrote};
 ghost use Rattle.answer_templates.specs.Answers.{preInitialised, applicationBytes, applicationFields, applicationInfo};
 ghost use Rattle.answer_templates.specs.Answers.{keyByte, status, pair, signature};
 use card::Card;
+use der::put_integer;
+use der_digits::der_bytes;
 use octets::put;
 use template::TAG_INTEGER;
 use template::TAG_PUBLIC_KEY;
-use template::der_bytes;
-use template::field_bytes;
-use template::put_field;
-use template::put_head;
-use template::put_integer;
+use template_write::field_bytes;
+use template_write::put_field;
+use template_write::put_head;
 
 pub const TAG_APPLICATION_INFO: u8 = 0xA4;
 

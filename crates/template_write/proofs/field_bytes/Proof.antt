@@ -1,8 +1,8 @@
 -- `field_bytes` counts a head of 2 or 3 bytes by the same test as the definition.
 use borrow.Author.Tests.{lt-ltb, le-ltb}
 use borrow.Author.Needs.{needs}
-use Rattle.template.proofs.field_bytes.Statement.{statement}
-use Rattle.template.proofs.field_bytes.Tie as tie
+use Rattle.template_write.proofs.field_bytes.Statement.{statement}
+use Rattle.template_write.proofs.field_bytes.Tie as tie
 
 cast-if1 : tie.Need-cast-if1
 cast-if1 c = search needs

@@ -2,9 +2,9 @@
 use native.Mathlib.Omega.{arith}
 use borrow.Author.Tests.{lt-ltb, le-ltb}
 use borrow.Author.Needs.{needs}
 use Rattle.template.proofs.WritingFacts.{wrote-one}
-use Rattle.template.proofs.put_head.Statement.{statement}
-use Rattle.template.proofs.put_head.Tie as tie
+use Rattle.template_write.proofs.put_head.Statement.{statement}
+use Rattle.template_write.proofs.put_head.Tie as tie
 
 cast-if1 : tie.Need-cast-if1
 cast-if1 c = search needs

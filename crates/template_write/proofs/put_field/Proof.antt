@@ -3,10 +3,10 @@ use mathlib.Core.List.{[]}
 use native.Mathlib.Omega.{arith}
 use lib.ListN.{length}
 use borrow.Author.Needs.{needs}
 use Rattle.template.proofs.WritingFacts.{wrote-one, wrote-both}
 use Rattle.template.proofs.HeadFacts.{head-length-le}
-use Rattle.template.proofs.put_field.Statement.{statement}
-use Rattle.template.proofs.put_field.Tie as tie
+use Rattle.template_write.proofs.put_field.Statement.{statement}
+use Rattle.template_write.proofs.put_field.Tie as tie
 
 put-head-requires : tie.Need-put-head-requires
 put-head-requires c κs = search needs

@@ -1,9 +1,9 @@
 -- `needs_zero` asks what the definition asks, by the first byte.
 use mathlib.Core.Path.{sym}
 use borrow.Author.Needs.{needs}
 use Rattle.template.proofs.DerFacts.{needs-none, needs-first}
-use Rattle.template.proofs.needs_zero.Statement.{statement}
-use Rattle.template.proofs.needs_zero.Tie as tie
+use Rattle.der_digits.proofs.needs_zero.Statement.{statement}
+use Rattle.der_digits.proofs.needs_zero.Tie as tie
 
 returns : tie.Need-returns
 returns c = sym (needs-none (c .before .args .digits .now) (c .if1 .taken))

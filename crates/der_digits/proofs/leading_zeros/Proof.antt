@@ -5,10 +5,10 @@ use native.Mathlib.Numerals.{add-one}
 use native.Mathlib.Omega.{arith}
 use lib.ListN.{length, drop}
 use borrow.Author.Needs.{needs}
 use Rattle.template.specs.Der.{leadingZeros}
 use Rattle.template.proofs.DerFacts.{zeros-step, zeros-here, zeros-end}
-use Rattle.template.proofs.leading_zeros.Statement.{statement}
-use Rattle.template.proofs.leading_zeros.Tie as tie
+use Rattle.der_digits.proofs.leading_zeros.Statement.{statement}
+use Rattle.der_digits.proofs.leading_zeros.Tie as tie
 
 abbrev Inv-loop : tie.InvT-loop
 Inv-loop number i₀ i = (i ≤ length number) × (leadingZeros number ≡ i + leadingZeros (drop i number))

@@ -1,9 +1,9 @@
 -- `der_bytes` counts the digits behind the leading zeros, and the zero that may stand in front.
 use native.Mathlib.Omega.{arith}
 use borrow.Author.Needs.{needs}
 use Rattle.template.proofs.DerFacts.{zeros-within, content-more, content-same}
-use Rattle.template.proofs.der_bytes.Statement.{statement}
-use Rattle.template.proofs.der_bytes.Tie as tie
+use Rattle.der_digits.proofs.der_bytes.Statement.{statement}
+use Rattle.der_digits.proofs.der_bytes.Tie as tie
 
 leading-zeros-requires : tie.Need-leading-zeros-requires
 leading-zeros-requires c κs = search needs

@@ -5,13 +5,13 @@ use Prim.Native.Nat.{ℕ}
 use native.Mathlib.Omega.{arith}
 use lib.ListN.{drop}
 use borrow.Author.Needs.{needs}
 use Rattle.template.specs.Template.{field}
 use Rattle.template.specs.Der.{withSign}
 use Rattle.template.proofs.Parts.{part-from}
 use Rattle.template.proofs.DerFacts.{zeros-within}
 use Rattle.template.proofs.WritingFacts.{wrote-same}
-use Rattle.template.proofs.put_integer.Statement.{statement}
-use Rattle.template.proofs.put_integer.Tie as tie
+use Rattle.der.proofs.put_integer.Statement.{statement}
+use Rattle.der.proofs.put_integer.Tie as tie
 
 leading-zeros-requires : tie.Need-leading-zeros-requires
 leading-zeros-requires c κs = search needs

@@ -6,12 +6,12 @@ use native.Mathlib.Omega.{arith}
 use lib.ListN.{length}
 use borrow.Author.Tests.{not-true, not-false}
 use borrow.Author.Needs.{needs}
 use Rattle.template.specs.Template.{field}
 use Rattle.template.proofs.WritingFacts.{wrote-one, wrote-both, wrote-same}
 use Rattle.template.proofs.HeadFacts.{head-length-le}
 use Rattle.template.proofs.DerFacts.{sign-none, zero-field}
-use Rattle.template.proofs.put_digits.Statement.{statement}
-use Rattle.template.proofs.put_digits.Tie as tie
+use Rattle.der.proofs.put_digits.Statement.{statement}
+use Rattle.der.proofs.put_digits.Tie as tie
 
 needs-zero-requires : tie.Need-needs-zero-requires
 needs-zero-requires c κs = search needs
