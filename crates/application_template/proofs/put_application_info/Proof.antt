@@ -7,10 +7,10 @@ use borrow.Author.Needs.{needs}
 use Rattle.template.specs.Template.{fieldHead}
 use Rattle.template.proofs.HeadFacts.{short-head}
 use Rattle.template.proofs.WritingFacts.{wrote-both, wrote-same}
 use Rattle.answer_templates.specs.Answers.{applicationFields}
 use Rattle.answer_templates.proofs.AnswerFacts.{application-length, application-bytes-le}
-use Rattle.answer_templates.proofs.put_application_info.Statement.{statement}
-use Rattle.answer_templates.proofs.put_application_info.Tie as tie
+use Rattle.application_template.proofs.put_application_info.Statement.{statement}
+use Rattle.application_template.proofs.put_application_info.Tie as tie
 
 application-bytes-requires : tie.Need-application-bytes-requires
 application-bytes-requires c κs = search needs

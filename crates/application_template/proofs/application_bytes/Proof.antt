@@ -2,8 +2,8 @@
 use native.Mathlib.Omega.{arith}
 use borrow.Author.Needs.{needs}
 use Rattle.template.proofs.HeadFacts.{field-bytes-le}
-use Rattle.answer_templates.proofs.application_bytes.Statement.{statement}
-use Rattle.answer_templates.proofs.application_bytes.Tie as tie
+use Rattle.application_template.proofs.application_bytes.Statement.{statement}
+use Rattle.application_template.proofs.application_bytes.Tie as tie
 
 field-bytes-requires : tie.Need-field-bytes-requires
 field-bytes-requires c κs = search needs

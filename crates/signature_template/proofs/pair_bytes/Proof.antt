@@ -4,9 +4,9 @@ use native.Mathlib.Omega.{arith}
 use borrow.Author.Needs.{needs}
 use Rattle.template.proofs.HeadFacts.{field-bytes-le}
 use Rattle.template.proofs.DerFacts.{der-length}
 use Rattle.answer_templates.proofs.AnswerFacts.{pair-length}
-use Rattle.answer_templates.proofs.pair_bytes.Statement.{statement}
-use Rattle.answer_templates.proofs.pair_bytes.Tie as tie
+use Rattle.signature_template.proofs.pair_bytes.Statement.{statement}
+use Rattle.signature_template.proofs.pair_bytes.Tie as tie
 
 der-bytes-requires : tie.Need-der-bytes-requires
 der-bytes-requires c κs = search needs

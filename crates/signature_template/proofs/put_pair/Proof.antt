@@ -3,9 +3,9 @@ use native.Mathlib.Omega.{arith}
 use borrow.Author.Needs.{needs}
 use Rattle.template.proofs.HeadFacts.{short-head}
 use Rattle.template.proofs.WritingFacts.{wrote-both, wrote-same}
 use Rattle.answer_templates.proofs.AnswerFacts.{integer-length, pair-length-le, pair-parts}
-use Rattle.answer_templates.proofs.put_pair.Statement.{statement}
-use Rattle.answer_templates.proofs.put_pair.Tie as tie
+use Rattle.signature_template.proofs.put_pair.Statement.{statement}
+use Rattle.signature_template.proofs.put_pair.Tie as tie
 
 pair-bytes-requires : tie.Need-pair-bytes-requires
 pair-bytes-requires c κs = search needs

@@ -3,8 +3,8 @@ use native.Mathlib.Omega.{arith}
 use borrow.Author.Needs.{needs}
 use Rattle.template.proofs.HeadFacts.{short-field}
 use Rattle.template.proofs.WritingFacts.{wrote-both}
-use Rattle.answer_templates.proofs.put_application_fields.Statement.{statement}
-use Rattle.answer_templates.proofs.put_application_fields.Tie as tie
+use Rattle.application_template.proofs.put_application_fields.Statement.{statement}
+use Rattle.application_template.proofs.put_application_fields.Tie as tie
 
 put-field-requires : tie.Need-put-field-requires
 put-field-requires c κs = search needs

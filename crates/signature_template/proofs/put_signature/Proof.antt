@@ -7,9 +7,9 @@ use borrow.Author.Needs.{needs}
 use Rattle.template.specs.Template.{fieldBytes}
 use Rattle.template.proofs.HeadFacts.{head-length-le, short-field}
 use Rattle.template.proofs.WritingFacts.{wrote-both, wrote-same}
 use Rattle.answer_templates.proofs.AnswerFacts.{pair-length-le, signature-bytes-le, signature-parts}
-use Rattle.answer_templates.proofs.put_signature.Statement.{statement}
-use Rattle.answer_templates.proofs.put_signature.Tie as tie
+use Rattle.signature_template.proofs.put_signature.Statement.{statement}
+use Rattle.signature_template.proofs.put_signature.Tie as tie
 
 field-bytes-requires : tie.Need-field-bytes-requires
 field-bytes-requires c κs = search needs
