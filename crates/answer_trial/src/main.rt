@@ -16,7 +16,7 @@ fn show(name: &[u8], buf: &[u8], n: usize) {
 fn signature(name: &[u8], r: &[u8; 32], s: &[u8; 32]) {
     let mut buf = [0xEEu8; 144];
     let key = [0x04u8; 65];
-    let n = answer_templates::put_signature(&mut buf, 0, &key, r, s);
+    let n = signature_template::put_signature(&mut buf, 0, &key, r, s);
     show(name, &buf, n);
 }
 
@@ -37,10 +37,10 @@ fn application(name: &[u8], key_uid: &[u8; 32], has_key: bool) {
     let uid = [0x11u8; 16];
     let key = [0x04u8; 65];
     if has_key {
-        let n = answer_templates::put_application_info(&mut buf, 0, &uid, &key, 5, key_uid);
+        let n = application_template::put_application_info(&mut buf, 0, &uid, &key, 5, key_uid);
         show(name, &buf, n);
     } else {
-        let n = answer_templates::put_application_info(&mut buf, 0, &uid, &key, 5, b"");
+        let n = application_template::put_application_info(&mut buf, 0, &uid, &key, 5, b"");
         show(name, &buf, n);
     }
 }

@@ -86,7 +86,7 @@ fn put_info(identity: Identity, slots: [Slot; Card::SLOTS], keys: Keys, out: &mu
     let free = free_slots(slots);
     let key_uid = keys.uid;
     let n = key_uid_bytes(keys.kind);
-    answer_templates::put_application_info(out, 0, &uid, &public_key, free, &key_uid[0..n])
+    application_template::put_application_info(out, 0, &uid, &public_key, free, &key_uid[0..n])
 }
 
 // The answer of a pre-initialised card.

@@ -72,7 +72,7 @@ pub fn sign(card: Card, supply: &[u8], out: &mut [u8]) -> Replied
     let key = &supply[0..SIGN_KEY_END];
     let r = &supply[SIGN_KEY_END..SIGN_R_END];
     let s = &supply[SIGN_R_END..SIGN_S_END];
-    let count = answer_templates::put_signature(out, 0, key, r, s);
+    let count = signature_template::put_signature(out, 0, key, r, s);
     Replied {
         status: rules::SUCCESS,
         count,
