@@ -38,7 +38,8 @@ use Rattle.stakes.specs.declared.Stake.{Stake}
 use Rattle.stakes.specs.declared.Stake.the-variants as stake
 use Rattle.stakes.proofs.Decoding.{stake-is}
 use Rattle.route.specs.declared.Way.{Way}
-use Rattle.route.specs.Routes.{tellBy, endsWith, decisionOf, Ready, Routes}
+use Rattle.card_end.specs.Telling.{tellBy}
+use Rattle.route.specs.Routes.{endsWith, decisionOf, Ready, Routes}
 use Rattle.route.specs.Routes.{opening as way}
 
 -- ---- the keys are the card's own through steps 1 to 5

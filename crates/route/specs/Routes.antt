@@ -8,18 +8,14 @@ use Rattle.card.specs.declared.Card.{Card}
 use Rattle.rules.specs.declared.Instruction.{Instruction}
 use Rattle.rules.specs.declared.Command.{Command}
 use Rattle.rules.specs.declared.Command.the-variants as command
-use Rattle.rules.specs.Words.{success, verdict, Reply, fails}
+use Rattle.rules.specs.Words.{success, verdict, fails}
 use Rattle.rules.specs.Steps.{headerOf, p1Of, p2Of}
 use Rattle.rules.specs.Commands.{checksOf, supplyOf, replyOf}
-use Rattle.rules.specs.Engine.{Told, plainly, overChannel, Decision, ends, byOpening, sessionOf}
+use Rattle.rules.specs.Engine.{Decision, ends, byOpening, sessionOf}
 use Rattle.message.specs.Message.{commandHead, openField}
+use Rattle.card_end.specs.Telling.{tellBy}
 use Rattle.commands.specs.Fits.{InRange, PathsFit}
 use Rattle.route.specs.declared.Way.{Way}
-
--- how the answer goes out
-abbrev pub tellBy : Bool → Reply → Told
-tellBy true = overChannel
-tellBy false = plainly
 
 -- a route that ends
 abbrev pub endsWith : Bool → Card → ℕ → Way

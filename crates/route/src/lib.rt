@@ -5,13 +5,12 @@ ghost use mathlib.Core.Path.{_≡_};
 ghost use Prim.Native.Nat.{_≤_};
 ghost use lib.ListN.{length, take};
 ghost use Rattle.commands.specs.Fits.{InRange, PathsFit};
-ghost use Rattle.rules.specs.Engine.{overChannel, sessionOf, withMac, step3, step4, step5, step6, decide};
+ghost use Rattle.rules.specs.Engine.{overChannel, withMac, step3, step4, step5, step6, decide};
 ghost use Rattle.rules.specs.Steps.{atStake};
-ghost use Rattle.route.specs.Routes.{tellBy, Routes, RoutesIn, endsWith, opening};
+ghost use Rattle.card_end.specs.Telling.{tellBy};
+ghost use Rattle.route.specs.Routes.{Routes, RoutesIn, endsWith, opening};
 use card::Card;
-use card::Channel;
 use message::Opening;
-use message::Session;
 use rules::Choice;
 use rules::Command;
 use rules::Instruction;
@@ -79,30 +78,6 @@ fn step_5(over: bool, i: Instruction, p1: u8, p2: u8, card: Card, data: &[u8]) -
     }
 }
 
-// The card's end of the channel.
-pub fn session_of(channel: Channel) -> Session
-    ensures { λ r. ⌜ r ≡ sessionOf channel ⌝ }
-{
-    let enc_key = channel.enc_key;
-    let mac_key = channel.mac_key;
-    let iv = channel.iv;
-    Session {
-        enc_key,
-        mac_key,
-        iv,
-    }
-}
-
-// The card after a message with this MAC was sealed or opened.
-pub fn with_mac(mut card: Card, mac: [u8; 16]) -> Card
-    ensures { λ r. ⌜ r ≡ withMac card mac ⌝ }
-{
-    let mut channel = card.channel;
-    channel.iv = mac;
-    card.channel = channel;
-    card
-}
-
 // Step 4, past the opening: the MAC is the next IV, and the opened data goes on.
 fn opened_way(
     i: Instruction,
@@ -118,7 +93,7 @@ fn opened_way(
 {
     let mac = octets::block(&field[0..16]);
     octets::put(plain, 0, data);
-    step_5(true, i, p1, p2, with_mac(card, mac), data)
+    step_5(true, i, p1, p2, card_end::with_mac(card, mac), data)
 }
 
 // Step 4, for what goes over the channel: the data is opened; otherwise 6982, and the channel is closed.
@@ -128,7 +103,7 @@ fn open(i: Instruction, card: Card, cmd: &[u8], field: &[u8], plain: &mut [u8]) 
 {
     let p1 = cmd[2];
     let p2 = cmd[3];
-    let session = session_of(card.channel);
+    let session = card_end::session_of(card.channel);
     let mut opened = [0u8; OPENED_BYTES];
     let cla = cmd[0];
     let ins = cmd[1];

@@ -1,7 +1,7 @@
 -- A listed command goes on to its checks; another ends.
 -- Assumes nothing.
 use Rattle.rules.specs.Words.{wrongParameters}
-use Rattle.route.specs.Routes.{tellBy}
+use Rattle.card_end.specs.Telling.{tellBy}
 use Rattle.rules.specs.Steps.{atStake, commandOf}
 use mathlib.Core.Path.{sym, _∙_}
 use Rattle.commands.proofs.Ranged.{command-ranged, chosen}

@@ -1,10 +1,10 @@
 -- The response data, and the status word behind it.
 -- Assumes nothing.
 use native.Mathlib.Omega.{arith}
-use Rattle.engine.proofs.Answers.{did-plainly}
+use Rattle.responses.proofs.Writing.{did-plainly}
 use borrow.Author.Needs.{needs}
-use Rattle.engine.proofs.tell_plainly.Statement.{statement}
-use Rattle.engine.proofs.tell_plainly.Tie as tie
+use Rattle.responses.proofs.tell_plainly.Statement.{statement}
+use Rattle.responses.proofs.tell_plainly.Tie as tie
 
 cast-sw1 : tie.Need-cast-sw1
 cast-sw1 c = search needs

@@ -1,12 +1,12 @@
 -- Sealed where the answer goes over the channel and leaves stage 2; plain otherwise.
 -- Assumes nothing.
-use Rattle.engine.specs.Did.{replyWith}
+use Rattle.responses.specs.Did.{replyWith}
 use Rattle.rules.specs.Engine.{answered}
 use mathlib.Core.Path.{ap}
-use Rattle.engine.proofs.Answers.{answer-as, tell-over, tell-plain}
+use Rattle.responses.proofs.Writing.{answer-as, tell-over, tell-plain}
 use borrow.Author.Needs.{needs}
-use Rattle.engine.proofs.tell.Statement.{statement}
-use Rattle.engine.proofs.tell.Tie as tie
+use Rattle.responses.proofs.tell.Statement.{statement}
+use Rattle.responses.proofs.tell.Tie as tie
 
 tell-sealed-requires : tie.Need-tell-sealed-requires
 tell-sealed-requires c κs = search needs

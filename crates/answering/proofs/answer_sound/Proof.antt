@@ -1,6 +1,6 @@
 -- A supply that has its form, one that has not, and no supply read.
 -- Assumes nothing.
-use Rattle.route.specs.Routes.{tellBy}
+use Rattle.card_end.specs.Telling.{tellBy}
 use Rattle.rules.specs.Engine.{answered}
 use Rattle.rules.specs.Commands.{checksOf, replyOf}
 use Rattle.rules.specs.Supplies.{suits}
@@ -11,10 +11,11 @@ use Prim.Native.Nat.{ℕ}
 use mathlib.Core.List.{List}
 use mathlib.Core.Path.{_≡_, sym, ap, subst, _∙_}
 use native.Mathlib.Omega.{arith}
-use Rattle.engine.proofs.Answers.{answer-as, answer-nothing, answer-taken, answer-refused, answer-ended, data-part, data-short}
+use Rattle.responses.proofs.Writing.{answer-as}
+use Rattle.answering.proofs.Answers.{answer-nothing, answer-taken, answer-refused, answer-ended, data-part, data-short}
 use borrow.Author.Needs.{needs}
-use Rattle.engine.proofs.answer_sound.Statement.{statement}
-use Rattle.engine.proofs.answer_sound.Tie as tie
+use Rattle.answering.proofs.answer_sound.Statement.{statement}
+use Rattle.answering.proofs.answer_sound.Tie as tie
 
 slice-aggregate-route : tie.Need-slice-aggregate-route
 slice-aggregate-route c = search needs

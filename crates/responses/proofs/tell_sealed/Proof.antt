@@ -1,10 +1,10 @@
 -- The sealed response, and its MAC as the next IV.
 -- Assumes nothing.
 use native.Mathlib.Omega.{arith}
-use Rattle.engine.proofs.Answers.{did-sealed}
+use Rattle.responses.proofs.Writing.{did-sealed}
 use borrow.Author.Needs.{needs}
-use Rattle.engine.proofs.tell_sealed.Statement.{statement}
-use Rattle.engine.proofs.tell_sealed.Tie as tie
+use Rattle.responses.proofs.tell_sealed.Statement.{statement}
+use Rattle.responses.proofs.tell_sealed.Tie as tie
 
 cast-sw1 : tie.Need-cast-sw1
 cast-sw1 c = search needs

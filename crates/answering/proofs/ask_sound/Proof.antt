@@ -7,10 +7,10 @@ use Prim.Native.Nat.{_-_}
 use mathlib.Core.List.{[]}
 use mathlib.Core.Path.{sym, ap, _∙_}
 use native.Mathlib.Omega.{arith}
-use Rattle.engine.proofs.Answers.{ask-as, ask-nothing, ask-none, ask-some, ask-ended, did-ask, data-part, data-short}
+use Rattle.answering.proofs.Answers.{ask-as, ask-nothing, ask-none, ask-some, ask-ended, did-ask, data-part, data-short}
 use borrow.Author.Needs.{needs}
-use Rattle.engine.proofs.ask_sound.Statement.{statement}
-use Rattle.engine.proofs.ask_sound.Tie as tie
+use Rattle.answering.proofs.ask_sound.Statement.{statement}
+use Rattle.answering.proofs.ask_sound.Tie as tie
 
 slice-aggregate-route : tie.Need-slice-aggregate-route
 slice-aggregate-route c = search needs

@@ -1,16 +1,17 @@
 -- The command's reply, as it goes out.
 -- Assumes nothing.
 use lib.ListN.{length-take}
-use Rattle.route.specs.Routes.{tellBy}
+use Rattle.card_end.specs.Telling.{tellBy}
 use Rattle.rules.specs.Engine.{answered}
 use Rattle.rules.specs.Words.{Reply}
 use Prim.Native.Nat.{_-_}
 use mathlib.Core.Path.{sym, ap}
 use native.Mathlib.Omega.{arith}
-use Rattle.engine.proofs.Answers.{answer-as, replied, replied-short}
+use Rattle.responses.proofs.Writing.{answer-as}
+use Rattle.answering.proofs.Answers.{replied, replied-short}
 use borrow.Author.Needs.{needs}
-use Rattle.engine.proofs.perform.Statement.{statement}
-use Rattle.engine.proofs.perform.Tie as tie
+use Rattle.answering.proofs.perform.Statement.{statement}
+use Rattle.answering.proofs.perform.Tie as tie
 
 slice-aggregate-act : tie.Need-slice-aggregate-act
 slice-aggregate-act c = search needs
