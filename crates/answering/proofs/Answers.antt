@@ -15,9 +15,9 @@ use Rattle.rules.specs.Words.{Reply, fails, Replies}
 use Rattle.rules.specs.Supplies.{suits}
 use Rattle.rules.specs.Commands.{supplyOf, replyOf}
 use Rattle.rules.specs.Engine as rules
-use Rattle.route.specs.declared.Way.{Way}
+use Rattle.last_steps.specs.declared.Way.{Way}
 use Rattle.card_end.specs.Telling.{tellBy}
-use Rattle.route.specs.Routes.{Routes, RoutesIn}
+use Rattle.last_steps.specs.Routes.{Routes, RoutesIn}
 use Rattle.responses.specs.declared.Answered.{Answered}
 use Rattle.responses.specs.declared.Asked.{Asked}
 use Rattle.responses.specs.Did.{AskDid, AnswerDid, replyWith}

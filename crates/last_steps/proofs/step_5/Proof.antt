@@ -5,10 +5,10 @@ use Rattle.card_end.specs.Telling.{tellBy}
 use Rattle.rules.specs.Steps.{atStake, commandOf}
 use mathlib.Core.Path.{sym, _∙_}
 use Rattle.commands.proofs.Ranged.{command-ranged, chosen}
-use Rattle.route.proofs.Routing.{unlisted, routes-as, step5-listed, step5-unlisted, ends-route, paths-by, stake-keys}
+use Rattle.last_steps.proofs.Routing.{unlisted, routes-as, step5-listed, step5-unlisted, ends-route, paths-by, stake-keys}
 use borrow.Author.Needs.{needs}
-use Rattle.route.proofs.step_5.Statement.{statement}
-use Rattle.route.proofs.step_5.Tie as tie
+use Rattle.last_steps.proofs.step_5.Statement.{statement}
+use Rattle.last_steps.proofs.step_5.Tie as tie
 
 choose-requires : tie.Need-choose-requires
 choose-requires c κs = search needs

@@ -1,10 +1,10 @@
 -- The checks hold, or the route ends with the word of the one that does not.
 -- Assumes nothing.
 use Rattle.rules.specs.Steps.{atStake}
-use Rattle.route.proofs.Routing.{step6-goes, step6-ends, ends-route, paths-by, stake-keys}
+use Rattle.last_steps.proofs.Routing.{step6-goes, step6-ends, ends-route, paths-by, stake-keys}
 use borrow.Author.Needs.{needs}
-use Rattle.route.proofs.step_6.Statement.{statement}
-use Rattle.route.proofs.step_6.Tie as tie
+use Rattle.last_steps.proofs.step_6.Statement.{statement}
+use Rattle.last_steps.proofs.step_6.Tie as tie
 
 judge-requires : tie.Need-judge-requires
 judge-requires c κs = search needs

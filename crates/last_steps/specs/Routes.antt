@@ -5,17 +5,14 @@ use mathlib.Core.Bool.{Bool, true, false, cond}
 use mathlib.Core.List.{List}
 use lib.ListN.{length, take}
 use Rattle.card.specs.declared.Card.{Card}
-use Rattle.rules.specs.declared.Instruction.{Instruction}
 use Rattle.rules.specs.declared.Command.{Command}
 use Rattle.rules.specs.declared.Command.the-variants as command
 use Rattle.rules.specs.Words.{success, verdict, fails}
-use Rattle.rules.specs.Steps.{headerOf, p1Of, p2Of}
 use Rattle.rules.specs.Commands.{checksOf, supplyOf, replyOf}
-use Rattle.rules.specs.Engine.{Decision, ends, byOpening, sessionOf}
-use Rattle.message.specs.Message.{commandHead, openField}
+use Rattle.rules.specs.Engine.{Decision, ends}
 use Rattle.card_end.specs.Telling.{tellBy}
 use Rattle.commands.specs.Fits.{InRange, PathsFit}
-use Rattle.route.specs.declared.Way.{Way}
+use Rattle.last_steps.specs.declared.Way.{Way}
 
 -- a route that ends
 abbrev pub endsWith : Bool → Card → ℕ → Way
@@ -43,8 +40,3 @@ pub record Routes (want : Decision) (r : Way) (d : List ℕ) : Type 0 where
 -- the same, where the data stand at the start of `plain`
 abbrev pub RoutesIn : Decision → Way → List ℕ → Type 0
 RoutesIn want r plain = Routes want r (take (r .count) plain)
-
--- step 4 past the stage
-abbrev pub opening : Instruction → List ℕ → Card → List ℕ → Decision
-opening i cmd c field =
-    byOpening i (p1Of cmd) (p2Of cmd) c field (openField (sessionOf (c .channel)) (commandHead (headerOf cmd)) field)

@@ -1,16 +1,16 @@
 -- The field opens, or the route ends with 6982.
 -- Assumes nothing.
-use Rattle.route.proofs.Routing.{opens-as}
 use lib.ListN.{length-take}
 use native.Mathlib.Omega.{arith}
 use Prim.Native.Nat.{ℕ, _-_}
 use Rattle.rules.specs.Steps.{closed}
 use Rattle.rules.specs.Words.{securityNotMet}
 use mathlib.Core.Bool.{false}
-use Rattle.route.proofs.Routing.{ends-route, open-none, open-some, open-short, open-long, routes-as}
+use Rattle.last_steps.proofs.Routing.{ends-route, routes-as}
+use Rattle.opening.proofs.Opened.{opens-as, open-none, open-some, open-short, open-long}
 use borrow.Author.Needs.{needs}
-use Rattle.route.proofs.open.Statement.{statement}
-use Rattle.route.proofs.open.Tie as tie
+use Rattle.opening.proofs.open.Statement.{statement}
+use Rattle.opening.proofs.open.Tie as tie
 
 shared-slice-read-p1 : tie.Need-shared-slice-read-p1
 shared-slice-read-p1 c = search needs

@@ -7,10 +7,10 @@ use lib.ListN.{length, take}
 use Prim.Native.Nat.{ℕ}
 use mathlib.Core.List.{List}
 use mathlib.Core.Path.{_≡_, sym, ap, subst, _∙_}
-use Rattle.route.proofs.Routing.{stored, routes-as, at-start}
+use Rattle.last_steps.proofs.Routing.{stored, routes-as, at-start}
 use borrow.Author.Needs.{needs}
-use Rattle.route.proofs.opened_way.Statement.{statement}
-use Rattle.route.proofs.opened_way.Tie as tie
+use Rattle.opening.proofs.opened_way.Statement.{statement}
+use Rattle.opening.proofs.opened_way.Tie as tie
 
 sub-block : tie.Need-sub-block
 sub-block c = search needs
