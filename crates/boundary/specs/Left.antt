@@ -4,7 +4,7 @@ use Prim.Native.Nat.{ℕ}
 use Rattle.card.specs.declared.Card.{Card}
 use Rattle.message.specs.declared.Session.{Session}
 use Rattle.sound.specs.declared.Answer.{Answer}
-use Rattle.engine.specs.declared.Answered.{Answered}
+use Rattle.responses.specs.declared.Answered.{Answered}
 use Rattle.terminal.specs.declared.Outcome.{Outcome}
 use Rattle.record_write.specs.declared.Written.{Written}
 use Rattle.walk.specs.Walk.{Report}

@@ -4,7 +4,7 @@
 use card::Card;
 use card_bytes::CARD_BYTES;
 use card_bytes::SESSION_BYTES;
-use engine::Asked;
+use responses::Asked;
 
 // What ANSWER gives, and RESET and READ with a count of 0: the refusal's number or 0, the bytes written, the next card.
 pub struct Answered {

@@ -2,7 +2,7 @@
 use Prim.Native.Nat.{ℕ}
 use Rattle.card.specs.declared.Card.{Card}
 use Rattle.sound.specs.declared.Answer.{Answer}
-use Rattle.engine.specs.declared.Answered.{Answered}
+use Rattle.responses.specs.declared.Answered.{Answered}
 use Rattle.record_write.specs.declared.Written.{Written}
 use Rattle.lent.specs.declared.Report.{Report}
 

@@ -9,7 +9,7 @@ ghost use Rattle.engine.specs.Did.{AskDid, AnswerDid};
 ghost use Rattle.record_write.specs.Wrote.{Wrote};
 ghost use Rattle.lent.specs.Left.{toldOf, reportOf, writtenOf};
 use card::Card;
-use engine::Asked;
+use responses::Asked;
 
 // What ANSWER and WRITE report: the refusal's number, or 0 for none, and how many bytes it wrote from the buffer's start.
 #[repr(C)]

@@ -17,8 +17,8 @@ ghost use Rattle.walk.specs.Walk.{report, WALK};
 ghost use Rattle.boundary.specs.Left.{answerOf, answeredOf, outcomeOf, writtenOf, walkTold};
 use boundary::Told;
 use card::Card;
-use engine::Asked;
 use message::Session;
+use responses::Asked;
 
 // FRESH: the card of a new device. What the record held before is not read.
 #[no_mangle]

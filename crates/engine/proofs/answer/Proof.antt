@@ -2,7 +2,9 @@
 -- Assumes nothing.
 use Rattle.card.proofs.SoundFacts.{path-lengths}
 use mathlib.Core.Path.{sym, _∙_}
-use Rattle.engine.proofs.Answers.{answer-as, answer-nothing, answer-room, answer-sound, answer-unsound}
+use Rattle.responses.proofs.Writing.{answer-as}
+use Rattle.answering.proofs.Answers.{answer-nothing}
+use Rattle.engine.proofs.Answers.{answer-room, answer-sound, answer-unsound}
 use borrow.Author.Needs.{needs}
 use Rattle.engine.proofs.answer.Statement.{statement}
 use Rattle.engine.proofs.answer.Tie as tie

@@ -3,7 +3,8 @@
 use Rattle.card.proofs.SoundFacts.{path-lengths}
 use mathlib.Core.List.{[]}
 use mathlib.Core.Path.{sym, _∙_}
-use Rattle.engine.proofs.Answers.{ask-as, ask-nothing, ask-room, ask-sound, ask-unsound}
+use Rattle.answering.proofs.Answers.{ask-as, ask-nothing}
+use Rattle.engine.proofs.Answers.{ask-room, ask-sound, ask-unsound}
 use borrow.Author.Needs.{needs}
 use Rattle.engine.proofs.ask.Statement.{statement}
 use Rattle.engine.proofs.ask.Tie as tie

@@ -6,14 +6,13 @@ use Rattle.rules.specs.Words.{fails}
 use Rattle.rules.specs.Engine.{plainly, ends, step3}
 use Rattle.commands.specs.Fits.{PathsFit}
 use Rattle.card.specs.declared.Card.{Card}
-use Rattle.route.proofs.Routing.{part-short}
 use native.Mathlib.Omega.{arith}
 use mathlib.Core.Path.{sym, ap, subst, _∙_}
-use Rattle.route.proofs.Routing.{found, lost}
 use Rattle.rules.specs.Steps.{afterStep1}
 use Rattle.rules.specs.Words.{wrongLength}
 use mathlib.Core.Bool.{false}
-use Rattle.route.proofs.Routing.{routes-as, ends-route, paths-by, step1-keys, decide-data, decide-wrong, found, lost}
+use Rattle.last_steps.proofs.Routing.{routes-as, ends-route, paths-by}
+use Rattle.route.proofs.Routing.{part-short, found, lost, step1-keys, decide-data, decide-wrong}
 use borrow.Author.Needs.{needs}
 use Rattle.route.proofs.route.Statement.{statement}
 use Rattle.route.proofs.route.Tie as tie

@@ -4,7 +4,8 @@ use Rattle.rules.specs.declared.Named.the-variants as named
 use Rattle.rules.specs.Words.{unknownClass, unknownInstruction}
 use mathlib.Core.Bool.{false}
 use mathlib.Core.Path.{sym, _∙_}
-use Rattle.route.proofs.Routing.{routes-as, ends-route, step3-as}
+use Rattle.last_steps.proofs.Routing.{routes-as, ends-route}
+use Rattle.route.proofs.Routing.{step3-as}
 use borrow.Author.Needs.{needs}
 use Rattle.route.proofs.step_3.Statement.{statement}
 use Rattle.route.proofs.step_3.Tie as tie

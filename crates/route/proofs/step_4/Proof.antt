@@ -7,7 +7,8 @@ use Prim.Native.Nat.{ℕ}
 use mathlib.Core.List.{List}
 use mathlib.Core.Bool.{false}
 use mathlib.Core.Path.{_≡_, sym, subst, _∙_}
-use Rattle.route.proofs.Routing.{stored, routes-as, at-start, ends-route, step4-plain, step4-open, step4-stage}
+use Rattle.last_steps.proofs.Routing.{stored, routes-as, at-start, ends-route}
+use Rattle.route.proofs.Routing.{step4-plain, step4-open, step4-stage}
 use borrow.Author.Needs.{needs}
 use Rattle.route.proofs.step_4.Statement.{statement}
 use Rattle.route.proofs.step_4.Tie as tie

@@ -1,0 +1,105 @@
+// ASK and ANSWER past soundness and room: the route is walked, and a supply that is read must have its form.
+// Every length, room and count is in bytes.
+// Proved: refusal, kind, count, next card and every byte of the buffer are what the rulebook's decision gives.
+ghost use mathlib.Core.Path.{_≡_};
+ghost use mathlib.Core.Bool.{true};
+ghost use Prim.Native.Nat.{_≤_};
+ghost use lib.ListN.{length};
+ghost use Rattle.rules.specs.Words.{success, verdict};
+ghost use Rattle.rules.specs.Supplies.{suits};
+ghost use Rattle.rules.specs.Commands.{checksOf, supplyOf, replyOf};
+ghost use Rattle.rules.specs.Engine.{decide, asked, answered, withSupply};
+ghost use Rattle.commands.specs.Fits.{InRange, PathsFit};
+ghost use Rattle.card_end.specs.Telling.{tellBy};
+ghost use Rattle.responses.specs.Did.{AskDid, AnswerDid};
+use card::Card;
+use responses::Answered;
+use responses::Asked;
+use rules::Command;
+
+pub const REFUSAL_SUPPLY: u8 = 3;
+
+pub fn ask_refused(refusal: u8) -> Asked
+    ensures { λ r. ⌜ r ≡ record { refusal = refusal; kind = 0; count = 0 } ⌝ }
+{
+    Asked {
+        refusal,
+        kind: 0,
+        count: 0,
+    }
+}
+
+pub fn refused(card: Card, refusal: u8) -> Answered
+    ensures { λ r. ⌜ r ≡ record { refusal = refusal; count = 0; card = card } ⌝ }
+{
+    Answered {
+        refusal,
+        count: 0,
+        card,
+    }
+}
+
+// Past the checks and the supply's form: the command's reply, as it goes out.
+fn perform(
+    over: bool,
+    card: Card,
+    k: Command,
+    data: &[u8],
+    supply: &[u8],
+    buf: &mut [u8],
+) -> Answered
+    requires { ⌜ (verdict (checksOf k card (now «data»)) ≡ success) × (suits (supplyOf k) (now supply) ≡ true) ⌝ }
+    requires { ⌜ InRange k × PathsFit (card .keys) × (258 ≤ length (now buf)) ⌝ }
+    ensures { λ r. ⌜ AnswerDid (answered (tellBy over (replyOf k card (now («data» .entry)) (now (supply .entry))))) r
+        (now (buf .entry)) (now (buf .exit)) ⌝ }
+{
+    let mut out = [0u8; rules::RESPONSE_MAX_BYTES];
+    let done = commands::act(card, k, data, supply, &mut out);
+    let count = done.count;
+    let next = done.card;
+    responses::tell(over, next, done.status, &out[0..count], buf)
+}
+
+// ANSWER for a sound card, with room enough: a supply that is read must have its form.
+pub fn answer_sound(card: Card, cmd: &[u8], supply: &[u8], buf: &mut [u8]) -> Answered
+    requires { ⌜ PathsFit (card .keys) × (258 ≤ length (now buf)) ⌝ }
+    ensures { λ r. ⌜ AnswerDid (withSupply card (decide card (now (cmd .entry))) (now (supply .entry))) r (now (buf .entry)) (now (buf .exit)) ⌝ }
+{
+    let mut plain = [0u8; route::DATA_MAX_BYTES];
+    let way = route::route(card, cmd, &mut plain);
+    let next = way.card;
+    let count = way.count;
+    let k = way.command;
+    if way.goes {
+        let form = supply_forms::supply_of(k);
+        if supply_forms::supply_suits(form, supply) {
+            return perform(way.over, next, k, &plain[0..count], supply, buf);
+        }
+        return refused(card, REFUSAL_SUPPLY);
+    }
+    responses::tell(way.over, next, way.status, &plain[0..0], buf)
+}
+
+// ASK for a sound card, with room enough: nothing is written where no supply is read.
+pub fn ask_sound(card: Card, cmd: &[u8], buf: &mut [u8]) -> Asked
+    requires { ⌜ PathsFit (card .keys) × (255 ≤ length (now buf)) ⌝ }
+    ensures { λ r. ⌜ AskDid (asked (decide card (now (cmd .entry)))) r (now (buf .entry)) (now (buf .exit)) ⌝ }
+{
+    let mut plain = [0u8; route::DATA_MAX_BYTES];
+    let way = route::route(card, cmd, &mut plain);
+    let count = way.count;
+    let k = way.command;
+    if way.goes {
+        let form = supply_forms::supply_of(k);
+        if form.kind == 0 {
+            return ask_refused(card::REFUSAL_NONE);
+        }
+        octets::put(buf, 0, &plain[0..count]);
+        return Asked {
+            refusal: card::REFUSAL_NONE,
+            kind: form.kind,
+            count,
+        };
+    }
+    ask_refused(card::REFUSAL_NONE)
+}
