@@ -3,8 +3,7 @@ use Prim.Native.Nat.{ℕ}
 use Rattle.card.specs.declared.Card.{Card}
 use Rattle.sound.specs.declared.Answer.{Answer}
 use Rattle.responses.specs.declared.Answered.{Answered}
-use Rattle.record_write.specs.declared.Written.{Written}
-use Rattle.lent.specs.declared.Report.{Report}
+use Rattle.lent_reads.specs.declared.Report.{Report}
 
 -- RESET tells the refusal's number
 abbrev pub toldOf : ℕ → Card → Answer
@@ -13,7 +12,3 @@ toldOf n c = record { refusal = n; card = c }
 -- ANSWER tells the refusal's number and the count
 abbrev pub reportOf : Report → Card → Answered
 reportOf r c = record { refusal = r .refusal; count = r .count; card = c }
-
--- WRITE tells them too, and leaves the record as it was
-abbrev pub writtenOf : Report → Written
-writtenOf r = record { refusal = r .refusal; count = r .count }

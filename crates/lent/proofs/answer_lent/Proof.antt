@@ -48,10 +48,10 @@ use Rattle.engine.proofs.answer as g
 use Rattle.engine.proofs.answer.Symbol as g-def
 use Rattle.engine.proofs.answer.Symbol.{name as #g}
 use Rattle.engine.proofs.answer.Met as g-thm
-use Rattle.lent.specs.declared.Report.{Report}
-use Rattle.lent.proofs.Report as R
-use Rattle.lent.proofs.Report.Laws as R′
-use Rattle.lent.proofs.Lending.{mach, seen, lent, fits, opened, closed, given}
+use Rattle.lent_reads.specs.declared.Report.{Report}
+use Rattle.lent_reads.proofs.Report as R
+use Rattle.lent_reads.proofs.Report.Laws as R′
+use Rattle.lent_reads.proofs.Lending.{mach, seen, lent, fits, opened, closed, given}
 use Rattle.lent.proofs.answer_lent.Key.{name as #f}
 use Rattle.lent.proofs.answer_lent as f
 use Rattle.lent.proofs.answer_lent.Statement as stated

@@ -44,7 +44,7 @@ use Rattle.sound.proofs.reset as g
 use Rattle.sound.proofs.reset.Symbol as g-def
 use Rattle.sound.proofs.reset.Symbol.{name as #g}
 use Rattle.sound.proofs.reset.Met as g-thm
-use Rattle.lent.proofs.Lending.{mach, seen, lent, fits, opened, closed, given}
+use Rattle.lent_reads.proofs.Lending.{mach, seen, lent, fits, opened, closed, given}
 use Rattle.lent.proofs.reset_lent.Key.{name as #f}
 use Rattle.lent.proofs.reset_lent as f
 use Rattle.lent.proofs.reset_lent.Statement as stated

@@ -47,11 +47,11 @@ use Rattle.engine.proofs.ask as g
 use Rattle.engine.proofs.ask.Symbol as g-def
 use Rattle.engine.proofs.ask.Symbol.{name as #g}
 use Rattle.engine.proofs.ask.Met as g-thm
-use Rattle.lent.proofs.Lending.{mach, shared, fits, looked, shut}
-use Rattle.lent.proofs.ask_lent.Key.{name as #f}
-use Rattle.lent.proofs.ask_lent as f
-use Rattle.lent.proofs.ask_lent.Statement as stated
-use Rattle.lent.proofs.ask_lent.Code as code
+use Rattle.lent_reads.proofs.Lending.{mach, shared, fits, looked, shut}
+use Rattle.lent_reads.proofs.ask_lent.Key.{name as #f}
+use Rattle.lent_reads.proofs.ask_lent as f
+use Rattle.lent_reads.proofs.ask_lent.Statement as stated
+use Rattle.lent_reads.proofs.ask_lent.Code as code
 
 abbrev stayed : Stays (f.ended .signature .params) (f.ended .kept)
 stayed = (stay-none-ref (0 ∷ []) tt (plain (λ _. T.the-row)) yes, (stay-none-slice (1 ∷ []) tt (plain (λ _. u8)) yes, (gave-slice (2 ∷ []) tt (plain (λ _. u8)), tt)))

@@ -47,14 +47,14 @@ use Rattle.record_write.proofs.write as g
 use Rattle.record_write.proofs.write.Symbol as g-def
 use Rattle.record_write.proofs.write.Symbol.{name as #g}
 use Rattle.record_write.proofs.write.Met as g-thm
-use Rattle.lent.specs.declared.Report.{Report}
-use Rattle.lent.proofs.Report as R
-use Rattle.lent.proofs.Report.Laws as R′
-use Rattle.lent.proofs.Lending.{mach, shared, fits, looked, shut, given}
-use Rattle.lent.proofs.write_lent.Key.{name as #f}
-use Rattle.lent.proofs.write_lent as f
-use Rattle.lent.proofs.write_lent.Statement as stated
-use Rattle.lent.proofs.write_lent.Code as code
+use Rattle.lent_reads.specs.declared.Report.{Report}
+use Rattle.lent_reads.proofs.Report as R
+use Rattle.lent_reads.proofs.Report.Laws as R′
+use Rattle.lent_reads.proofs.Lending.{mach, shared, fits, looked, shut, given}
+use Rattle.lent_reads.proofs.write_lent.Key.{name as #f}
+use Rattle.lent_reads.proofs.write_lent as f
+use Rattle.lent_reads.proofs.write_lent.Statement as stated
+use Rattle.lent_reads.proofs.write_lent.Code as code
 
 abbrev stayed : Stays (f.ended .signature .params) (f.ended .kept)
 stayed = (stay-none-ref (0 ∷ []) tt (plain (λ _. T.the-row)) yes, (gave-slice (1 ∷ []) tt (plain (λ _. u8)), tt))
