@@ -5,12 +5,13 @@ ghost use mathlib.Core.Path.{_≡_};
 ghost use lib.ListN.{length};
 ghost use Rattle.sound.specs.Reset.{resetAnswer};
 ghost use Rattle.rules.specs.Engine.{askOut, answerOut};
-ghost use Rattle.engine.specs.Did.{AskDid, AnswerDid};
+ghost use Rattle.responses.specs.Did.{AskDid, AnswerDid};
 ghost use Rattle.record_write.specs.Wrote.{Wrote};
-ghost use Rattle.lent.specs.Left.{reportOf, writtenOf};
+ghost use Rattle.lent.specs.Left.{reportOf};
+ghost use Rattle.lent_reads.specs.Left.{writtenOf};
 use card::Card;
-use engine::Asked;
-use lent::Report;
+use lent_reads::Report;
+use responses::Asked;
 use sound::Answer;
 
 // What ANSWER or WRITE told, and the record after the call.
@@ -47,7 +48,7 @@ pub fn ask_held(card: Card, cmd: &[u8], buf: &mut [u8]) -> Heard
     ensures { λ r. ⌜ AskDid (askOut card (now (cmd .entry)) (length (now (buf .entry)))) (r .told) (now (buf .entry)) (now (buf .exit))
         × (r .card ≡ card) ⌝ }
 {
-    let told = lent::ask_lent(&card, cmd, buf);
+    let told = lent_reads::ask_lent(&card, cmd, buf);
     Heard { told, card }
 }
 
@@ -55,6 +56,6 @@ pub fn ask_held(card: Card, cmd: &[u8], buf: &mut [u8]) -> Heard
 pub fn write_held(card: Card, buf: &mut [u8]) -> Reported
     ensures { λ r. ⌜ Wrote card (writtenOf (r .told)) (now (buf .entry)) (now (buf .exit)) × (r .card ≡ card) ⌝ }
 {
-    let told = lent::write_lent(&card, buf);
+    let told = lent_reads::write_lent(&card, buf);
     Reported { told, card }
 }

@@ -3,7 +3,7 @@ use byte_calls::Answered;
 use card_bytes::CARD_BYTES;
 use card_bytes::card_of;
 use card_bytes::record_of;
-use engine::Asked;
+use responses::Asked;
 
 pub fn reset(record: [u8; CARD_BYTES]) -> Answered {
     let r = held::reset_held(card_of(record));

@@ -41,11 +41,11 @@ use Rattle.card.specs.declared.Card.{Card}
 use Rattle.card.proofs.Card as T
 use Rattle.card.proofs.Card.Laws as T′
 use Rattle.rules.specs.Engine.{answerOut}
-use Rattle.engine.specs.Did.{AnswerDid}
+use Rattle.responses.specs.Did.{AnswerDid}
 use Rattle.lent.specs.Left.{reportOf}
-use Rattle.lent.specs.declared.Report.{Report}
-use Rattle.lent.proofs.Report as R
-use Rattle.lent.proofs.Report.Laws as R′
+use Rattle.lent_reads.specs.declared.Report.{Report}
+use Rattle.lent_reads.proofs.Report as R
+use Rattle.lent_reads.proofs.Report.Laws as R′
 use Rattle.held.specs.declared.Reported.{Reported}
 use Rattle.held.proofs.Reported as S
 use Rattle.held.proofs.Reported.Laws as S′

@@ -41,17 +41,17 @@ use Rattle.card.specs.declared.Card.{Card}
 use Rattle.card.proofs.Card as T
 use Rattle.card.proofs.Card.Laws as T′
 use Rattle.rules.specs.Engine.{askOut}
-use Rattle.engine.specs.Did.{AskDid}
-use Rattle.engine.specs.declared.Asked.{Asked}
-use Rattle.engine.proofs.Asked as R
-use Rattle.engine.proofs.Asked.Laws as R′
+use Rattle.responses.specs.Did.{AskDid}
+use Rattle.responses.specs.declared.Asked.{Asked}
+use Rattle.responses.proofs.Asked as R
+use Rattle.responses.proofs.Asked.Laws as R′
 use Rattle.held.specs.declared.Heard.{Heard}
 use Rattle.held.proofs.Heard as S
 use Rattle.held.proofs.Heard.Laws as S′
-use Rattle.lent.proofs.ask_lent as g
-use Rattle.lent.proofs.ask_lent.Symbol as g-def
-use Rattle.lent.proofs.ask_lent.Symbol.{name as #g}
-use Rattle.lent.proofs.ask_lent.Met as g-thm
+use Rattle.lent_reads.proofs.ask_lent as g
+use Rattle.lent_reads.proofs.ask_lent.Symbol as g-def
+use Rattle.lent_reads.proofs.ask_lent.Symbol.{name as #g}
+use Rattle.lent_reads.proofs.ask_lent.Met as g-thm
 use Rattle.held.proofs.Holding.{mach, IsCard, ref, shown, fits, shows-it, unshows}
 use Rattle.held.proofs.ask_held.Key.{name as #f}
 use Rattle.held.proofs.ask_held as f
@@ -169,4 +169,4 @@ ask-held-spec 𝓤 H 𝓜 𝓖 𝓡 =
     entered 𝓤 H (tripleOf 𝓤 H (𝓖 .A) f.signature (f.spec 𝓤 H (𝓖 .A) (𝓜 .mem) (𝓡 .run)))
     (tables 𝓤 H 𝓜 𝓡 code.env .C) (tables 𝓤 H 𝓜 𝓡 code.env .Λ) #f code.function (code.unfolded 𝓤 H 𝓜 𝓡)
     (f-meets 𝓤 H (𝓖 .A) (givenOf 𝓤 H 𝓜 𝓖) (𝓜 .mem) (𝓡 .run) (tablesOf 𝓤 H 𝓜 (tables 𝓤 H 𝓜 𝓡 code.env))
-    (cited 𝓤 H (G 𝓤 H (𝓖 .A) (𝓜 .mem) (𝓡 .run)) 𝓜 𝓡 code.env #g g-def.routine code.calls-lent·ask-lent (g-thm.met 𝓤 H 𝓜 𝓖 𝓡)))
+    (cited 𝓤 H (G 𝓤 H (𝓖 .A) (𝓜 .mem) (𝓡 .run)) 𝓜 𝓡 code.env #g g-def.routine code.calls-lent-reads·ask-lent (g-thm.met 𝓤 H 𝓜 𝓖 𝓡)))

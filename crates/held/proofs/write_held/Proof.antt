@@ -41,17 +41,17 @@ use Rattle.card.specs.declared.Card.{Card}
 use Rattle.card.proofs.Card as T
 use Rattle.card.proofs.Card.Laws as T′
 use Rattle.record_write.specs.Wrote.{Wrote}
-use Rattle.lent.specs.Left.{writtenOf}
-use Rattle.lent.specs.declared.Report.{Report}
-use Rattle.lent.proofs.Report as R
-use Rattle.lent.proofs.Report.Laws as R′
+use Rattle.lent_reads.specs.Left.{writtenOf}
+use Rattle.lent_reads.specs.declared.Report.{Report}
+use Rattle.lent_reads.proofs.Report as R
+use Rattle.lent_reads.proofs.Report.Laws as R′
 use Rattle.held.specs.declared.Reported.{Reported}
 use Rattle.held.proofs.Reported as S
 use Rattle.held.proofs.Reported.Laws as S′
-use Rattle.lent.proofs.write_lent as g
-use Rattle.lent.proofs.write_lent.Symbol as g-def
-use Rattle.lent.proofs.write_lent.Symbol.{name as #g}
-use Rattle.lent.proofs.write_lent.Met as g-thm
+use Rattle.lent_reads.proofs.write_lent as g
+use Rattle.lent_reads.proofs.write_lent.Symbol as g-def
+use Rattle.lent_reads.proofs.write_lent.Symbol.{name as #g}
+use Rattle.lent_reads.proofs.write_lent.Met as g-thm
 use Rattle.held.proofs.Holding.{mach, IsCard, ref, shown, fits, shows-it, unshows}
 use Rattle.held.proofs.write_held.Key.{name as #f}
 use Rattle.held.proofs.write_held as f
@@ -166,4 +166,4 @@ write-held-spec 𝓤 H 𝓜 𝓖 𝓡 =
     entered 𝓤 H (tripleOf 𝓤 H (𝓖 .A) f.signature (f.spec 𝓤 H (𝓖 .A) (𝓜 .mem) (𝓡 .run)))
     (tables 𝓤 H 𝓜 𝓡 code.env .C) (tables 𝓤 H 𝓜 𝓡 code.env .Λ) #f code.function (code.unfolded 𝓤 H 𝓜 𝓡)
     (f-meets 𝓤 H (𝓖 .A) (givenOf 𝓤 H 𝓜 𝓖) (𝓜 .mem) (𝓡 .run) (tablesOf 𝓤 H 𝓜 (tables 𝓤 H 𝓜 𝓡 code.env))
-    (cited 𝓤 H (G 𝓤 H (𝓖 .A) (𝓜 .mem) (𝓡 .run)) 𝓜 𝓡 code.env #g g-def.routine code.calls-lent·write-lent (g-thm.met 𝓤 H 𝓜 𝓖 𝓡)))
+    (cited 𝓤 H (G 𝓤 H (𝓖 .A) (𝓜 .mem) (𝓡 .run)) 𝓜 𝓡 code.env #g g-def.routine code.calls-lent-reads·write-lent (g-thm.met 𝓤 H 𝓜 𝓖 𝓡)))
