@@ -10,7 +10,7 @@ ghost use Rattle.sound.specs.Reset.{resetAnswer};
 ghost use Rattle.record.specs.Answers.{readAnswer};
 ghost use Rattle.record_write.specs.Wrote.{Wrote};
 ghost use Rattle.rules.specs.Engine.{askOut, answerOut};
-ghost use Rattle.engine.specs.Did.{AskDid, AnswerDid};
+ghost use Rattle.responses.specs.Did.{AskDid, AnswerDid};
 ghost use Rattle.message.specs.Terminal.{sealOut, unsealOut};
 ghost use Rattle.terminal.specs.Did.{Did};
 ghost use Rattle.walk.specs.Walk.{report, WALK};
