@@ -3,8 +3,6 @@ use desk::Desk;
 use desk::args;
 use desk::args::is_word;
 use print::say;
-use soft_calls::card_calls;
-use soft_calls::channel_calls;
 
 enum Call {
     Fresh,

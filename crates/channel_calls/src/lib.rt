@@ -1,4 +1,6 @@
-// The calls of commands and of the terminal's end: ASK, ANSWER, SEAL, UNSEAL, all four in a row, WALK, and the session.
+// The soft card's calls of commands and of the terminal's end: ASK, ANSWER, SEAL, UNSEAL, all four in a row, WALK, and the session.
+// Every length, room and count is in bytes.
+// Proved: every function is safe and ends.
 use card_bytes::SESSION_BYTES;
 use desk::Desk;
 use desk::args;

@@ -1,4 +1,6 @@
-// The calls on the card alone: FRESH, RESET, READ, WRITE, soundness, and its fields.
+// The soft card's calls on the card alone: FRESH, RESET, READ, WRITE, soundness, and its fields.
+// Every length, room and count is in bytes.
+// Proved: every function is safe and ends.
 use card_bytes::CARD_BYTES;
 use desk::Desk;
 use desk::args;
