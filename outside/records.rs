@@ -68,6 +68,20 @@ fn joined(fields: &[Field]) -> Vec<u8> {
     bytes.collect::<Vec<_>>().concat()
 }
 
+/// The record with each field but the last in the place of the next one, left out, and doubled.
+pub fn moved_fields(record: &[u8]) -> Vec<Vec<u8>> {
+    let fields = fields_of(record);
+    let mut moved = Vec::new();
+    for at in 0..fields.len() - 1 {
+        let (mut swapped, mut short, mut doubled) = (fields.clone(), fields.clone(), fields.clone());
+        swapped.swap(at, at + 1);
+        short.remove(at);
+        doubled.insert(at, fields[at].clone());
+        moved.extend([swapped, short, doubled].iter().map(|fields| joined(fields)));
+    }
+    moved
+}
+
 /// One field changed, moved, left out or doubled; mostly its head still tells the length of its content.
 fn with_damaged_field(random: &mut Random, record: &[u8]) -> Vec<u8> {
     let mut fields = fields_of(record);

@@ -1,22 +1,25 @@
-//! Sweeps through all of a kind: each broken rule of soundness, each byte of a card, each cut of a record, each room of a buffer, each length
-//! of a message, and all short templates of some bytes. Lengths are in bytes.
+//! Sweeps through all of a kind: each broken rule of soundness, each byte of a card, each cut, byte and field of a record, each room of a
+//! buffer, each length of a message, and all short templates of some bytes. Lengths are in bytes.
 
 use crate::both::{hex, Both};
 use crate::boundary::{card_bytes, card_of, CARD_BYTES};
 use crate::choice::array;
 use crate::directed::ready_card;
-use crate::model::card::YES;
+use crate::model::card::{Card, Path, KEY_UID_BYTES, NO_KEY, PATH_BYTES, YES};
 use crate::model::engine::*;
 use crate::model::message::{seal_response, MAX_DATA_BYTES};
 use crate::model::record::record_of;
 use crate::model::status::*;
 use crate::random::Random;
+use crate::records::moved_fields;
 use crate::states::{break_rule, random_session, RULES};
 use crate::table::{Room, Situation, EVERY_ROOM, EVERY_SITUATION};
 
 /// Tags and lengths that templates are made of.
 const TEMPLATE_BYTES: [u8; 8] = [0x00, 0x01, 0x02, 0x20, 0x7f, 0x80, 0x81, 0xa1];
 const MOST_TEMPLATE_BYTES: usize = 4;
+/// Bytes at the edge of what a field of a record may hold.
+const EDGES: [u8; 8] = [0x00, 0x01, 0x02, 0x05, 0x06, b'0', b'9' + 1, 0xff];
 const SELECT: &[u8] = b"\x00\xa4\x04\x00\x0fStatusWalletApp";
 
 pub fn run(both: &mut Both, seed: u64) {
@@ -30,8 +33,8 @@ pub fn run(both: &mut Both, seed: u64) {
         bytes_of_a_card(both, random, situation);
         rooms_of_a_card(both, random, situation);
     }
-    for situation in [Situation::PreInitialised, Situation::Authenticated] {
-        records(both, random, situation);
+    for card in cards_to_store(random) {
+        records(both, random, &card);
     }
     messages(both, random);
     rooms_of_a_session(both, random);
@@ -117,20 +120,58 @@ fn rooms_of_a_session(both: &mut Both, random: &mut Random) {
     }
 }
 
-/// A record cut at each length, and with each byte changed.
-fn records(both: &mut Both, random: &mut Random, situation: Situation) {
-    let record = record_of(&ready_card(random, situation));
+/// A card before INIT, one with an extended key and both paths of the longest, and one with no key and a PIN-less path.
+fn cards_to_store(random: &mut Random) -> [Card; 3] {
+    let fresh = ready_card(random, Situation::PreInitialised);
+    let mut longest = ready_card(random, Situation::Authenticated);
+    longest.current_path = Path::of(&random.bytes(PATH_BYTES));
+    longest.pinless_path = Path::of(&random.bytes(PATH_BYTES));
+    let mut keyless = ready_card(random, Situation::Closed);
+    (keyless.key_kind, keyless.key_uid) = (NO_KEY, [0; KEY_UID_BYTES]);
+    keyless.current_path = Path::of(&[]);
+    [fresh, longest, keyless]
+}
+
+/// A card's record cut at each length, with each byte replaced, with bytes behind it, and with its fields moved about.
+fn records(both: &mut Both, random: &mut Random, card: &Card) {
+    let record = record_of(card);
+    let mut is_right = is_taken(both, random, &record);
     for at in 0..record.len() {
-        both.read(&record[..at]);
-        let mut changed = record.clone();
-        changed[at] ^= 1 << random.below(8);
-        both.read(&changed);
+        is_right &= !is_taken(both, random, &record[..at]);
+        let flipped = record[at] ^ 1 << random.below(8);
+        for byte in EDGES.into_iter().chain([flipped]) {
+            let mut replaced = record.clone();
+            replaced[at] = byte;
+            is_taken(both, random, &replaced);
+        }
     }
-    both.read(&[&record[..], &[0]].concat());
-    if both.read(&record).0 != NOT_REFUSED {
-        println!("THE SWEEP could not read the record {}", hex(&record));
+    for behind in [0x00, 0x34] {
+        for more_bytes in 1..=16 {
+            is_right &= !is_taken(both, random, &[&record[..], &vec![behind; more_bytes]].concat());
+        }
+    }
+    for moved in moved_fields(&record) {
+        is_right &= !is_taken(both, random, &moved);
+    }
+    if !is_right {
+        println!("THE SWEEP of records took or refused one wrongly, near {}", hex(&record));
         std::process::exit(1);
     }
+}
+
+/// Whether READ takes a record; WRITE of the card that it gives has to write it again.
+fn is_taken(both: &mut Both, random: &mut Random, record: &[u8]) -> bool {
+    let (refusal, card) = both.read(record);
+    if refusal != NOT_REFUSED {
+        return false;
+    }
+    let mut buffer = random.bytes(WRITE_ROOM_BYTES);
+    let told = both.write(&card, &mut buffer);
+    if &buffer[..told.count] != record {
+        println!("THE SWEEP read the record {} and wrote {}", hex(record), hex(&buffer[..told.count]));
+        std::process::exit(1);
+    }
+    true
 }
 
 /// Data of each length, up to more than a message takes.
@@ -179,6 +220,9 @@ fn long_inputs(both: &mut Both, random: &mut Random) {
         both.walk(&[0x80, 0x00].repeat(more_bytes + 1));
         both.walk(&longer(&[0x80]));
     }
+    let megabytes = vec![0; 4 << 20];
+    both.walk(&megabytes);
+    both.walk(&megabytes[1..]);
 }
 
 /// All inputs of the bytes above that begin with these, up to 4.

@@ -96,7 +96,7 @@ fn set_field(d: Desk, line: &[u8], name: &[u8], at: usize, out: &mut [u8]) -> De
         return d;
     }
     say(b"set: ");
-    told::say_bytes(name, out);
+    print::say_bytes(name, out);
     let found = d.card;
     let card = with_bytes(found, at, out);
     put_card(d, card)

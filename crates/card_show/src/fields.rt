@@ -65,7 +65,7 @@ fn say_field(record: [u8; CARD_BYTES], k: usize, at: usize, len: usize) {
     let n = content::bounded(len, &bytes);
     say(b"  ");
     say_name(k);
-    told::say_bytes(b"", &bytes[..n]);
+    print::say_bytes(b"", &bytes[..n]);
 }
 
 pub fn say_fields(record: [u8; CARD_BYTES]) {

@@ -55,9 +55,9 @@ pub fn say_session(s: [u8; SESSION_BYTES]) {
     say(b"session: 80 bytes\n");
     let x = card_bytes::session_of(s);
     let enc_key = x.enc_key;
-    told::say_bytes(b"  enc_key", &enc_key);
+    print::say_bytes(b"  enc_key", &enc_key);
     let mac_key = x.mac_key;
-    told::say_bytes(b"  mac_key", &mac_key);
+    print::say_bytes(b"  mac_key", &mac_key);
     let iv = x.iv;
-    told::say_bytes(b"  iv", &iv);
+    print::say_bytes(b"  iv", &iv);
 }

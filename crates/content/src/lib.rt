@@ -1,4 +1,4 @@
-// Bytes made by a rule, to be sent as data or to stand in a buffer and be found again. For the trial programs.
+// Bytes made by a rule, to be sent as data or to stand in a buffer. For the programs.
 // Every length is in bytes.
 // Proved: every function is safe and ends, and `bounded` is at most the length.
 ghost use Rattle.io.specs.Counts.{Counts};
@@ -21,22 +21,6 @@ pub fn fill(buf: &mut [u8], first: u8, step: u8) {
 
 pub fn fill_pattern(buf: &mut [u8]) {
     fill(buf, PATTERN_FIRST, PATTERN_STEP);
-}
-
-// Whether buf has its pattern from byte `from` up to its end.
-pub fn has_pattern(buf: &[u8], from: usize) -> bool {
-    let mut b = PATTERN_FIRST;
-    let mut i = 0;
-    while i < buf.len() {
-        if from <= i {
-            if buf[i] != b {
-                return false;
-            }
-        }
-        b = std::num::wrapping_add_u8(b, PATTERN_STEP);
-        i += 1;
-    }
-    true
 }
 
 // n, or the length of buf in bytes where that is less.

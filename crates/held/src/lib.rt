@@ -30,7 +30,7 @@ pub struct Heard {
 pub fn reset_held(mut card: Card) -> Answer
     ensures { λ r. ⌜ r ≡ resetAnswer card ⌝ }
 {
-    let refusal = lent::reset_lent(&mut card);
+    let refusal = lent_reset::reset_lent(&mut card);
     Answer { refusal, card }
 }
 

@@ -1,24 +1,12 @@
-// RESET and ANSWER over a card record that the loader lends, changed where it lies.
+// ANSWER over a card record that the loader lends, changed where it lies.
 // Every length, room and count is in bytes; docs/LAYOUT.md has the record field by field.
-// Proved: the promises of the operations by value, over the record at entry and at exit; at a refusal the record is as it was.
-ghost use mathlib.Core.Path.{_≡_};
+// Proved: the promise of ANSWER by value, over the record at entry and at exit; at a refusal the record is as it was.
 ghost use lib.ListN.{length};
-ghost use Rattle.sound.specs.Reset.{resetAnswer};
 ghost use Rattle.rules.specs.Engine.{answerOut};
 ghost use Rattle.responses.specs.Did.{AnswerDid};
-ghost use Rattle.lent.specs.Left.{toldOf, reportOf};
+ghost use Rattle.lent.specs.Left.{reportOf};
 use card::Card;
 use lent_reads::Report;
-
-// RESET where the record lies.
-pub fn reset_lent(card: &mut Card) -> u8
-    ensures { λ r. ⌜ toldOf r (now (card .exit)) ≡ resetAnswer (now (card .entry)) ⌝ }
-{
-    let found = *card;
-    let told = sound::reset(found);
-    *card = told.card;
-    told.refusal
-}
 
 // ANSWER where the record lies.
 pub fn answer_lent(card: &mut Card, cmd: &[u8], supply: &[u8], buf: &mut [u8]) -> Report

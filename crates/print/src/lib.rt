@@ -1,5 +1,5 @@
-// What the trial programs write, to standard output: words, numbers, lengths and bytes.
-// Lengths are in bytes; bytes are written in hexadecimal, two digits each.
+// What the programs write, to standard output: words, numbers, lengths and bytes.
+// Lengths are in bytes; bytes are written in hexadecimal, two digits each, in capitals.
 // Proved: every function is safe and ends.
 use libc::STDOUT_FILENO;
 
@@ -37,8 +37,18 @@ pub fn say_length(n_bytes: usize) {
     }
 }
 
+// A number below 16 as a digit.
+fn digit(n: u8) -> u8 {
+    if n < 10 {
+        std::num::wrapping_add_u8(n, 48)
+    } else {
+        std::num::wrapping_add_u8(n, 55)
+    }
+}
+
 fn say_byte(b: u8) {
-    io::print_hex(STDOUT_FILENO, wide(b), 2);
+    let two = [digit(b >> 4), digit(b & 15)];
+    say(&two);
 }
 
 pub fn say_hex(bytes: &[u8]) {

@@ -22,7 +22,7 @@ fn say_refused(name: &[u8], refusal: u8, room_bytes: usize) {
 // What was written from a buffer's start.
 fn say_data(buf: &[u8], count: usize) {
     let n = content::bounded(count, buf);
-    told::say_bytes(b"  data", &buf[..n]);
+    print::say_bytes(b"  data", &buf[..n]);
 }
 
 fn ask_in(card: [u8; CARD_BYTES], cmd: &[u8], buf: &mut [u8]) -> bool {
@@ -50,7 +50,7 @@ pub fn ask(card: [u8; CARD_BYTES], cmd: &[u8], room_bytes: usize) -> bool {
 // What was written from a buffer's start: it is shown, with its status word where it ends in one, and is now the last.
 pub fn wrote(d: Desk, name: &[u8], buf: &[u8], count: usize, with_status: bool) -> Desk {
     let n = content::bounded(count, buf);
-    told::say_bytes(name, &buf[..n]);
+    print::say_bytes(name, &buf[..n]);
     if with_status {
         told::say_status(&buf[..n]);
     }

@@ -72,7 +72,7 @@ pub fn say_status(response: &[u8]) {
     }
     let at = n - 2;
     say(b"  status word ");
-    crate::say_hex(&response[at..]);
+    print::say_hex(&response[at..]);
     say(b", ");
     say_name(response[n - 2], response[n - 1]);
     say(b"\n");

@@ -41,11 +41,11 @@ use Rattle.sound.specs.declared.Answer.{Answer}
 use Rattle.sound.specs.Reset.{resetAnswer}
 use Rattle.sound.proofs.Answer as S
 use Rattle.sound.proofs.Answer.Laws as S′
-use Rattle.lent.specs.Left.{toldOf}
-use Rattle.lent.proofs.reset_lent as g
-use Rattle.lent.proofs.reset_lent.Symbol as g-def
-use Rattle.lent.proofs.reset_lent.Symbol.{name as #g}
-use Rattle.lent.proofs.reset_lent.Met as g-thm
+use Rattle.lent_reset.specs.Left.{toldOf}
+use Rattle.lent_reset.proofs.reset_lent as g
+use Rattle.lent_reset.proofs.reset_lent.Symbol as g-def
+use Rattle.lent_reset.proofs.reset_lent.Symbol.{name as #g}
+use Rattle.lent_reset.proofs.reset_lent.Met as g-thm
 use Rattle.held.proofs.Holding.{mach, IsCard, ref, lent, fits, lends, back}
 use Rattle.held.proofs.reset_held.Key.{name as #f}
 use Rattle.held.proofs.reset_held as f
@@ -135,4 +135,4 @@ reset-held-spec 𝓤 H 𝓜 𝓖 𝓡 =
     entered 𝓤 H (tripleOf 𝓤 H (𝓖 .A) f.signature (f.spec 𝓤 H (𝓖 .A) (𝓜 .mem) (𝓡 .run)))
     (tables 𝓤 H 𝓜 𝓡 code.env .C) (tables 𝓤 H 𝓜 𝓡 code.env .Λ) #f code.function (code.unfolded 𝓤 H 𝓜 𝓡)
     (f-meets 𝓤 H (𝓖 .A) (givenOf 𝓤 H 𝓜 𝓖) (𝓜 .mem) (𝓡 .run) (tablesOf 𝓤 H 𝓜 (tables 𝓤 H 𝓜 𝓡 code.env))
-    (cited 𝓤 H (G 𝓤 H (𝓖 .A) (𝓜 .mem) (𝓡 .run)) 𝓜 𝓡 code.env #g g-def.routine code.calls-lent·reset-lent (g-thm.met 𝓤 H 𝓜 𝓖 𝓡)))
+    (cited 𝓤 H (G 𝓤 H (𝓖 .A) (𝓜 .mem) (𝓡 .run)) 𝓜 𝓡 code.env #g g-def.routine code.calls-lent-reset·reset-lent (g-thm.met 𝓤 H 𝓜 𝓖 𝓡)))

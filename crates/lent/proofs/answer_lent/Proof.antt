@@ -51,7 +51,7 @@ use Rattle.engine.proofs.answer.Met as g-thm
 use Rattle.lent_reads.specs.declared.Report.{Report}
 use Rattle.lent_reads.proofs.Report as R
 use Rattle.lent_reads.proofs.Report.Laws as R′
-use Rattle.lent_reads.proofs.Lending.{mach, seen, lent, fits, opened, closed, given}
+use Rattle.lent_reset.proofs.Lending.{mach, seen, lent, fits, opened, closed, given}
 use Rattle.lent.proofs.answer_lent.Key.{name as #f}
 use Rattle.lent.proofs.answer_lent as f
 use Rattle.lent.proofs.answer_lent.Statement as stated

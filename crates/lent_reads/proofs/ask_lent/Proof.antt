@@ -47,7 +47,7 @@ use Rattle.engine.proofs.ask as g
 use Rattle.engine.proofs.ask.Symbol as g-def
 use Rattle.engine.proofs.ask.Symbol.{name as #g}
 use Rattle.engine.proofs.ask.Met as g-thm
-use Rattle.lent_reads.proofs.Lending.{mach, shared, fits, looked, shut}
+use Rattle.lent_reset.proofs.Lending.{mach, shared, fits, looked, shut}
 use Rattle.lent_reads.proofs.ask_lent.Key.{name as #f}
 use Rattle.lent_reads.proofs.ask_lent as f
 use Rattle.lent_reads.proofs.ask_lent.Statement as stated

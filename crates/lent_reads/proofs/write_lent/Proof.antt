@@ -50,7 +50,7 @@ use Rattle.record_write.proofs.write.Met as g-thm
 use Rattle.lent_reads.specs.declared.Report.{Report}
 use Rattle.lent_reads.proofs.Report as R
 use Rattle.lent_reads.proofs.Report.Laws as R′
-use Rattle.lent_reads.proofs.Lending.{mach, shared, fits, looked, shut, given}
+use Rattle.lent_reset.proofs.Lending.{mach, shared, fits, looked, shut, given}
 use Rattle.lent_reads.proofs.write_lent.Key.{name as #f}
 use Rattle.lent_reads.proofs.write_lent as f
 use Rattle.lent_reads.proofs.write_lent.Statement as stated

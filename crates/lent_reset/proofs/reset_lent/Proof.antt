@@ -44,11 +44,11 @@ use Rattle.sound.proofs.reset as g
 use Rattle.sound.proofs.reset.Symbol as g-def
 use Rattle.sound.proofs.reset.Symbol.{name as #g}
 use Rattle.sound.proofs.reset.Met as g-thm
-use Rattle.lent_reads.proofs.Lending.{mach, seen, lent, fits, opened, closed, given}
-use Rattle.lent.proofs.reset_lent.Key.{name as #f}
-use Rattle.lent.proofs.reset_lent as f
-use Rattle.lent.proofs.reset_lent.Statement as stated
-use Rattle.lent.proofs.reset_lent.Code as code
+use Rattle.lent_reset.proofs.Lending.{mach, seen, lent, fits, opened, closed, given}
+use Rattle.lent_reset.proofs.reset_lent.Key.{name as #f}
+use Rattle.lent_reset.proofs.reset_lent as f
+use Rattle.lent_reset.proofs.reset_lent.Statement as stated
+use Rattle.lent_reset.proofs.reset_lent.Code as code
 
 abbrev stayed : Stays (f.ended .signature .params) (f.ended .kept)
 stayed = (stay-ref (0 ∷ []) tt (plain (λ _. T.the-row)), tt)
