@@ -6,7 +6,7 @@ ghost use lib.ListN.{length};
 ghost use Rattle.vector_text.specs.Hex.{digitOf, bytesOf, Spelled};
 
 // What a character is worth as a hexadecimal digit; 16 where it is none.
-fn hex_digit(c: u8) -> u8
+pub fn hex_digit(c: u8) -> u8
     ensures { λ r. ⌜ r ≡ digitOf c ⌝ }
 {
     if c < 48 {
@@ -28,7 +28,7 @@ fn hex_digit(c: u8) -> u8
 }
 
 // The byte that two digits spell.
-fn hex_byte(high: u8, low: u8) -> u8
+pub fn hex_byte(high: u8, low: u8) -> u8
     requires { ⌜ (high < 16) × (low < 16) ⌝ }
     ensures { λ r. ⌜ r ≡ high * 16 + low ⌝ }
 {

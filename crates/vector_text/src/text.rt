@@ -37,14 +37,14 @@ pub fn is_none(x: Span) -> bool {
     x.end == 0
 }
 
-// Where the line that holds byte `at` ends: at its line feed, or with the file.
-pub fn line_end(s: &[u8], at: usize) -> usize
+// The first place from `at` on that has the byte `mark`, or the end.
+pub fn place_of(s: &[u8], at: usize, mark: u8) -> usize
     requires { ⌜ at ≤ length (now s) ⌝ }
     ensures { λ r. ⌜ (at ≤ r) × (r ≤ length (now (s .entry))) ⌝ }
 {
     let mut i = at;
     while i < s.len() {
-        if s[i] == b'\n' {
+        if s[i] == mark {
             return i;
         }
         i += 1;

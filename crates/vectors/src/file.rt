@@ -174,7 +174,7 @@ fn run_text(name: &[u8], s: &[u8], mode: u8) -> Tally {
     };
     let mut at = 0;
     while at < s.len() {
-        let end = text::line_end(s, at);
+        let end = text::place_of(s, at, b'\n');
         let next = take_line(name, s, mode, st, at, end);
         st = next;
         at = text::line_behind(s, at, end);

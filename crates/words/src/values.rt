@@ -4,6 +4,7 @@ ghost use lib.ListN.{length};
 use crate::numbers::NO_NUMBER;
 use crate::numbers::number;
 use vector_text::hex;
+use vector_text::text::place_of;
 
 // Why a word is not taken: its form, or that it means too many bytes.
 pub const FORM: u8 = 1;
@@ -52,51 +53,26 @@ fn run(first: u8, step: u8, n: usize, out: &mut [u8], len: usize) -> Got {
     Got { fault: 0, len: end }
 }
 
-// Whether a character is a hexadecimal digit.
-fn is_digit(c: u8) -> bool {
-    let number = (b'0' <= c) & (c <= b'9');
-    let upper = (b'A' <= c) & (c <= b'F');
-    let lower = (b'a' <= c) & (c <= b'f');
-    number | upper | lower
-}
-
-// What a hexadecimal digit is worth.
-fn worth(c: u8) -> u8 {
-    if c <= b'9' {
-        return std::num::wrapping_sub_u8(c, b'0');
-    }
-    if c <= b'F' {
-        std::num::wrapping_sub_u8(c, 55)
-    } else {
-        std::num::wrapping_sub_u8(c, 87)
-    }
-}
-
-// The byte that two digits spell.
-fn byte_of(high: u8, low: u8) -> u8 {
-    std::num::wrapping_add_u8(worth(high) << 4, worth(low))
-}
-
 // HH*N or HH+N.
 fn counted(p: &[u8], step: u8, out: &mut [u8], len: usize) -> Got
     requires { ⌜ 4 ≤ length (now p) ⌝ }
 {
-    let high = p[0];
-    let low = p[1];
-    if !is_digit(high) {
+    let high = hex::hex_digit(p[0]);
+    let low = hex::hex_digit(p[1]);
+    if high > 15 {
         return fault(FORM);
     }
-    if !is_digit(low) {
+    if low > 15 {
         return fault(FORM);
     }
     let n = number(&p[3..]);
-    run(byte_of(high, low), step, n, out, len)
+    run(hex::hex_byte(high, low), step, n, out, len)
 }
 
 fn is_hex(p: &[u8]) -> bool {
     let mut i = 0;
     while i < p.len() {
-        if !is_digit(p[i]) {
+        if hex::hex_digit(p[i]) > 15 {
             return false;
         }
         i += 1;
@@ -144,27 +120,12 @@ fn piece(p: &[u8], last: &[u8], out: &mut [u8], len: usize) -> Got {
     digits(p, out, len)
 }
 
-// Where the piece that begins at byte `at` ends: at its dot, or with the word.
-fn piece_end(w: &[u8], at: usize) -> usize
-    requires { ⌜ at ≤ length (now w) ⌝ }
-    ensures { λ r. ⌜ (at ≤ r) × (r ≤ length (now (w .entry))) ⌝ }
-{
-    let mut i = at;
-    while i < w.len() {
-        if w[i] == b'.' {
-            return i;
-        }
-        i += 1;
-    }
-    i
-}
-
-// The pieces of a word, one behind the other; the first fault decides.
+// The pieces of a word, one behind the other, each up to its dot or the word's end; the first fault decides.
 fn pieces(w: &[u8], last: &[u8], out: &mut [u8]) -> Got {
     let mut at = 0;
     let mut len = 0;
     while at <= w.len() {
-        let end = piece_end(w, at);
+        let end = place_of(w, at, b'.');
         let got = piece(&w[at..end], last, out, len);
         if got.fault != 0 {
             return got;

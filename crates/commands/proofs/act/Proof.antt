@@ -5,7 +5,7 @@ use Rattle.path_commands.proofs.Responses.{derive-response, pinless-response}
 use Rattle.verify_command.proofs.Laws.{verify-empty}
 use Rattle.change_command.proofs.Laws.{change-empty}
 use Rattle.unblock_command.proofs.Laws.{unblock-empty}
-use Rattle.channel_commands.proofs.Laws.{unpair-empty}
+use Rattle.unpair_command.proofs.Laws.{unpair-empty}
 use Rattle.init_command.proofs.Laws.{init-empty}
 use Rattle.rules.specs.Commands.{checksOf, supplyOf, replyOf}
 use Rattle.commands.proofs.Facts.{checked, suited, ranged, silent}

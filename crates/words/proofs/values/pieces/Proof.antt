@@ -16,8 +16,8 @@ abbrev μ-loop : tie.MeasureT-loop
 loop-holds : tie.Need-loop-holds Inv-loop μ-loop
 loop-holds c = search needs
 
-piece-end-requires : tie.Need-piece-end-requires Inv-loop μ-loop
-piece-end-requires c κs = search needs
+place-of-requires : tie.Need-place-of-requires Inv-loop μ-loop
+place-of-requires c κs = search needs
 
 sub-piece : tie.Need-sub-piece Inv-loop μ-loop
 sub-piece c = search needs
@@ -68,7 +68,7 @@ pieces-spec =
     Inv-loop
     μ-loop
     loop-holds
-    piece-end-requires
+    place-of-requires
     sub-piece
     part-piece-start
     part-piece-end

@@ -1,4 +1,2 @@
-pub mod CheckFacts
 pub mod VerdictFacts
 pub mod ReplyFacts
-pub mod Laws

@@ -1,8 +1,8 @@
 -- UNPAIR's check: by cases on whether the PIN is verified.
 -- Assumes nothing.
-use Rattle.channel_commands.proofs.VerdictFacts.{unpair-unverified, unpair-goes}
-use Rattle.channel_commands.proofs.unpair_verdict.Statement.{statement}
-use Rattle.channel_commands.proofs.unpair_verdict.Tie as tie
+use Rattle.unpair_command.proofs.VerdictFacts.{unpair-unverified, unpair-goes}
+use Rattle.unpair_command.proofs.unpair_verdict.Statement.{statement}
+use Rattle.unpair_command.proofs.unpair_verdict.Tie as tie
 
 returns : tie.Need-returns
 returns c = unpair-unverified (c .before .before .args .pins) (c .if1 .taken)

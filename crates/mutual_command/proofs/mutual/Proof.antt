@@ -2,10 +2,9 @@
 -- Assumes nothing.
 use native.Mathlib.Omega.{arith}
 use borrow.Author.Needs.{needs}
-use Rattle.channel_commands.proofs.CheckFacts.{mutual-long}
-use Rattle.channel_commands.proofs.ReplyFacts.{mutual-replies}
-use Rattle.channel_commands.proofs.mutual.Statement.{statement}
-use Rattle.channel_commands.proofs.mutual.Tie as tie
+use Rattle.mutual_command.proofs.ReplyFacts.{mutual-long, mutual-replies}
+use Rattle.mutual_command.proofs.mutual.Statement.{statement}
+use Rattle.mutual_command.proofs.mutual.Tie as tie
 
 in-stage-2-requires : tie.Need-in-stage-2-requires
 in-stage-2-requires c κs = search needs

@@ -1,25 +1,13 @@
--- The verdicts on UNPAIR and MUTUAL, from what the tests of their checks found.
+-- The verdict on MUTUAL, from what the tests of its checks found.
 -- Assumes nothing.
 use mathlib.Core.Path.{_≡_}
 use mathlib.Core.List.{List}
 use Prim.Native.Nat.{ℕ}
 use lib.ListN.{length}
 use borrow.Author.Tests.{eq-eqb, ne-eqb}
-use Rattle.card.specs.declared.Pins.{Pins}
 use Rattle.rules.specs.Words.{success, securityNotMet, conditionsNotMet, verdict}
-use Rattle.rules.specs.Commands.{unpairChecks, mutualChecks}
+use Rattle.rules.specs.Commands.{mutualChecks}
 
--- ---- UNPAIR
-module _ (p : Pins) where
-  pub unpair-unverified : p .verified ≡ 0 → conditionsNotMet ≡ verdict (unpairChecks p)
-  unfolding unpairChecks
-  unpair-unverified h = rw (eq-eqb _ _ h)
-
-  pub unpair-goes : (p .verified ≡ 0 → ⊥) → success ≡ verdict (unpairChecks p)
-  unfolding unpairChecks
-  unpair-goes h = rw (ne-eqb _ _ h)
-
--- ---- MUTUAL
 module _ (stage : ℕ) (d : List ℕ) where
   pub mutual-again : (stage ≡ 1 → ⊥) → conditionsNotMet ≡ verdict (mutualChecks stage d)
   unfolding mutualChecks

@@ -1,8 +1,8 @@
 -- MUTUAL's checks, in their order: the stage, then the length of the data.
 -- Assumes nothing.
-use Rattle.channel_commands.proofs.VerdictFacts.{mutual-again, mutual-malformed, mutual-goes}
-use Rattle.channel_commands.proofs.mutual_verdict.Statement.{statement}
-use Rattle.channel_commands.proofs.mutual_verdict.Tie as tie
+use Rattle.mutual_command.proofs.VerdictFacts.{mutual-again, mutual-malformed, mutual-goes}
+use Rattle.mutual_command.proofs.mutual_verdict.Statement.{statement}
+use Rattle.mutual_command.proofs.mutual_verdict.Tie as tie
 
 returns : tie.Need-returns
 returns c = mutual-again (c .before .args .stage) _ (c .if1 .taken)

@@ -5,9 +5,9 @@ use native.Mathlib.Omega.{arith}
 use lib.ListN.{length}
 use lib.Seq.{length-take-le}
 use borrow.Author.Needs.{needs}
-use Rattle.channel_commands.proofs.ReplyFacts.{path-wrote}
-use Rattle.channel_commands.proofs.put_path.Statement.{statement}
-use Rattle.channel_commands.proofs.put_path.Tie as tie
+use Rattle.status_command.proofs.ReplyFacts.{path-wrote}
+use Rattle.status_command.proofs.put_path.Statement.{statement}
+use Rattle.status_command.proofs.put_path.Tie as tie
 
 wide-requires : tie.Need-wide-requires
 wide-requires c κs = search needs

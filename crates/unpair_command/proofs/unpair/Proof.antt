@@ -2,8 +2,8 @@
 -- Assumes nothing.
 use borrow.Author.Needs.{needs}
 use Rattle.rules.specs.Commands.{unpairReply}
-use Rattle.channel_commands.proofs.unpair.Statement.{statement}
-use Rattle.channel_commands.proofs.unpair.Tie as tie
+use Rattle.unpair_command.proofs.unpair.Statement.{statement}
+use Rattle.unpair_command.proofs.unpair.Tie as tie
 
 wide-requires : tie.Need-wide-requires
 wide-requires c κs = search needs

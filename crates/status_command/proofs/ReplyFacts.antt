@@ -4,17 +4,14 @@ use mathlib.Core.Path.{_≡_, sym, ap, _∙_}
 use mathlib.Core.List.{List, _++_}
 use Prim.Native.Nat.{ℕ, _≤_}
 use native.Mathlib.Nat.{zero-add}
-use native.Mathlib.Omega.{arith}
 use lib.ListN.{length, take, drop}
-use lib.Seq.{take-all, length-take-le}
+use lib.Seq.{length-take-le}
 use Rattle.octets.specs.Bytes.{overwrite}
 use Rattle.template.specs.Writing.{Wrote}
 use Rattle.card.specs.declared.Card.{Card}
 use Rattle.card.specs.declared.Path.{Path}
-use Rattle.card.specs.declared.Channel.{Channel}
-use Rattle.card.specs.State.{pathBytes, withChannel}
+use Rattle.card.specs.State.{pathBytes}
 use Rattle.rules.specs.Words.{success, succeeds, Replies}
-use Rattle.rules.specs.Commands.{inStage2, mutualReply}
 
 -- ---- overwrite: from the start
 from-start : (a t : List ℕ) → overwrite a 0 t ≡ t ++ drop (length t) a
@@ -33,11 +30,3 @@ path-wrote p n a b e h l w = record {
 pub wrote-replies : (c : Card) (t : List ℕ) (n : ℕ) (a b : List ℕ) → Wrote t 0 n a b
     → Replies (succeeds c t) (record { status = success; count = n; card = c }) a b
 wrote-replies c t n a b w = record { told = rw (w .place ∙ zero-add (length t)); left = w .buffer ∙ from-start a t }
-
--- MUTUAL: the supply is the response
-pub mutual-replies : (c : Card) (k : Channel) (s a b : List ℕ) → length s ≡ 32 → k ≡ inStage2 (c .channel) → b ≡ overwrite a 0 s
-    → Replies (mutualReply c s) (record { status = success; count = length s; card = withChannel c k }) a b
-unfolding mutualReply
-mutual-replies c k s a b h e w =
-    let whole = take-all 32 s (omega arith) in
-    record { told = rw (whole, e); left = rw whole (w ∙ from-start a s) }

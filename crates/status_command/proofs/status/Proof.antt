@@ -3,9 +3,9 @@
 use native.Mathlib.Omega.{arith}
 use borrow.Author.Needs.{needs}
 use Rattle.rules.specs.Commands.{statusReply}
-use Rattle.channel_commands.proofs.ReplyFacts.{wrote-replies}
-use Rattle.channel_commands.proofs.status.Statement.{statement}
-use Rattle.channel_commands.proofs.status.Tie as tie
+use Rattle.status_command.proofs.ReplyFacts.{wrote-replies}
+use Rattle.status_command.proofs.status.Statement.{statement}
+use Rattle.status_command.proofs.status.Tie as tie
 
 enum-told : tie.Need-enum-told
 enum-told c = search needs

@@ -1,0 +1,2 @@
+pub mod VerdictFacts
+pub mod Laws
