@@ -25,8 +25,8 @@ loop-holds : tie.Need-loop-holds Inv-loop μ-loop
 loop-holds c = search needs
 
 -- src/file.rt:177:13
-line-end-requires : tie.Need-line-end-requires Inv-loop μ-loop
-line-end-requires c κs = search needs
+place-of-requires : tie.Need-place-of-requires Inv-loop μ-loop
+place-of-requires c κs = search needs
 
 -- src/file.rt:178:13
 take-line-requires : tie.Need-take-line-requires Inv-loop μ-loop
@@ -61,7 +61,7 @@ run-text-spec =
     no-entry-requires
     no-tally-requires
     loop-holds
-    line-end-requires
+    place-of-requires
     take-line-requires
     line-behind-requires
     loop-less
