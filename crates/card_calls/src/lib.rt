@@ -5,7 +5,7 @@ use card_bytes::CARD_BYTES;
 use desk::Desk;
 use desk::args;
 use print::say;
-use words::VALUE_MAX_BYTES;
+use word_bytes::VALUE_MAX_BYTES;
 
 // The card changes, and is shown.
 pub fn put_card(d: Desk, card: [u8; CARD_BYTES]) -> Desk {

@@ -23,7 +23,7 @@ fn len_of(k: usize) -> usize {
     );
     let start = w.start;
     let end = w.end;
-    words::number(&table[start..end])
+    decimal::number(&table[start..end])
 }
 
 // Whether field number k has this name.

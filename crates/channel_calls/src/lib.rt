@@ -5,7 +5,7 @@ use card_bytes::SESSION_BYTES;
 use desk::Desk;
 use desk::args;
 use print::say;
-use words::VALUE_MAX_BYTES;
+use word_bytes::VALUE_MAX_BYTES;
 
 pub fn ask(d: Desk, line: &[u8]) {
     let mut cmd = [0u8; VALUE_MAX_BYTES];

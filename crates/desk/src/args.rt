@@ -1,7 +1,7 @@
 // The words of a call as bytes and numbers. What is wrong with one is written as the answer to a bad line.
 use crate::Last;
 use print::say;
-use words::VALUE_MAX_BYTES;
+use word_bytes::VALUE_MAX_BYTES;
 
 // Whether a word was taken, and its length or number.
 pub struct Taken {
@@ -58,23 +58,23 @@ pub fn is_word(line: &[u8], k: usize, text: &[u8]) -> bool {
 }
 
 // Word number k as bytes, put into `out` from its start.
-fn value(line: &[u8], k: usize, last: Last, out: &mut [u8]) -> words::Got {
+fn value(line: &[u8], k: usize, last: Last, out: &mut [u8]) -> word_bytes::Got {
     let w = words::word(line, k);
     let start = w.start;
     let end = w.end;
     let bytes = last.bytes;
     let n = content::bounded(last.len, &bytes);
-    words::bytes_of(&line[start..end], &bytes[..n], out)
+    word_bytes::bytes_of(&line[start..end], &bytes[..n], out)
 }
 
 // The bytes of word number k, which the table of calls names so.
 pub fn take(line: &[u8], k: usize, name: &[u8], last: Last, out: &mut [u8]) -> Taken {
     let got = value(line, k, last, out);
-    if got.fault == words::FORM {
+    if got.fault == word_bytes::FORM {
         bad_named(name, b" is not bytes");
         return NOT_TAKEN;
     }
-    if got.fault == words::MANY {
+    if got.fault == word_bytes::MANY {
         bad_named(name, b" has more than 1024 bytes");
         return NOT_TAKEN;
     }
@@ -113,12 +113,12 @@ pub fn take_exact(line: &[u8], k: usize, name: &[u8], last: Last, out: &mut [u8]
 // The number behind the word `room`.
 fn room_number(line: &[u8], k: usize) -> usize {
     if !is_word(line, k, b"room") {
-        return words::NO_NUMBER;
+        return decimal::NO_NUMBER;
     }
     let w = words::word(line, std::num::wrapping_add_usize(k, 1));
     let start = w.start;
     let end = w.end;
-    words::number(&line[start..end])
+    decimal::number(&line[start..end])
 }
 
 // The room that a call gives behind its first k words, or the least that the operation takes.
@@ -130,7 +130,7 @@ pub fn room(line: &[u8], k: usize, least_bytes: usize) -> Taken {
         };
     }
     let n = room_number(line, k);
-    if n == words::NO_NUMBER {
+    if n == decimal::NO_NUMBER {
         bad(b"the room is a number of bytes, 0 to 1024");
         return NOT_TAKEN;
     }

@@ -20,7 +20,7 @@ struct Played {
 
 fn play_next(p: Pair) -> Played {
     let mut buf = [0u8; LINE_MAX_BYTES];
-    let line = words::read_line(&mut buf);
+    let line = input_line::read_line(&mut buf);
     if !line.found {
         return Played {
             found: false,

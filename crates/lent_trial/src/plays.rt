@@ -6,7 +6,7 @@ use crate::pair;
 use crate::pair::Pair;
 use card_bytes::CARD_BYTES;
 use desk::args::is_word;
-use words::VALUE_MAX_BYTES;
+use word_bytes::VALUE_MAX_BYTES;
 
 // A buffer before a call: both have the same bytes.
 fn filled() -> [u8; VALUE_MAX_BYTES]
@@ -72,15 +72,15 @@ fn number(line: &[u8], k: usize) -> usize {
     let w = words::word(line, k);
     let start = w.start;
     let end = w.end;
-    words::number(&line[start..end])
+    decimal::number(&line[start..end])
 }
 
 // The bytes of word number k, put into `out`.
-fn take(line: &[u8], k: usize, out: &mut [u8]) -> words::Got {
+fn take(line: &[u8], k: usize, out: &mut [u8]) -> word_bytes::Got {
     let w = words::word(line, k);
     let start = w.start;
     let end = w.end;
-    words::bytes_of(&line[start..end], b"", out)
+    word_bytes::bytes_of(&line[start..end], b"", out)
 }
 
 // ---- lines

@@ -4,7 +4,7 @@
 use card_bytes::CARD_BYTES;
 use desk::Desk;
 use print::say;
-use words::VALUE_MAX_BYTES;
+use word_bytes::VALUE_MAX_BYTES;
 
 // Whether a step was done and not refused, and the desk behind it.
 pub struct Step {

@@ -46,7 +46,7 @@ fn turn(desk: Desk, shown: bool) -> Played {
         say(b"> ");
     }
     let mut buf = [0u8; LINE_MAX_BYTES];
-    let read = words::read_line(&mut buf);
+    let read = input_line::read_line(&mut buf);
     if !read.found {
         return Played { found: false, desk };
     }

@@ -1,11 +1,11 @@
--- `lines::count` is safe and ends. The measure is what is left of the line.
+-- `count` is safe and ends. The measure is what is left of the line.
 -- Assumes nothing.
 use Prim.Native.Nat.{_-_, _≤_, _+_}
 use mathlib.Core.Path.{_≡_}
 use lib.ListN.{length}
 use borrow.Author.Needs.{needs}
-use Rattle.words.proofs.lines.count.Statement.{statement}
-use Rattle.words.proofs.lines.count.Tie as tie
+use Rattle.words.proofs.count.Statement.{statement}
+use Rattle.words.proofs.count.Tie as tie
 
 abbrev Inv-loop : tie.InvT-loop
 Inv-loop s n₀ blank-before₀ i₀ n blank-before i = Unit {0}

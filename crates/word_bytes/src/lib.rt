@@ -1,10 +1,15 @@
-// Bytes written in one word: hexadecimal digits, a byte repeated or rising, the last bytes, and these joined by dots.
+// Bytes written in one word (docs/SOFTCARD.md): hexadecimal digits, a byte repeated or rising, the last bytes, and these joined by dots.
+// Every length is in bytes.
+// Proved: every function is safe and ends.
 ghost use Prim.Native.Nat.{_≤_};
 ghost use lib.ListN.{length};
-use crate::numbers::NO_NUMBER;
-use crate::numbers::number;
+use decimal::NO_NUMBER;
+use decimal::number;
 use vector_text::hex;
 use vector_text::text::place_of;
+
+// The most bytes that one word may mean.
+pub const VALUE_MAX_BYTES: usize = 1024;
 
 // Why a word is not taken: its form, or that it means too many bytes.
 pub const FORM: u8 = 1;

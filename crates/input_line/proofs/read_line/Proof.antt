@@ -1,11 +1,11 @@
--- `lines::read_line` is safe and ends. A byte that is kept leaves the length as it is; the measure is the number of turns left.
+-- `read_line` is safe and ends. A byte that is kept leaves the length as it is; the measure is the number of turns left.
 -- Assumes nothing.
 use Prim.Native.Nat.{_-_, _≤_, _+_}
 use mathlib.Core.Path.{_≡_}
 use lib.ListN.{length}
 use borrow.Author.Needs.{needs}
-use Rattle.words.proofs.lines.read_line.Statement.{statement}
-use Rattle.words.proofs.lines.read_line.Tie as tie
+use Rattle.input_line.proofs.read_line.Statement.{statement}
+use Rattle.input_line.proofs.read_line.Tie as tie
 
 abbrev Inv-loop : tie.InvT-loop
 Inv-loop buf₀ len₀ found₀ dropped₀ left₀ buf len found dropped left = length buf ≡ length buf₀

@@ -1,11 +1,11 @@
--- `values::pieces` is safe and ends. A piece keeps the length of the buffer; the measure is what is left of the word, and one more.
+-- `pieces` is safe and ends. A piece keeps the length of the buffer; the measure is what is left of the word, and one more.
 -- Assumes nothing.
 use Prim.Native.Nat.{_-_, _≤_, _+_}
 use mathlib.Core.Path.{_≡_}
 use lib.ListN.{length}
 use borrow.Author.Needs.{needs}
-use Rattle.words.proofs.values.pieces.Statement.{statement}
-use Rattle.words.proofs.values.pieces.Tie as tie
+use Rattle.word_bytes.proofs.pieces.Statement.{statement}
+use Rattle.word_bytes.proofs.pieces.Tie as tie
 
 abbrev Inv-loop : tie.InvT-loop
 Inv-loop w last out₀ at₀ len₀ out at len = length out ≡ length out₀

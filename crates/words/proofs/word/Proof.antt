@@ -1,11 +1,11 @@
--- `lines::word` meets its contract. The loop's invariant: the place lies within the line.
+-- `word` meets its contract. The loop's invariant: the place lies within the line.
 -- Assumes nothing.
 use Prim.Native.Nat.{_-_, _≤_, _+_}
 use mathlib.Core.Path.{_≡_}
 use lib.ListN.{length}
 use borrow.Author.Needs.{needs}
-use Rattle.words.proofs.lines.word.Statement.{statement}
-use Rattle.words.proofs.lines.word.Tie as tie
+use Rattle.words.proofs.word.Statement.{statement}
+use Rattle.words.proofs.word.Tie as tie
 
 abbrev Inv-loop : tie.InvT-loop
 Inv-loop s k at₀ i₀ at i = at ≤ length s
