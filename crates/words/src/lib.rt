@@ -1,8 +1,11 @@
 // A line of text for the soft card: its words, which have spaces or tabs between them.
 // Every place and length is in bytes.
-// Proved: every function is safe and ends, and a word lies within its line.
-ghost use Prim.Native.Nat.{_≤_};
-ghost use lib.ListN.{length};
+// Proved: words, their number and whether a line is a comment are as defined, for any bytes.
+ghost use mathlib.Core.Path.{_≡_};
+ghost use mathlib.Core.Bool.{cond};
+ghost use Prim.Native.Nat.{_+_, _-_, _≤_};
+ghost use lib.ListN.{length, take, drop};
+ghost use Rattle.words.specs.Words.{isBlank, blanks, letters, wordOf, wordCount, isComment, lineBytes};
 
 // A part of a line: from byte `start` up to byte `end`, which is not in it.
 pub struct Span {
@@ -10,30 +13,47 @@ pub struct Span {
     pub end: usize,
 }
 
-fn is_blank(c: u8) -> bool {
+fn is_blank(c: u8) -> bool
+    ensures { λ r. ⌜ r ≡ isBlank c ⌝ }
+{
     c == b' ' || c == b'\t'
 }
 
 // How many bytes a line has without a carriage return at its end.
-pub fn trimmed(s: &[u8]) -> usize {
+pub fn trimmed(s: &[u8]) -> usize
+    ensures { λ r. ⌜ r ≡ lineBytes (now (s .entry)) ⌝ }
+{
     let n = s.len();
-    if n > 0 {
-        let last = n - 1;
-        if s[last] == b'\r' {
-            return last;
-        }
+    if n == 0 {
+        return 0;
     }
-    n
+    let last = n - 1;
+    if s[last] == b'\r' { last } else { n }
 }
 
-// The first place from `at` on with a blank, or with none where `blank` is false; the line's end where there is no such place.
-fn until(s: &[u8], at: usize, blank: bool) -> usize
+// The place behind the blanks that begin at `at`.
+fn behind_blanks(s: &[u8], at: usize) -> usize
     requires { ⌜ at ≤ length (now s) ⌝ }
-    ensures { λ r. ⌜ (at ≤ r) × (r ≤ length (now (s .entry))) ⌝ }
+    ensures { λ r. ⌜ (r ≡ at + blanks (drop at (now (s .entry)))) × (r ≤ length (now (s .entry))) ⌝ }
 {
     let mut i = at;
     while i < s.len() {
-        if is_blank(s[i]) == blank {
+        if !is_blank(s[i]) {
+            return i;
+        }
+        i += 1;
+    }
+    i
+}
+
+// The place behind the word that begins at `at`.
+fn behind_word(s: &[u8], at: usize) -> usize
+    requires { ⌜ at ≤ length (now s) ⌝ }
+    ensures { λ r. ⌜ (r ≡ at + letters (drop at (now (s .entry)))) × (r ≤ length (now (s .entry))) ⌝ }
+{
+    let mut i = at;
+    while i < s.len() {
+        if is_blank(s[i]) {
             return i;
         }
         i += 1;
@@ -44,28 +64,35 @@ fn until(s: &[u8], at: usize, blank: bool) -> usize
 // Word number k of a line, from 0; where there are fewer, none of its bytes.
 pub fn word(s: &[u8], k: usize) -> Span
     ensures { λ r. ⌜ (r .start ≤ r .end) × (r .end ≤ length (now (s .entry))) ⌝ }
+    ensures { λ r. ⌜ take (r .end - r .start) (drop (r .start) (now (s .entry))) ≡ wordOf k (now (s .entry)) ⌝ }
 {
-    let mut at = until(s, 0, false);
+    let mut at = behind_blanks(s, 0);
     let mut i = 0;
     while i < k {
-        let end = until(s, at, true);
-        at = until(s, end, false);
+        let end = behind_word(s, at);
+        at = behind_blanks(s, end);
         i += 1;
     }
-    let end = until(s, at, true);
+    let end = behind_word(s, at);
     Span { start: at, end }
 }
 
+fn one(b: bool) -> usize
+    ensures { λ r. ⌜ (r ≡ cond b 1 0) × (r ≤ 1) ⌝ }
+{
+    if b { 1 } else { 0 }
+}
+
 // How many words a line has.
-pub fn count(s: &[u8]) -> usize {
+pub fn count(s: &[u8]) -> usize
+    ensures { λ r. ⌜ r ≡ wordCount (now (s .entry)) ⌝ }
+{
     let mut n = 0;
     let mut blank_before = true;
     let mut i = 0;
     while i < s.len() {
         let blank = is_blank(s[i]);
-        if blank_before & !blank {
-            n = std::num::wrapping_add_usize(n, 1);
-        }
+        n += one(blank_before & !blank);
         blank_before = blank;
         i += 1;
     }
@@ -73,7 +100,9 @@ pub fn count(s: &[u8]) -> usize {
 }
 
 // Whether the first word begins with '#'.
-pub fn is_comment(s: &[u8]) -> bool {
-    let at = until(s, 0, false);
+pub fn is_comment(s: &[u8]) -> bool
+    ensures { λ r. ⌜ r ≡ isComment (now (s .entry)) ⌝ }
+{
+    let at = behind_blanks(s, 0);
     if at < s.len() { s[at] == b'#' } else { false }
 }
