@@ -3,6 +3,7 @@
 use native.Mathlib.Omega.{arith}
 use lib.ListN.{take, set, length-set}
 use borrow.Author.Needs.{needs}
+use Rattle.card_bytes.specs.Flat.{pathFlat}
 use Rattle.card_bytes.proofs.Grown.{join, wrote-byte, wrote-bytes}
 use Rattle.card_bytes.proofs.with_keys.Statement.{statement}
 use Rattle.card_bytes.proofs.with_keys.Tie as tie
@@ -30,8 +31,8 @@ with-path-requires-2 c κs = search needs
 
 returns : tie.Need-returns
 returns c = let g = c .before .before .before .before .before .before .before .args in
-    join (take 333 (g .s)) _ _
-    (join (take 333 (g .s)) _ _
+    join (take 333 (g .s)) _ (pathFlat (g .x .pinless))
+    (join (take 333 (g .s)) _ (pathFlat (g .x .current))
     (join (take 333 (g .s)) _ _
     (wrote-byte (g .s) 333 (g .x .kind) (omega (arith, slice-aggregate-put (c .before .before .before .before .before), length-set (g .s) 333 (g .x .kind))))
     (wrote-bytes (set (g .s) 333 (g .x .kind)) 334 32 (g .x .uid) (slice-aggregate-put-2 (c .before .before .before .before)) (omega (arith, slice-aggregate-put (c .before .before .before .before .before))) (c .before .before .before .put .ensures)))

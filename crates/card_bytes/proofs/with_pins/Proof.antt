@@ -1,6 +1,7 @@
 -- Two fields and three bytes, each written behind what is before it.
 -- Assumes nothing.
 use mathlib.Core.Path.{refl}
+use mathlib.Core.List.{[], _∷_}
 use native.Mathlib.Omega.{arith}
 use lib.ListN.{take}
 use borrow.Author.Needs.{needs}
@@ -44,7 +45,7 @@ returns c = let g = c .before .before .before .before .before .before .before .b
     (join (take 82 (g .s)) _ _
     (wrote-bytes (g .s) 82 6 (g .x .pin) (slice-aggregate-put-2 (c .before .before .before .before .before .before .before .before .before .before)) (omega (arith, slice-aggregate-put (c .before .before .before .before .before .before .before .before .before .before .before))) (c .before .before .before .before .before .before .before .before .before .put .ensures))
     (wrote-bytes (c .before .before .before .before .before .before .before .before .before .put .last .0) 88 12 (g .x .puk) (slice-aggregate-put-4 (c .before .before .before .before .before .before)) (omega (arith, slice-aggregate-put-3 (c .before .before .before .before .before .before .before))) (c .before .before .before .before .before .put2 .ensures)))
-    (wrote-bytes (c .before .before .before .before .before .put2 .last .0) 100 3 _ refl (omega (arith, slice-aggregate-put-5 (c .before .before .before))) (c .before .put3 .ensures))
+    (wrote-bytes (c .before .before .before .before .before .put2 .last .0) 100 3 (g .x .«pin_tries» ∷ g .x .«puk_tries» ∷ g .x .verified ∷ []) refl (omega (arith, slice-aggregate-put-5 (c .before .before .before))) (c .before .put3 .ensures))
 
 pub with-pins-spec : {M : Type 1} → statement M
 with-pins-spec =
