@@ -9,8 +9,7 @@ use native.Mathlib.Omega.{arith}
 use lib.ListN.{length, take, drop, getD, set, length-drop, take-append-drop}
 use lib.Seq.{take-add, take-suc, take-suc-set, length-take-le}
 use Rattle.octets.specs.Bytes.{overwrite}
-use Rattle.octets.proofs.Lists.{take-overwrite, length-tabulate, _&_}
-use Rattle.card.specs.declared.Slot.{Slot}
+use Rattle.octets.proofs.Lists.{take-overwrite, _&_}
 use Rattle.record.specs.Fields.{slotsBytes}
 use Rattle.record.specs.Parse.{fit, slotsFrom}
 use Rattle.record.proofs.ParseFacts.{fit-front}
@@ -52,6 +51,3 @@ slots-again (suc n) [] h = absurd (omega arith)
 slots-again (suc n) (b ∷ x) h =
     refl & (ap₂ (λ (k r : List ℕ). k ++ r) (fit-take 32 x (omega arith)) (slots-again n (drop 32 x) (omega (arith, length-drop 32 x)))
     ∙ take-append-drop 32 x)
-
-pub slots-taken : {x : List ℕ} (slots : List Slot) (s : List ℕ) → slots ≡ slotsFrom 5 x → x ≡ fit 165 s → slotsBytes slots ≡ x
-slots-taken {x} slots s e f = ap slotsBytes e ∙ slots-again 5 x (ap length f ∙ length-tabulate 165 (λ k. getD s k 0))

@@ -1,7 +1,7 @@
 // A card as the 529 bytes of its record (docs/LAYOUT.md), and a session as its 80 bytes, for the soft card: from the structs and back.
 // Every length and place is in bytes.
-// Proved: the bytes of a card are its fields in the order of the layout, and the card of any 529 bytes is the one whose bytes they are;
-// likewise for a session and its 80 bytes.
+// Proved: the bytes of a card are its fields in the layout's order (`cardFlat`), the card of 529 bytes has each field from its place in the
+// layout (`cardAt`), its bytes are those given, and the card of a card's bytes is that card. A session likewise.
 mod parts;
 
 ghost use mathlib.Core.Path.{_≡_};
@@ -9,6 +9,7 @@ ghost use mathlib.Core.List.{_++_};
 ghost use Prim.Native.Nat.{_+_, _≤_};
 ghost use lib.ListN.{take};
 ghost use Rattle.card_bytes.specs.Flat.{identityFlat, pinsFlat, pairingFlat, pathFlat, keysFlat, channelFlat, cardFlat, sessionFlat};
+ghost use Rattle.card_bytes.specs.Places.{identityAt, pinsAt, pairingAt, pathAt, keysAt, channelAt, cardAt, sessionAt};
 use card::Card;
 use card::Channel;
 use card::Identity;
@@ -62,9 +63,9 @@ const SESSION_MAC_KEY: usize = 32;
 
 const SESSION_IV: usize = 64;
 
-// ---- from bytes: each function reads one part of the card, behind what lies before it in the record
+// ---- from bytes: each function reads one part of the card, at its place
 fn identity_of(s: [u8; CARD_BYTES]) -> Identity
-    ensures { λ r. ⌜ take 1 s ++ identityFlat r ≡ take 82 s ⌝ }
+    ensures { λ r. ⌜ r ≡ identityAt s ⌝ }
 {
     let mut uid = [0u8; card::UID_BYTES];
     let mut public_key = [0u8; card::PUBLIC_KEY_BYTES];
@@ -74,7 +75,7 @@ fn identity_of(s: [u8; CARD_BYTES]) -> Identity
 }
 
 fn pins_of(s: [u8; CARD_BYTES]) -> Pins
-    ensures { λ r. ⌜ take 82 s ++ pinsFlat r ≡ take 103 s ⌝ }
+    ensures { λ r. ⌜ r ≡ pinsAt s ⌝ }
 {
     let mut pin = [0u8; card::PIN_BYTES];
     let mut puk = [0u8; card::PUK_BYTES];
@@ -90,7 +91,7 @@ fn pins_of(s: [u8; CARD_BYTES]) -> Pins
 }
 
 fn pairing_of(s: [u8; CARD_BYTES]) -> Pairing
-    ensures { λ r. ⌜ take 103 s ++ pairingFlat r ≡ take 333 s ⌝ }
+    ensures { λ r. ⌜ r ≡ pairingAt s ⌝ }
 {
     let mut secret = [0u8; card::KEY_BYTES];
     let mut content = [0u8; SLOTS_BYTES];
@@ -109,7 +110,7 @@ fn pairing_of(s: [u8; CARD_BYTES]) -> Pairing
 
 fn path_of(s: [u8; CARD_BYTES], at: usize) -> Path
     requires { ⌜ at + 41 ≤ 529 ⌝ }
-    ensures { λ r. ⌜ take at s ++ pathFlat r ≡ take (at + 41) s ⌝ }
+    ensures { λ r. ⌜ r ≡ pathAt at s ⌝ }
 {
     let mut bytes = [0u8; card::PATH_MAX_BYTES];
     fill(&mut bytes, &s, at + 1);
@@ -117,7 +118,7 @@ fn path_of(s: [u8; CARD_BYTES], at: usize) -> Path
 }
 
 fn keys_of(s: [u8; CARD_BYTES]) -> Keys
-    ensures { λ r. ⌜ take 333 s ++ keysFlat r ≡ take 448 s ⌝ }
+    ensures { λ r. ⌜ r ≡ keysAt s ⌝ }
 {
     let mut uid = [0u8; card::KEY_BYTES];
     fill(&mut uid, &s, KEYS + 1);
@@ -132,7 +133,7 @@ fn keys_of(s: [u8; CARD_BYTES]) -> Keys
 }
 
 fn channel_of(s: [u8; CARD_BYTES]) -> Channel
-    ensures { λ r. ⌜ take 448 s ++ channelFlat r ≡ s ⌝ }
+    ensures { λ r. ⌜ r ≡ channelAt s ⌝ }
 {
     let mut enc_key = [0u8; card::KEY_BYTES];
     let mut mac_key = [0u8; card::KEY_BYTES];
@@ -150,7 +151,7 @@ fn channel_of(s: [u8; CARD_BYTES]) -> Channel
 
 // The card of these bytes, sound or not.
 pub fn card_of(bytes: [u8; CARD_BYTES]) -> Card
-    ensures { λ r. ⌜ cardFlat r ≡ bytes ⌝ }
+    ensures { λ r. ⌜ (cardFlat r ≡ bytes) × (r ≡ cardAt bytes) ⌝ }
 {
     let initialised = bytes[0];
     let identity = identity_of(bytes);
@@ -170,7 +171,7 @@ pub fn card_of(bytes: [u8; CARD_BYTES]) -> Card
 
 // The session of these bytes.
 pub fn session_of(bytes: [u8; SESSION_BYTES]) -> Session
-    ensures { λ r. ⌜ sessionFlat r ≡ bytes ⌝ }
+    ensures { λ r. ⌜ (sessionFlat r ≡ bytes) × (r ≡ sessionAt bytes) ⌝ }
 {
     let mut enc_key = [0u8; 32];
     let mut mac_key = [0u8; 32];

@@ -1,13 +1,12 @@
--- The first byte, and the five parts behind it.
+-- Each part is read at its place, and the bytes of that card are those given, by `card-read`.
 -- Assumes nothing.
 use mathlib.Core.Path.{_≡_}
-use mathlib.Core.List.{List, []}
+use mathlib.Core.List.{List}
 use Prim.Native.Nat.{ℕ}
-use native.Mathlib.Omega.{arith}
 use lib.ListN.{length}
+use Rattle.card_bytes.specs.Places.{cardAt}
+use Rattle.card_bytes.proofs.Trips.{card-read}
 use borrow.Author.Needs.{needs}
-use Rattle.card_bytes.proofs.Grown.{join, read-byte}
-use Rattle.card_bytes.specs.Flat.{cardFlat}
 use Rattle.card_bytes.proofs.card_of.Statement.{statement}
 use Rattle.card_bytes.proofs.card_of.Tie as tie
 
@@ -30,18 +29,10 @@ channel-of-requires : tie.Need-channel-of-requires
 channel-of-requires c κs = search needs
 
 returns : tie.Need-returns
-unfolding cardFlat
+unfolding cardAt
 returns c = let s : List ℕ = c .before .before .before .before .before .args .t1 in
     let l : length s ≡ 529 = search needs in
-    join [] _ _
-    (join [] _ _
-    (join [] _ _
-    (join [] _ _
-    (join [] _ _ (read-byte s 0 (omega arith)) (c .before .before .before .before .identity-of .ensures))
-    (c .before .before .before .pins-of .ensures))
-    (c .before .before .pairing-of .ensures))
-    (c .before .keys-of .ensures))
-    (c .channel-of .ensures)
+    card-read s l (rw (c .before .before .before .before .identity-of .ensures, c .before .before .before .pins-of .ensures, c .before .before .pairing-of .ensures, c .before .keys-of .ensures, c .channel-of .ensures))
 
 pub card-of-spec : {M : Type 1} → statement M
 card-of-spec =

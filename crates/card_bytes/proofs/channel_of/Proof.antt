@@ -1,13 +1,6 @@
--- Four fields, each read behind the one before it, and the last ends the record.
+-- Each field is read at its place.
 -- Assumes nothing.
-use mathlib.Core.Path.{_≡_, _∙_}
-use mathlib.Core.List.{List}
-use Prim.Native.Nat.{ℕ}
-use native.Mathlib.Omega.{arith}
-use lib.ListN.{length, take}
-use lib.Seq.{take-all}
 use borrow.Author.Needs.{needs}
-use Rattle.card_bytes.proofs.Grown.{join, read-byte, read-bytes}
 use Rattle.card_bytes.proofs.channel_of.Statement.{statement}
 use Rattle.card_bytes.proofs.channel_of.Tie as tie
 
@@ -42,14 +35,7 @@ array-read-t21 : tie.Need-array-read-t21
 array-read-t21 c = search needs
 
 returns : tie.Need-returns
-returns c = let s : List ℕ = c .before .before .before .before .before .before .before .before .before .before .before .before .args .t1 in
-    let l : length s ≡ 529 = search needs in
-    join (take 448 s) _ _
-    (join (take 448 s) _ _
-    (join (take 448 s) _ _ (read-byte s 448 (omega arith)) (read-bytes s 449 32 (omega arith) (c .before .before .before .before .before .before .before .before .before .fill .ensures)))
-    (read-bytes s 481 32 (omega arith) (c .before .before .before .before .before .fill2 .ensures)))
-    (read-bytes s 513 16 (omega arith) (c .before .fill3 .ensures))
-    ∙ take-all 529 s (omega arith)
+returns c = rw (c .before .before .before .before .before .before .before .before .before .fill .ensures, c .before .before .before .before .before .fill2 .ensures, c .before .fill3 .ensures)
 
 pub channel-of-spec : {M : Type 1} → statement M
 channel-of-spec =

@@ -1,12 +1,6 @@
--- Two fields, each read behind the one before it.
+-- Each field is read at its place.
 -- Assumes nothing.
-use mathlib.Core.Path.{_≡_}
-use mathlib.Core.List.{List}
-use Prim.Native.Nat.{ℕ}
-use native.Mathlib.Omega.{arith}
-use lib.ListN.{length, take}
 use borrow.Author.Needs.{needs}
-use Rattle.card_bytes.proofs.Grown.{join, read-bytes}
 use Rattle.card_bytes.proofs.identity_of.Statement.{statement}
 use Rattle.card_bytes.proofs.identity_of.Tie as tie
 
@@ -32,9 +26,7 @@ fill-requires-2 : tie.Need-fill-requires-2
 fill-requires-2 c κs = search needs
 
 returns : tie.Need-returns
-returns c = let s : List ℕ = c .before .before .before .before .before .before .before .before .args .t1 in
-    let l : length s ≡ 529 = search needs in
-    join (take 1 s) _ _ (read-bytes s 1 16 (omega arith) (c .before .before .before .before .before .fill .ensures)) (read-bytes s 17 65 (omega arith) (c .before .fill2 .ensures))
+returns c = rw (c .before .before .before .before .before .fill .ensures, c .before .fill2 .ensures)
 
 pub identity-of-spec : {M : Type 1} → statement M
 identity-of-spec =

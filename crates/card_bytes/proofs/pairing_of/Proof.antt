@@ -1,12 +1,9 @@
--- Four fields, each read behind the one before it; the slots of bytes are those bytes again.
+-- Each field is read at its place.
 -- Assumes nothing.
-use mathlib.Core.Path.{_≡_, ap, _∙_}
-use mathlib.Core.List.{List, _++_}
-use Prim.Native.Nat.{ℕ}
-use native.Mathlib.Omega.{arith}
-use lib.ListN.{length, take, drop}
+use mathlib.Core.Path.{ap, _∙_}
+use Rattle.card.specs.State.{slotCount}
+use Rattle.record.specs.Parse.{slotsFrom}
 use borrow.Author.Needs.{needs}
-use Rattle.card_bytes.proofs.Grown.{join, read-byte, read-bytes, slots-taken}
 use Rattle.card_bytes.proofs.pairing_of.Statement.{statement}
 use Rattle.card_bytes.proofs.pairing_of.Tie as tie
 
@@ -47,13 +44,7 @@ array-read-t25 : tie.Need-array-read-t25
 array-read-t25 c = search needs
 
 returns : tie.Need-returns
-returns c = let s : List ℕ = c .before .before .before .before .before .before .before .before .before .before .before .before .before .args .t1 in
-    let l : length s ≡ 529 = search needs in
-    join (take 103 s) _ _
-    (join (take 103 s) _ _ (read-bytes s 103 32 (omega arith) (c .before .before .before .before .before .before .before .before .before .before .fill .ensures))
-    (ap (λ (x : List ℕ). take 135 s ++ x) (slots-taken _ (drop 135 s) (c .slots-from .ensures) (c .before .before .before .before .before .before .fill2 .ensures))
-    ∙ read-bytes s 135 165 (omega arith) (c .before .before .before .before .before .before .fill2 .ensures)))
-    (join (take 300 s) _ _ (read-byte s 300 (omega arith)) (read-bytes s 301 32 (omega arith) (c .before .before .fill3 .ensures)))
+returns c = rw (c .before .before .before .before .before .before .before .before .before .before .fill .ensures, c .slots-from .ensures ∙ ap (slotsFrom slotCount) (c .before .before .before .before .before .before .fill2 .ensures), c .before .before .fill3 .ensures)
 
 pub pairing-of-spec : {M : Type 1} → statement M
 pairing-of-spec =

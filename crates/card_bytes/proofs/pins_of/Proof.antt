@@ -1,12 +1,6 @@
--- Two fields and three bytes, each read behind what is before it.
+-- Each field is read at its place.
 -- Assumes nothing.
-use mathlib.Core.Path.{_≡_}
-use mathlib.Core.List.{List}
-use Prim.Native.Nat.{ℕ}
-use native.Mathlib.Omega.{arith}
-use lib.ListN.{length, take}
 use borrow.Author.Needs.{needs}
-use Rattle.card_bytes.proofs.Grown.{join, read-byte, read-bytes}
 use Rattle.card_bytes.proofs.pins_of.Statement.{statement}
 use Rattle.card_bytes.proofs.pins_of.Tie as tie
 
@@ -41,11 +35,7 @@ array-read-t25 : tie.Need-array-read-t25
 array-read-t25 c = search needs
 
 returns : tie.Need-returns
-returns c = let s : List ℕ = c .before .before .before .before .before .before .before .before .args .t1 in
-    let l : length s ≡ 529 = search needs in
-    join (take 82 s) _ _
-    (join (take 82 s) _ _ (read-bytes s 82 6 (omega arith) (c .before .before .before .before .before .fill .ensures)) (read-bytes s 88 12 (omega arith) (c .before .fill2 .ensures)))
-    (join (take 100 s) _ _ (read-byte s 100 (omega arith)) (join (take 101 s) _ _ (read-byte s 101 (omega arith)) (read-byte s 102 (omega arith))))
+returns c = rw (c .before .before .before .before .before .fill .ensures, c .before .fill2 .ensures)
 
 pub pins-of-spec : {M : Type 1} → statement M
 pins-of-spec =

@@ -1,14 +1,12 @@
--- Three fields, each read behind the one before it, and the last ends the bytes.
+-- Each field is read at its place, and the bytes of that session are those given, by `session-read`.
 -- Assumes nothing.
-use mathlib.Core.Path.{_≡_, _∙_}
+use mathlib.Core.Path.{_≡_}
 use mathlib.Core.List.{List}
 use Prim.Native.Nat.{ℕ}
-use native.Mathlib.Omega.{arith}
-use lib.ListN.{length, take}
-use lib.Seq.{take-all}
+use lib.ListN.{length}
+use Rattle.card_bytes.specs.Places.{sessionAt}
+use Rattle.card_bytes.proofs.Trips.{session-read}
 use borrow.Author.Needs.{needs}
-use Rattle.card_bytes.proofs.Grown.{join, read-bytes}
-use Rattle.card_bytes.specs.Flat.{sessionFlat}
 use Rattle.card_bytes.proofs.session_of.Statement.{statement}
 use Rattle.card_bytes.proofs.session_of.Tie as tie
 
@@ -40,13 +38,10 @@ fill-requires-3 : tie.Need-fill-requires-3
 fill-requires-3 c κs = search needs
 
 returns : tie.Need-returns
-unfolding sessionFlat
+unfolding sessionAt
 returns c = let s : List ℕ = c .before .before .before .before .before .before .before .before .before .before .before .before .args .t1 in
     let l : length s ≡ 80 = search needs in
-    join (take 0 s) _ _
-    (join (take 0 s) _ _ (read-bytes s 0 32 (omega arith) (c .before .before .before .before .before .before .before .before .before .fill .ensures)) (read-bytes s 32 32 (omega arith) (c .before .before .before .before .before .fill2 .ensures)))
-    (read-bytes s 64 16 (omega arith) (c .before .fill3 .ensures))
-    ∙ take-all 80 s (omega arith)
+    session-read s l (rw (c .before .before .before .before .before .before .before .before .before .fill .ensures, c .before .before .before .before .before .fill2 .ensures, c .before .fill3 .ensures))
 
 pub session-of-spec : {M : Type 1} → statement M
 session-of-spec =
