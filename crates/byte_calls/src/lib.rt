@@ -1,6 +1,21 @@
 // The public operations over a card of 529 bytes and a session of 80 bytes, by value, for the soft card.
 // Every length, room and count is in bytes.
-// Proved: every function is safe and ends. What the operations give is proved in the crates below.
+// Proved: each call is the operation on the card whose bytes are given, by the layout's places (`cardAt`), and its next card is given as its
+// bytes (`cardFlat`); on a session likewise.
+ghost use mathlib.Core.Path.{_≡_};
+ghost use lib.ListN.{length};
+ghost use Rattle.card.specs.State.{freshOf};
+ghost use Rattle.card.specs.Sound.{isSound};
+ghost use Rattle.message.specs.Terminal.{sealOut, unsealOut};
+ghost use Rattle.sound.specs.Reset.{resetAnswer};
+ghost use Rattle.record.specs.Answers.{readAnswer};
+ghost use Rattle.record_write.specs.Wrote.{Wrote};
+ghost use Rattle.walk.specs.Walk.{WALK};
+ghost use Rattle.rules.specs.Engine.{askOut, answerOut};
+ghost use Rattle.responses.specs.Did.{AskDid};
+ghost use Rattle.card_bytes.specs.Flat.{cardFlat};
+ghost use Rattle.card_bytes.specs.Places.{cardAt, sessionAt};
+ghost use Rattle.byte_calls.specs.Calls.{answerFlat, writtenOf, CardDid, SessionDid};
 use card::Card;
 use card_bytes::CARD_BYTES;
 use card_bytes::SESSION_BYTES;
@@ -29,18 +44,24 @@ pub struct Told {
 pub fn fresh(
     uid: [u8; card::UID_BYTES],
     public_key: [u8; card::PUBLIC_KEY_BYTES],
-) -> [u8; CARD_BYTES] {
+) -> [u8; CARD_BYTES]
+    ensures { λ r. ⌜ r ≡ cardFlat (freshOf uid «public_key») ⌝ }
+{
     let new = Card::fresh(uid, public_key);
     card_bytes::record_of(new)
 }
 
-pub fn sound(record: [u8; CARD_BYTES]) -> bool {
-    let found = card_bytes::card_of(record);
+pub fn sound(bytes: [u8; CARD_BYTES]) -> bool
+    ensures { λ r. ⌜ r ≡ isSound (cardAt bytes) ⌝ }
+{
+    let found = card_bytes::card_of(bytes);
     sound::sound(found)
 }
 
-pub fn reset(record: [u8; CARD_BYTES]) -> Answered {
-    let found = card_bytes::card_of(record);
+pub fn reset(bytes: [u8; CARD_BYTES]) -> Answered
+    ensures { λ r. ⌜ r ≡ answerFlat (resetAnswer (cardAt bytes)) ⌝ }
+{
+    let found = card_bytes::card_of(bytes);
     let r = sound::reset(found);
     let card = card_bytes::record_of(r.card);
     Answered {
@@ -50,24 +71,31 @@ pub fn reset(record: [u8; CARD_BYTES]) -> Answered {
     }
 }
 
-pub fn ask(record: [u8; CARD_BYTES], cmd: &[u8], buf: &mut [u8]) -> Asked {
-    let found = card_bytes::card_of(record);
+pub fn ask(bytes: [u8; CARD_BYTES], cmd: &[u8], buf: &mut [u8]) -> Asked
+    ensures { λ r. ⌜ AskDid (askOut (cardAt bytes) (now (cmd .entry)) (length (now (buf .entry)))) r (now (buf .entry)) (now (buf .exit)) ⌝ }
+{
+    let found = card_bytes::card_of(bytes);
     engine::ask(found, cmd, buf)
 }
 
-pub fn answer(record: [u8; CARD_BYTES], cmd: &[u8], supply: &[u8], buf: &mut [u8]) -> Answered {
-    let found = card_bytes::card_of(record);
+pub fn answer(bytes: [u8; CARD_BYTES], cmd: &[u8], supply: &[u8], buf: &mut [u8]) -> Answered
+    ensures { λ r. ⌜ CardDid (answerOut (cardAt bytes) (now (cmd .entry)) (now (supply .entry)) (length (now (buf .entry)))) r
+        (now (buf .entry)) (now (buf .exit)) ⌝ }
+{
+    let found = card_bytes::card_of(bytes);
     let r = engine::answer(found, cmd, supply, buf);
-    let card = card_bytes::record_of(r.card);
+    let next = card_bytes::record_of(r.card);
     Answered {
         refusal: r.refusal,
         count: r.count,
-        card,
+        card: next,
     }
 }
 
-pub fn write(record: [u8; CARD_BYTES], buf: &mut [u8]) -> Told {
-    let found = card_bytes::card_of(record);
+pub fn write(bytes: [u8; CARD_BYTES], buf: &mut [u8]) -> Told
+    ensures { λ r. ⌜ Wrote (cardAt bytes) (writtenOf r) (now (buf .entry)) (now (buf .exit)) ⌝ }
+{
+    let found = card_bytes::card_of(bytes);
     let r = record_write::write(found, buf);
     Told {
         refusal: r.refusal,
@@ -75,7 +103,9 @@ pub fn write(record: [u8; CARD_BYTES], buf: &mut [u8]) -> Told {
     }
 }
 
-pub fn read(stored: &[u8]) -> Answered {
+pub fn read(stored: &[u8]) -> Answered
+    ensures { λ r. ⌜ r ≡ answerFlat (readAnswer (now (stored .entry))) ⌝ }
+{
     let r = record_read::read(stored);
     let card = card_bytes::record_of(r.card);
     Answered {
@@ -86,9 +116,11 @@ pub fn read(stored: &[u8]) -> Answered {
 }
 
 // The header is CLA INS P1 P2.
-pub fn seal(session: [u8; SESSION_BYTES], header: [u8; 4], plain: &[u8], buf: &mut [u8]) -> Sealed {
+pub fn seal(session: [u8; SESSION_BYTES], header: [u8; 4], plain: &[u8], buf: &mut [u8]) -> Sealed
+    ensures { λ r. ⌜ SessionDid (sealOut (sessionAt session) header (now (plain .entry)) (length (now (buf .entry)))) r (now (buf .entry)) (now (buf .exit)) ⌝ }
+{
     let found = card_bytes::session_of(session);
-    let r = terminal::seal(
+    let sealed = terminal::seal(
         found,
         header[0],
         header[1],
@@ -97,26 +129,30 @@ pub fn seal(session: [u8; SESSION_BYTES], header: [u8; 4], plain: &[u8], buf: &m
         plain,
         buf,
     );
-    let next = card_bytes::session_bytes(r.session);
+    let next = card_bytes::session_bytes(sealed.session);
     Sealed {
-        refusal: r.refusal,
-        count: r.count,
+        refusal: sealed.refusal,
+        count: sealed.count,
         session: next,
     }
 }
 
-pub fn unseal(session: [u8; SESSION_BYTES], response: &[u8], buf: &mut [u8]) -> Sealed {
+pub fn unseal(session: [u8; SESSION_BYTES], response: &[u8], buf: &mut [u8]) -> Sealed
+    ensures { λ r. ⌜ SessionDid (unsealOut (sessionAt session) (now (response .entry)) (length (now (buf .entry)))) r (now (buf .entry)) (now (buf .exit)) ⌝ }
+{
     let found = card_bytes::session_of(session);
-    let r = terminal::unseal(found, response, buf);
-    let next = card_bytes::session_bytes(r.session);
+    let opened = terminal::unseal(found, response, buf);
+    let next = card_bytes::session_bytes(opened.session);
     Sealed {
-        refusal: r.refusal,
-        count: r.count,
+        refusal: opened.refusal,
+        count: opened.count,
         session: next,
     }
 }
 
-pub fn walk(input: &[u8]) -> Told {
+pub fn walk(input: &[u8]) -> Told
+    ensures { λ r. ⌜ (r .refusal ≡ WALK (now (input .entry)) .refusal) × (r .count ≡ WALK (now (input .entry)) .count) ⌝ }
+{
     let w = walk::walk(input);
     let refusal = walk::refusal(w);
     let count = walk::count(w);

@@ -1,71 +1,47 @@
-// Parts of a slice as arrays, by their place. Where the slice has ended there are zeros.
+// Parts of a slice by their place, in bytes. Where the slice has ended there are zeros.
+ghost use mathlib.Core.Path.{_≡_};
+ghost use Prim.Native.Nat.{min};
+ghost use lib.ListN.{length, take, drop, getD};
+ghost use Rattle.octets.specs.Bytes.{overwrite};
+ghost use Rattle.record.specs.Parse.{fit};
 
-pub fn behind(at: usize, n_bytes: usize) -> usize {
-    std::num::wrapping_add_usize(at, n_bytes)
-}
-
-pub fn byte(s: &[u8], at: usize) -> u8 {
-    if at < s.len() { s[at] } else { 0 }
+// The byte number i behind the place `at`.
+fn byte_behind(s: &[u8], at: usize, i: usize) -> u8
+    ensures { λ r. ⌜ r ≡ getD (drop at (now (s .entry))) i 0 ⌝ }
+{
+    if s.len() <= at {
+        return 0;
+    }
+    if s.len() - at <= i {
+        return 0;
+    }
+    s[at + i]
 }
 
 // Fills dst from s, from byte `at` of it on.
-pub fn fill(dst: &mut [u8], s: &[u8], at: usize) {
+pub fn fill(dst: &mut [u8], s: &[u8], at: usize)
+    ensures { λ _. ⌜ now (dst .exit) ≡ fit (length (now (dst .entry))) (drop at (now (s .entry))) ⌝ }
+{
     let mut i = 0;
     while i < dst.len() {
-        let b = byte(s, behind(at, i));
+        let b = byte_behind(s, at, i);
         dst[i] = b;
         i += 1;
     }
 }
 
-// A byte at its place, where dst goes so far.
-fn store(dst: &mut [u8], at: usize, b: u8) {
-    if at < dst.len() {
-        dst[at] = b;
-    }
+// The lesser of two numbers.
+fn least(a: usize, b: usize) -> usize
+    ensures { λ r. ⌜ r ≡ min a b ⌝ }
+{
+    if a < b { a } else { b }
 }
 
 // Puts src into dst, from byte `at` on, as far as dst goes.
-pub fn place(dst: &mut [u8], at: usize, src: &[u8]) {
-    let mut i = 0;
-    while i < src.len() {
-        store(dst, behind(at, i), src[i]);
-        i += 1;
-    }
-}
-
-pub fn bytes6(s: &[u8], at: usize) -> [u8; 6] {
-    let mut r = [0u8; 6];
-    fill(&mut r, s, at);
-    r
-}
-
-pub fn bytes12(s: &[u8], at: usize) -> [u8; 12] {
-    let mut r = [0u8; 12];
-    fill(&mut r, s, at);
-    r
-}
-
-pub fn bytes16(s: &[u8], at: usize) -> [u8; 16] {
-    let mut r = [0u8; 16];
-    fill(&mut r, s, at);
-    r
-}
-
-pub fn bytes32(s: &[u8], at: usize) -> [u8; 32] {
-    let mut r = [0u8; 32];
-    fill(&mut r, s, at);
-    r
-}
-
-pub fn bytes40(s: &[u8], at: usize) -> [u8; 40] {
-    let mut r = [0u8; 40];
-    fill(&mut r, s, at);
-    r
-}
-
-pub fn bytes65(s: &[u8], at: usize) -> [u8; 65] {
-    let mut r = [0u8; 65];
-    fill(&mut r, s, at);
-    r
+pub fn place(dst: &mut [u8], at: usize, src: &[u8])
+    ensures { λ _. ⌜ now (dst .exit) ≡ take (length (now (dst .entry))) (overwrite (now (dst .entry)) at (now (src .entry))) ⌝ }
+{
+    let from = least(at, dst.len());
+    let n = least(src.len(), dst.len() - from);
+    octets::put(dst, from, &src[..n]);
 }

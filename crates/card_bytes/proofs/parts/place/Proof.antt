@@ -1,57 +1,43 @@
--- `parts::place` is safe and ends. A store keeps the length; the measure is what is left of the source.
+-- What fits is written over the list, by `placed`.
 -- Assumes nothing.
-use Prim.Native.Nat.{_-_, _≤_, _+_}
-use mathlib.Core.Path.{_≡_}
-use lib.ListN.{length}
+use mathlib.Core.Path.{sym, _∙_}
+use native.Mathlib.Omega.{arith}
+use lib.Seq.{length-take-le}
 use borrow.Author.Needs.{needs}
+use Rattle.card_bytes.proofs.Placed.{placed}
 use Rattle.card_bytes.proofs.parts.place.Statement.{statement}
 use Rattle.card_bytes.proofs.parts.place.Tie as tie
 
-abbrev Inv-loop : tie.InvT-loop
-Inv-loop dst₀ at src i₀ dst i = length dst ≡ length dst₀
+least-requires : tie.Need-least-requires
+least-requires c κs = search needs
 
-abbrev μ-loop : tie.MeasureT-loop
-μ-loop dst₀ at src i₀ dst i = length src - i
+sub-least : tie.Need-sub-least
+sub-least c = search needs
 
-loop-holds : tie.Need-loop-holds Inv-loop μ-loop
-loop-holds c = search needs
+least-requires-2 : tie.Need-least-requires-2
+least-requires-2 c κs = search needs
 
-behind-requires : tie.Need-behind-requires Inv-loop μ-loop
-behind-requires c κs = search needs
+slice-aggregate-put : tie.Need-slice-aggregate-put
+slice-aggregate-put c = sym (length-take-le (c .before .before .least2 .result) (c .before .before .before .before .before .before .args .src .now) (omega arith))
 
-shared-slice-read-store : tie.Need-shared-slice-read-store Inv-loop μ-loop
-shared-slice-read-store c = search needs
+put-requires : tie.Need-put-requires
+put-requires c κs = omega (arith, slice-aggregate-put c)
 
-store-requires : tie.Need-store-requires Inv-loop μ-loop
-store-requires c κs = search needs
-
-add-i : tie.Need-add-i Inv-loop μ-loop
-add-i c = search needs
-
-loop-less : tie.Need-loop-less Inv-loop μ-loop
-loop-less c = search needs
-
-loop-again : tie.Need-loop-again Inv-loop μ-loop
-loop-again c = search needs
-
-same-length : tie.Need-same-length Inv-loop μ-loop
+same-length : tie.Need-same-length
 same-length c = search needs
 
-returns : tie.Need-returns Inv-loop μ-loop
-returns c = search needs
+returns : tie.Need-returns
+returns c = let g = c .before .before .before .before .before .before .before .before .before .args in
+    c .before .before .put .ensures ∙ placed (g .dst .now) (g .src .now) (g .at) (c .before .before .before .before .before .before .least .ensures) (c .before .before .before .before .before .least2 .ensures)
 
 pub place-spec : {M : Type 1} → statement M
 place-spec =
     tie.close
     (tie.spec
-    Inv-loop
-    μ-loop
-    loop-holds
-    behind-requires
-    shared-slice-read-store
-    store-requires
-    add-i
-    loop-less
-    loop-again
+    least-requires
+    sub-least
+    least-requires-2
+    slice-aggregate-put
+    put-requires
     same-length
     returns)
