@@ -128,7 +128,12 @@ module _ {w last out₀ out : List ℕ} {at len : ℕ} (j : Joining w last out�
           ∙ overwrite-next out₀ 0 len (j .there) (m .bytes) (omega (arith, j .long)) fits-all
 
       pub ended : r ≡ length w → Reads (joined last (length out₀) [] (piecesIn w)) fault end out₀ after
-      ended l = record { told = h ∙ ap (λ (x : Meant). x .fault) (sym is); long = λ e. long-all ∙ ap (λ (x : Meant). length (x .bytes)) (sym is); left = λ e. kept-all ∙ ap (λ (x : Meant). overwrite out₀ 0 (x .bytes)) (sym is) }
+      ended l =
+          record {
+            told = h ∙ ap (λ (x : Meant). x .fault) (sym is);
+            long = λ e. long-all ∙ ap (λ (x : Meant). length (x .bytes)) (sym is);
+            left = λ e. kept-all ∙ ap (λ (x : Meant). overwrite out₀ 0 (x .bytes)) (sym is);
+          }
         where
           is : joined last (length out₀) [] (piecesIn w) ≡ taken all
           is = on ∙ ap (joined last (length out₀) all) (later-none w at r f l)

@@ -36,13 +36,18 @@ abbrev pub allHex : List ℕ → Bool
 allHex [] = true
 allHex (c ∷ s) = ltb (digitOf c) 16 && allHex s
 
+abbrev pub isPairs : List ℕ → Bool
+isPairs p = ltb 0 (length p / 2) && (eqb (length p) (2 * (length p / 2)) && allHex p)
+
 unfoldable pub pairs : List ℕ → Meant
-pairs p = cond (ltb 0 (length p / 2) && (eqb (length p) (2 * (length p / 2)) && allHex p)) (taken (bytesOf (length p / 2) p)) form
+pairs p = cond (isPairs p) (taken (bytesOf (length p / 2) p)) form
 
 -- `00*32` and `A0+16`: a byte, a sign, and how many bytes; each is by `step` more than the one before it
+abbrev pub isCounted : List ℕ → Bool
+isCounted p = ltb (high p 0) 16 && (ltb (low p 0) 16 && isNumber (drop 3 p))
+
 unfoldable pub counted : ℕ → List ℕ → Meant
-counted step p =
-    cond (ltb (high p 0) 16 && (ltb (low p 0) 16 && isNumber (drop 3 p))) (taken (stepped (byteOf p 0) step (numberOf (drop 3 p)))) form
+counted step p = cond (isCounted p) (taken (stepped (byteOf p 0) step (numberOf (drop 3 p)))) form
 
 -- `last`; `*`, which is 42, or `+`, which is 43, behind two characters; or digits
 unfoldable pub pieceOf : List ℕ → List ℕ → Meant

@@ -25,7 +25,8 @@ same-length c = search needs
 
 returns-2 : tie.Need-returns-2
 returns-2 c = let a = c .before .before .before .before .before .before .before .before .before .before .args in
-    reads-pieces (a .last .now) (a .w .now) (length (a .out .now)) (sym (c .before .before .before .before .before .same .ensures) ∙ c .before .before .before .before .if1 .left) (c .before .before .pieces .ensures)
+    let other = sym (c .before .before .before .before .before .same .ensures) ∙ c .before .before .before .before .if1 .left in
+    reads-pieces (a .last .now) (a .w .now) (length (a .out .now)) other (c .before .before .pieces .ensures)
 
 pub bytes-of-spec : {M : Type 1} → statement M
 bytes-of-spec =

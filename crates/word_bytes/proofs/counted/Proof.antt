@@ -32,7 +32,9 @@ returns c = let a = c .before .before .before .before .before .before .before .a
 
 returns-2 : tie.Need-returns-2
 returns-2 c = let a = c .before .before .before .before .before .before .before .before .args in
-    bad-form (length (a .out .now) - a .len) (counted-low (a .step) (a .p .now) (omega (arith, c .before .before .before .before .hex-digit .ensures)) (omega (arith, c .before .before .hex-digit2 .ensures)))
+    let hi = c .before .before .before .before .hex-digit .ensures in
+    let lo = c .before .before .hex-digit2 .ensures in
+    bad-form (length (a .out .now) - a .len) (counted-low (a .step) (a .p .now) (omega (arith, hi)) (omega (arith, lo)))
 
 sub-number : tie.Need-sub-number
 sub-number c = search needs
@@ -48,7 +50,10 @@ number-requires c κs = search needs
 
 returns-3 : tie.Need-returns-3
 returns-3 c = let a = c .before .before .before .before .before .before .before .before .before .before .before .args in
-    bad-form (length (a .out .now) - a .len) (counted-none (a .step) (a .p .now) (omega (arith, c .before .before .before .before .before .before .before .hex-digit .ensures)) (omega (arith, c .before .before .before .before .before .hex-digit2 .ensures)) (ap numberOf (sym (tail-is 3 (a .p .now))) ∙ sym (c .before .number .ensures) ∙ c .if3 .taken))
+    let hi = c .before .before .before .before .before .before .before .hex-digit .ensures in
+    let lo = c .before .before .before .before .before .hex-digit2 .ensures in
+    let none : numberOf (drop 3 (a .p .now)) ≡ 9999 = ap numberOf (sym (tail-is 3 (a .p .now))) ∙ sym (c .before .number .ensures) ∙ c .if3 .taken in
+    bad-form (length (a .out .now) - a .len) (counted-none (a .step) (a .p .now) (omega (arith, hi)) (omega (arith, lo)) none)
 
 hex-byte-requires : tie.Need-hex-byte-requires
 hex-byte-requires c κs = search needs
@@ -64,11 +69,12 @@ returns-4 c = let a = c .before .before .before .before .before .before .before 
     let p : List ℕ = a .p .now in
     let hi = c .before .before .before .before .before .before .before .before .before .before .before .before .hex-digit .ensures in
     let lo = c .before .before .before .before .before .before .before .before .before .before .hex-digit2 .ensures in
-    let first : c .before .before .before .before .hex-byte .result ≡ byteOf p 0 = c .before .before .before .before .hex-byte .ensures ∙ ap₂ (λ (x y : ℕ). x * 16 + y) hi lo in
-    let n : c .before .before .before .before .before .before .number .result ≡ numberOf (drop 3 p) = c .before .before .before .before .before .before .number .ensures ∙ ap numberOf (tail-is 3 p) in
-    put-as (length (a .out .now) - a .len)
-    (ap₂ (λ (f k : ℕ). taken (stepped f (a .step) k)) first n ∙ sym (counted-taken (a .step) p (omega (arith, hi)) (omega (arith, lo)) (λ e. c .before .before .before .before .before .if3 .left (n ∙ e))))
-    (c .before .before .run .ensures)
+    let byte = c .before .before .before .before .hex-byte in
+    let number = c .before .before .before .before .before .before .number in
+    let first : byte .result ≡ byteOf p 0 = byte .ensures ∙ ap₂ (λ (x y : ℕ). x * 16 + y) hi lo in
+    let n : number .result ≡ numberOf (drop 3 p) = number .ensures ∙ ap numberOf (tail-is 3 p) in
+    let is = counted-taken (a .step) p (omega (arith, hi)) (omega (arith, lo)) (λ e. c .before .before .before .before .before .if3 .left (n ∙ e)) in
+    put-as (length (a .out .now) - a .len) (ap₂ (λ (f k : ℕ). taken (stepped f (a .step) k)) first n ∙ sym is) (c .before .before .run .ensures)
 
 pub counted-spec : {M : Type 1} → statement M
 counted-spec =

@@ -31,7 +31,8 @@ is-hex-requires c κs = search needs
 
 returns-3 : tie.Need-returns-3
 returns-3 c = let a = c .before .before .before .before .before .before .args in
-    bad-form (length (a .out .now) - a .len) (pairs-other (a .p .now) (omega arith) (omega arith) (sym (c .before .is-hex .ensures) ∙ not-true _ (c .if3 .taken)))
+    let other = sym (c .before .is-hex .ensures) ∙ not-true _ (c .if3 .taken) in
+    bad-form (length (a .out .now) - a .len) (pairs-other (a .p .now) (omega arith) (omega arith) other)
 
 sub-if4 : tie.Need-sub-if4
 sub-if4 c = search needs
@@ -39,7 +40,9 @@ sub-if4 c = search needs
 returns-4 : tie.Need-returns-4
 returns-4 c = let a = c .before .before .before .before .before .before .before .args in
     let p : List ℕ = a .p .now in
-    too-many (length (a .out .now) - a .len) (bytesOf (length p / 2) p) (pairs-taken p (omega arith) (omega arith) (sym (c .before .before .is-hex .ensures) ∙ not-false _ (c .before .if3 .left))) (omega (arith, length-tabulate (length p / 2) (byteOf p)))
+    let hex = sym (c .before .before .is-hex .ensures) ∙ not-false _ (c .before .if3 .left) in
+    let is = pairs-taken p (omega arith) (omega arith) hex in
+    too-many (length (a .out .now) - a .len) (bytesOf (length p / 2) p) is (omega (arith, length-tabulate (length p / 2) (byteOf p)))
 
 add-end : tie.Need-add-end
 add-end c = search needs

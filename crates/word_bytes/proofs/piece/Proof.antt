@@ -23,7 +23,8 @@ same-length c = search needs
 
 returns : tie.Need-returns
 returns c = let a = c .before .before .before .before .before .before .before .before .before .before .args in
-    put-as (length (a .out .now) - a .len) (sym (piece-last (a .last .now) (a .p .now) (sym (c .before .before .before .before .before .same .ensures) ∙ c .before .before .before .before .if1 .taken))) (c .before .before .append .ensures)
+    let is = sym (c .before .before .before .before .before .same .ensures) ∙ c .before .before .before .before .if1 .taken in
+    put-as (length (a .out .now) - a .len) (sym (piece-last (a .last .now) (a .p .now) is)) (c .before .before .append .ensures)
 
 digits-requires : tie.Need-digits-requires
 digits-requires c κs = search needs
@@ -33,7 +34,8 @@ same-length-2 c = search needs
 
 returns-2 : tie.Need-returns-2
 returns-2 c = let a = c .before .before .before .before .before .before .before .before .before .before .before .args in
-    put-as (length (a .out .now) - a .len) (sym (piece-short (a .last .now) (a .p .now) (sym (c .before .before .before .before .before .before .same .ensures) ∙ c .before .before .before .before .before .if1 .left) (omega arith))) (c .before .before .digits .ensures)
+    let other = sym (c .before .before .before .before .before .before .same .ensures) ∙ c .before .before .before .before .before .if1 .left in
+    put-as (length (a .out .now) - a .len) (sym (piece-short (a .last .now) (a .p .now) other (omega arith))) (c .before .before .digits .ensures)
 
 shared-slice-read-if3 : tie.Need-shared-slice-read-if3
 shared-slice-read-if3 c = search needs
@@ -46,7 +48,8 @@ same-length-3 c = search needs
 
 returns-3 : tie.Need-returns-3
 returns-3 c = let a = c .before .before .before .before .before .before .before .before .before .before .before .before .before .args in
-    put-as (length (a .out .now) - a .len) (sym (piece-star (a .last .now) (a .p .now) (sym (c .before .before .before .before .before .before .before .before .same .ensures) ∙ c .before .before .before .before .before .before .before .if1 .left) (c .before .before .before .before .if3 .taken))) (c .before .before .counted .ensures)
+    let other = sym (c .before .before .before .before .before .before .before .before .same .ensures) ∙ c .before .before .before .before .before .before .before .if1 .left in
+    put-as (length (a .out .now) - a .len) (sym (piece-star (a .last .now) (a .p .now) other (c .before .before .before .before .if3 .taken))) (c .before .before .counted .ensures)
 
 shared-slice-read-if4 : tie.Need-shared-slice-read-if4
 shared-slice-read-if4 c = search needs
@@ -59,7 +62,8 @@ same-length-4 c = search needs
 
 returns-4 : tie.Need-returns-4
 returns-4 c = let a = c .before .before .before .before .before .before .before .before .before .before .before .before .before .before .before .args in
-    put-as (length (a .out .now) - a .len) (sym (piece-plus (a .last .now) (a .p .now) (sym (c .before .before .before .before .before .before .before .before .before .before .same .ensures) ∙ c .before .before .before .before .before .before .before .before .before .if1 .left) (c .before .before .before .before .if4 .taken))) (c .before .before .counted2 .ensures)
+    let other = sym (c .before .before .before .before .before .before .before .before .before .before .same .ensures) ∙ c .before .before .before .before .before .before .before .before .before .if1 .left in
+    put-as (length (a .out .now) - a .len) (sym (piece-plus (a .last .now) (a .p .now) other (c .before .before .before .before .if4 .taken))) (c .before .before .counted2 .ensures)
 
 digits-requires-2 : tie.Need-digits-requires-2
 digits-requires-2 c κs = search needs
@@ -69,7 +73,8 @@ same-length-5 c = search needs
 
 returns-5 : tie.Need-returns-5
 returns-5 c = let a = c .before .before .before .before .before .before .before .before .before .before .before .before .before .before .before .args in
-    put-as (length (a .out .now) - a .len) (sym (piece-pairs (a .last .now) (a .p .now) (sym (c .before .before .before .before .before .before .before .before .before .before .same .ensures) ∙ c .before .before .before .before .before .before .before .before .before .if1 .left) (c .before .before .before .before .before .before .if3 .left) (c .before .before .before .before .if4 .left))) (c .before .before .digits2 .ensures)
+    let other = sym (c .before .before .before .before .before .before .before .before .before .before .same .ensures) ∙ c .before .before .before .before .before .before .before .before .before .if1 .left in
+    put-as (length (a .out .now) - a .len) (sym (piece-pairs (a .last .now) (a .p .now) other (c .before .before .before .before .before .before .if3 .left) (c .before .before .before .before .if4 .left))) (c .before .before .digits2 .ensures)
 
 pub piece-spec : {M : Type 1} → statement M
 piece-spec =

@@ -37,13 +37,19 @@ same-length : tie.Need-same-length Inv-loop μ-loop
 same-length c = let e = same-long (c .before .before .before .before .before .before .before .before .before .loop .inv) in search needs
 
 returns : tie.Need-returns Inv-loop μ-loop
-returns c = refused (c .before .before .before .before .before .before .before .before .before .loop .inv) (c .before .before .before .before .before .before .before .place-of .ensures) (c .before .before .before .before .piece .ensures) (c .if1 .taken)
+returns c = let j = c .before .before .before .before .before .before .before .before .before .loop .inv in
+    let f = c .before .before .before .before .before .before .before .place-of .ensures in
+    let q = c .before .before .before .before .piece .ensures in
+    refused j f q (c .if1 .taken)
 
 same-length-2 : tie.Need-same-length-2 Inv-loop μ-loop
 same-length-2 c = let e = same-long (c .before .before .before .before .before .before .before .before .before .before .loop .inv) in search needs
 
 returns-2 : tie.Need-returns-2 Inv-loop μ-loop
-returns-2 c = ended (c .before .before .before .before .before .before .before .before .before .before .loop .inv) (c .before .before .before .before .before .before .before .before .place-of .ensures) (c .before .before .before .before .before .piece .ensures) (c .before .if1 .left) (c .if2 .taken)
+returns-2 c = let j = c .before .before .before .before .before .before .before .before .before .before .loop .inv in
+    let f = c .before .before .before .before .before .before .before .before .place-of .ensures in
+    let q = c .before .before .before .before .before .piece .ensures in
+    ended j f q (c .before .if1 .left) (c .if2 .taken)
 
 add-at : tie.Need-add-at Inv-loop μ-loop
 add-at c = search needs
@@ -52,7 +58,10 @@ loop-less : tie.Need-loop-less Inv-loop μ-loop
 loop-less c = search needs
 
 loop-again : tie.Need-loop-again Inv-loop μ-loop
-loop-again c = joining-more (c .before .before .before .before .before .before .before .before .before .before .loop .inv) (c .before .before .before .before .before .before .before .before .place-of .ensures) (c .before .before .before .before .before .piece .ensures) (c .before .if1 .left) (omega (arith, c .before .before .before .before .before .before .before .before .place-of .ensures .within))
+loop-again c = let j = c .before .before .before .before .before .before .before .before .before .before .loop .inv in
+    let f = c .before .before .before .before .before .before .before .before .place-of .ensures in
+    let q = c .before .before .before .before .before .piece .ensures in
+    joining-more j f q (c .before .if1 .left) (omega (arith, f .within))
 
 same-length-3 : tie.Need-same-length-3 Inv-loop μ-loop
 same-length-3 c = same-long (c .before .loop .inv)
