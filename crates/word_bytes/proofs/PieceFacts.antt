@@ -66,7 +66,8 @@ module _ (room : ℕ) {x : Meant} {at : ℕ} {s : List ℕ} where
         }
 
 -- what means the same is put the same
-pub put-as : (room : ℕ) {x y : Meant} {at fault end : ℕ} {s t : List ℕ} → x ≡ y → Puts (within room x) at fault end s t → Puts (within room y) at fault end s t
+pub put-as : (room : ℕ) {x y : Meant} {at fault end : ℕ} {s t : List ℕ} → x ≡ y → Puts (within room x) at fault end s t
+    → Puts (within room y) at fault end s t
 put-as room {x} {y} {at} {fault} {end} {s} {t} e q = subst (λ (m : Meant). Puts (within room m) at fault end s t) e q
 
 -- ---- characters that are all digits

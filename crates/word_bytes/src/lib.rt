@@ -1,6 +1,7 @@
 // Bytes written in one word (docs/SOFTCARD.md): hexadecimal digits, a byte repeated or rising, the last bytes, and these joined by dots.
 // Every length is in bytes.
-// Proved: a word is read as the bytes that it means, or refused for the fault that it has, as the definition says.
+// Proved: a word is read as the bytes that it means, or refused for the fault that it has, as the definition says. What the buffer holds
+// behind a fault is not said, but that its length is kept.
 ghost use mathlib.Core.Path.{_≡_};
 ghost use mathlib.Core.List.{[]};
 ghost use Prim.Native.Nat.{_-_, _≤_};
