@@ -1,7 +1,10 @@
 // Bytes made by a rule, to be sent as data or to stand in a buffer. For the programs.
 // Every length is in bytes.
-// Proved: every function is safe and ends, and `bounded` is at most the length.
+// Proved: `fill` writes the bytes that its rule says, `bounded` is at most the length, and every function is safe and ends.
+ghost use mathlib.Core.Path.{_≡_};
+ghost use lib.ListN.{length};
 ghost use Rattle.io.specs.Counts.{Counts};
+ghost use Rattle.content.specs.Steps.{stepped};
 
 // What stands in a buffer before an operation gets it.
 const PATTERN_FIRST: u8 = 0xa5;
@@ -9,7 +12,9 @@ const PATTERN_FIRST: u8 = 0xa5;
 const PATTERN_STEP: u8 = 13;
 
 // Fills buf: byte 0 is `first`, and each byte is by `step` more than the one before it, the carry dropped.
-pub fn fill(buf: &mut [u8], first: u8, step: u8) {
+pub fn fill(buf: &mut [u8], first: u8, step: u8)
+    ensures { λ _. ⌜ now (buf .exit) ≡ stepped first step (length (now (buf .entry))) ⌝ }
+{
     let mut b = first;
     let mut i = 0;
     while i < buf.len() {

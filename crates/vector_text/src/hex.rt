@@ -39,6 +39,7 @@ pub fn hex_byte(high: u8, low: u8) -> u8
 pub fn decode(text: &[u8], out: &mut [u8]) -> bool
     requires { ⌜ length (now text) ≡ 2 * length (now out) ⌝ }
     ensures { λ r. ⌜ (r ≡ true → Spelled (length (now (out .entry))) (now (text .entry))) ⌝ }
+    ensures { λ r. ⌜ (Spelled (length (now (out .entry))) (now (text .entry)) → r ≡ true) ⌝ }
     ensures { λ r. ⌜ (r ≡ true → now (out .exit) ≡ bytesOf (length (now (out .entry))) (now (text .entry))) ⌝ }
 {
     let mut i = 0;

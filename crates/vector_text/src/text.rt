@@ -1,6 +1,7 @@
 // The lines of a file of vectors, `NAME = value`. A position is a number of bytes from the file's start.
 ghost use Prim.Native.Nat.{_<_, _≤_};
 ghost use lib.ListN.{length};
+ghost use Rattle.vector_text.specs.Places.{First};
 
 // A part of the file: from byte `start` up to byte `end`, which is not in it. No value starts at byte 0, so 0 to 0 stands for none.
 pub struct Span {
@@ -40,7 +41,7 @@ pub fn is_none(x: Span) -> bool {
 // The first place from `at` on that has the byte `mark`, or the end.
 pub fn place_of(s: &[u8], at: usize, mark: u8) -> usize
     requires { ⌜ at ≤ length (now s) ⌝ }
-    ensures { λ r. ⌜ (at ≤ r) × (r ≤ length (now (s .entry))) ⌝ }
+    ensures { λ r. ⌜ First (now (s .entry)) at mark r ⌝ }
 {
     let mut i = at;
     while i < s.len() {

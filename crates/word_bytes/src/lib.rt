@@ -1,8 +1,13 @@
 // Bytes written in one word (docs/SOFTCARD.md): hexadecimal digits, a byte repeated or rising, the last bytes, and these joined by dots.
 // Every length is in bytes.
-// Proved: every function is safe and ends.
-ghost use Prim.Native.Nat.{_≤_};
+// Proved: a word is read as the bytes that it means, or refused for the fault that it has, as the definition says. What the buffer holds
+// behind a fault is not said, but that its length is kept.
+ghost use mathlib.Core.Path.{_≡_};
+ghost use mathlib.Core.List.{[]};
+ghost use Prim.Native.Nat.{_-_, _≤_};
 ghost use lib.ListN.{length};
+ghost use Rattle.content.specs.Steps.{stepped};
+ghost use Rattle.word_bytes.specs.Meaning.{taken, within, allHex, pairs, counted, pieceOf, piecesIn, joined, meaning, Puts, Reads};
 use decimal::NO_NUMBER;
 use decimal::number;
 use vector_text::hex;
@@ -22,18 +27,25 @@ pub struct Got {
     pub len: usize,
 }
 
-fn fault(fault: u8) -> Got {
-    Got { fault, len: 0 }
-}
+const BAD_FORM: Got = Got {
+    fault: FORM,
+    len: 0,
+};
+
+const TOO_MANY: Got = Got {
+    fault: MANY,
+    len: 0,
+};
 
 // The bytes of a slice behind the first `len`.
-fn append(bytes: &[u8], out: &mut [u8], len: usize) -> Got {
+fn append(bytes: &[u8], out: &mut [u8], len: usize) -> Got
+    requires { ⌜ len ≤ length (now out) ⌝ }
+    ensures { λ r. ⌜ Puts (within (length (now (out .entry)) - len) (taken (now (bytes .entry)))) len (r .fault) (r .len)
+        (now (out .entry)) (now (out .exit)) ⌝ }
+{
     let n = bytes.len();
-    if out.len() < len {
-        return fault(MANY);
-    }
     if out.len() - len < n {
-        return fault(MANY);
+        return TOO_MANY;
     }
     octets::put(out, len, bytes);
     Got {
@@ -43,15 +55,13 @@ fn append(bytes: &[u8], out: &mut [u8], len: usize) -> Got {
 }
 
 // n bytes behind the first `len`: the first is `first`, and each is by `step` more than the one before it.
-fn run(first: u8, step: u8, n: usize, out: &mut [u8], len: usize) -> Got {
-    if n == NO_NUMBER {
-        return fault(FORM);
-    }
-    if out.len() < len {
-        return fault(MANY);
-    }
+fn run(first: u8, step: u8, n: usize, out: &mut [u8], len: usize) -> Got
+    requires { ⌜ len ≤ length (now out) ⌝ }
+    ensures { λ r. ⌜ Puts (within (length (now (out .entry)) - len) (taken (stepped first step n))) len (r .fault) (r .len)
+        (now (out .entry)) (now (out .exit)) ⌝ }
+{
     if out.len() - len < n {
-        return fault(MANY);
+        return TOO_MANY;
     }
     let end = len + n;
     content::fill(&mut out[len..end], first, step);
@@ -60,21 +70,28 @@ fn run(first: u8, step: u8, n: usize, out: &mut [u8], len: usize) -> Got {
 
 // HH*N or HH+N.
 fn counted(p: &[u8], step: u8, out: &mut [u8], len: usize) -> Got
-    requires { ⌜ 4 ≤ length (now p) ⌝ }
+    requires { ⌜ (3 ≤ length (now p)) × (len ≤ length (now out)) ⌝ }
+    ensures { λ r. ⌜ Puts (within (length (now (out .entry)) - len) (counted step (now (p .entry)))) len (r .fault) (r .len)
+        (now (out .entry)) (now (out .exit)) ⌝ }
 {
     let high = hex::hex_digit(p[0]);
     let low = hex::hex_digit(p[1]);
     if high > 15 {
-        return fault(FORM);
+        return BAD_FORM;
     }
     if low > 15 {
-        return fault(FORM);
+        return BAD_FORM;
     }
     let n = number(&p[3..]);
+    if n == NO_NUMBER {
+        return BAD_FORM;
+    }
     run(hex::hex_byte(high, low), step, n, out, len)
 }
 
-fn is_hex(p: &[u8]) -> bool {
+fn is_hex(p: &[u8]) -> bool
+    ensures { λ r. ⌜ r ≡ allHex (now (p .entry)) ⌝ }
+{
     let mut i = 0;
     while i < p.len() {
         if hex::hex_digit(p[i]) > 15 {
@@ -86,22 +103,23 @@ fn is_hex(p: &[u8]) -> bool {
 }
 
 // Pairs of digits.
-fn digits(p: &[u8], out: &mut [u8], len: usize) -> Got {
+fn digits(p: &[u8], out: &mut [u8], len: usize) -> Got
+    requires { ⌜ len ≤ length (now out) ⌝ }
+    ensures { λ r. ⌜ Puts (within (length (now (out .entry)) - len) (pairs (now (p .entry)))) len (r .fault) (r .len)
+        (now (out .entry)) (now (out .exit)) ⌝ }
+{
     let n = p.len() / 2;
     if n == 0 {
-        return fault(FORM);
+        return BAD_FORM;
     }
     if p.len() != 2 * n {
-        return fault(FORM);
+        return BAD_FORM;
     }
     if !is_hex(p) {
-        return fault(FORM);
-    }
-    if out.len() < len {
-        return fault(MANY);
+        return BAD_FORM;
     }
     if out.len() - len < n {
-        return fault(MANY);
+        return TOO_MANY;
     }
     let end = len + n;
     hex::decode(p, &mut out[len..end]);
@@ -109,11 +127,15 @@ fn digits(p: &[u8], out: &mut [u8], len: usize) -> Got {
 }
 
 // One piece of a word.
-fn piece(p: &[u8], last: &[u8], out: &mut [u8], len: usize) -> Got {
+fn piece(p: &[u8], last: &[u8], out: &mut [u8], len: usize) -> Got
+    requires { ⌜ len ≤ length (now out) ⌝ }
+    ensures { λ r. ⌜ Puts (within (length (now (out .entry)) - len) (pieceOf (now (last .entry)) (now (p .entry)))) len (r .fault) (r .len)
+        (now (out .entry)) (now (out .exit)) ⌝ }
+{
     if octets::same(p, b"last") {
         return append(last, out, len);
     }
-    if p.len() < 4 {
+    if p.len() < 3 {
         return digits(p, out, len);
     }
     if p[2] == b'*' {
@@ -126,7 +148,10 @@ fn piece(p: &[u8], last: &[u8], out: &mut [u8], len: usize) -> Got {
 }
 
 // The pieces of a word, one behind the other, each up to its dot or the word's end; the first fault decides.
-fn pieces(w: &[u8], last: &[u8], out: &mut [u8]) -> Got {
+fn pieces(w: &[u8], last: &[u8], out: &mut [u8]) -> Got
+    ensures { λ r. ⌜ Reads (joined (now (last .entry)) (length (now (out .entry))) [] (piecesIn (now (w .entry)))) (r .fault) (r .len)
+        (now (out .entry)) (now (out .exit)) ⌝ }
+{
     let mut at = 0;
     let mut len = 0;
     while at <= w.len() {
@@ -141,11 +166,14 @@ fn pieces(w: &[u8], last: &[u8], out: &mut [u8]) -> Got {
         }
         at = end + 1;
     }
-    fault(FORM)
+    BAD_FORM
 }
 
 // The bytes that a word means, put into `out` from its start; `last` is what the piece `last` means.
-pub fn bytes_of(w: &[u8], last: &[u8], out: &mut [u8]) -> Got {
+pub fn bytes_of(w: &[u8], last: &[u8], out: &mut [u8]) -> Got
+    ensures { λ r. ⌜ Reads (meaning (now (last .entry)) (now (w .entry)) (length (now (out .entry)))) (r .fault) (r .len)
+        (now (out .entry)) (now (out .exit)) ⌝ }
+{
     if octets::same(w, b"-") {
         return Got { fault: 0, len: 0 };
     }

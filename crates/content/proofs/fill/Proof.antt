@@ -1,20 +1,26 @@
--- `fill` is safe and ends. A store keeps the length; the measure is what is left of it.
+-- `fill` meets its contract. The loop's invariant: the first i bytes are written, and b is the next.
 -- Assumes nothing.
-use Prim.Native.Nat.{_-_}
-use mathlib.Core.Path.{_≡_}
+use Prim.Native.Nat.{_+_, _*_, _-_, _%_, _<_}
+use mathlib.Core.Path.{_≡_, refl, sym, _∙_}
+use native.Mathlib.Omega.{arith}
+use native.Mathlib.Nat.{suc-mul}
+use native.Mathlib.Numerals.{add-one}
 use lib.ListN.{length}
 use borrow.Author.Needs.{needs}
+use Rattle.octets.proofs.Lists.{length-tabulate, getD-tabulate}
+use Rattle.octets.proofs.Filling.{Filled, filled-none, filled-one, filled-all}
+use Rattle.content.specs.Steps.{stepped}
 use Rattle.content.proofs.fill.Statement.{statement}
 use Rattle.content.proofs.fill.Tie as tie
 
 abbrev Inv-loop : tie.InvT-loop
-Inv-loop buf₀ first step b₀ i₀ buf b i = length buf ≡ length buf₀
+Inv-loop buf₀ first step b₀ i₀ buf b i = Filled (length buf₀) (stepped first step (length buf₀)) buf i × (b ≡ (first + i * step) % 256)
 
 abbrev μ-loop : tie.MeasureT-loop
 μ-loop buf₀ first step b₀ i₀ buf b i = length buf₀ - i
 
 loop-holds : tie.Need-loop-holds Inv-loop μ-loop
-loop-holds c = search needs
+loop-holds c = (filled-none refl (length-tabulate _ _), omega arith)
 
 slice-write-buf : tie.Need-slice-write-buf Inv-loop μ-loop
 slice-write-buf c = search needs
@@ -29,13 +35,19 @@ loop-less : tie.Need-loop-less Inv-loop μ-loop
 loop-less c = search needs
 
 loop-again : tie.Need-loop-again Inv-loop μ-loop
-loop-again c = search needs
+loop-again c = let a = c .before .before .before .before .args in
+    let l = c .before .before .loop in
+    let next : (l .i + 1) * a .step ≡ l .i * a .step + a .step = rw add-one (suc-mul (l .i) (a .step)) in
+    let below : l .i < length (a .buf .now) = omega (arith, l .inv .0 .long) in (
+      filled-one _ (l .inv .0) below (l .inv .1 ∙ sym (getD-tabulate _ _ (l .i) below)),
+      rw next (omega (arith, c .wrapping-add-u8 .ensures, l .inv .1)),
+    )
 
 same-length : tie.Need-same-length Inv-loop μ-loop
 same-length c = search needs
 
 returns : tie.Need-returns Inv-loop μ-loop
-returns c = search needs
+returns c = let f = c .before .loop .inv .0 in filled-all f (omega (arith, f .long))
 
 pub fill-spec : {M : Type 1} → statement M
 fill-spec =

@@ -1,20 +1,22 @@
--- `pieces` is safe and ends. A piece keeps the length of the buffer; the measure is what is left of the word, and one more.
+-- `pieces` meets its contract. The loop's invariant: the pieces passed are put, and the pieces left decide. The measure is what is left of
+-- the word, and one more.
 -- Assumes nothing.
-use Prim.Native.Nat.{_-_, _≤_, _+_}
-use mathlib.Core.Path.{_≡_}
+use Prim.Native.Nat.{_+_, _-_}
+use native.Mathlib.Omega.{arith}
 use lib.ListN.{length}
 use borrow.Author.Needs.{needs}
+use Rattle.word_bytes.proofs.WordFacts.{Joining, joining-none, same-long, refused, ended, joining-more}
 use Rattle.word_bytes.proofs.pieces.Statement.{statement}
 use Rattle.word_bytes.proofs.pieces.Tie as tie
 
 abbrev Inv-loop : tie.InvT-loop
-Inv-loop w last out₀ at₀ len₀ out at len = length out ≡ length out₀
+Inv-loop w last out₀ at₀ len₀ out at len = Joining w last out₀ out at len
 
 abbrev μ-loop : tie.MeasureT-loop
 μ-loop w last out₀ at₀ len₀ out at len = length w + 1 - at
 
 loop-holds : tie.Need-loop-holds Inv-loop μ-loop
-loop-holds c = search needs
+loop-holds c = joining-none _ _ _
 
 place-of-requires : tie.Need-place-of-requires Inv-loop μ-loop
 place-of-requires c κs = search needs
@@ -29,19 +31,25 @@ part-piece-end : tie.Need-part-piece-end Inv-loop μ-loop
 part-piece-end c = search needs
 
 piece-requires : tie.Need-piece-requires Inv-loop μ-loop
-piece-requires c κs = search needs
+piece-requires c κs = let e = same-long (c .before .before .before .before .loop .inv) in search needs
 
 same-length : tie.Need-same-length Inv-loop μ-loop
-same-length c = search needs
+same-length c = let e = same-long (c .before .before .before .before .before .before .before .before .before .loop .inv) in search needs
 
 returns : tie.Need-returns Inv-loop μ-loop
-returns c = search needs
+returns c = let j = c .before .before .before .before .before .before .before .before .before .loop .inv in
+    let f = c .before .before .before .before .before .before .before .place-of .ensures in
+    let q = c .before .before .before .before .piece .ensures in
+    refused j f q (c .if1 .taken)
 
 same-length-2 : tie.Need-same-length-2 Inv-loop μ-loop
-same-length-2 c = search needs
+same-length-2 c = let e = same-long (c .before .before .before .before .before .before .before .before .before .before .loop .inv) in search needs
 
 returns-2 : tie.Need-returns-2 Inv-loop μ-loop
-returns-2 c = search needs
+returns-2 c = let j = c .before .before .before .before .before .before .before .before .before .before .loop .inv in
+    let f = c .before .before .before .before .before .before .before .before .place-of .ensures in
+    let q = c .before .before .before .before .before .piece .ensures in
+    ended j f q (c .before .if1 .left) (c .if2 .taken)
 
 add-at : tie.Need-add-at Inv-loop μ-loop
 add-at c = search needs
@@ -50,16 +58,16 @@ loop-less : tie.Need-loop-less Inv-loop μ-loop
 loop-less c = search needs
 
 loop-again : tie.Need-loop-again Inv-loop μ-loop
-loop-again c = search needs
-
-fault-requires : tie.Need-fault-requires Inv-loop μ-loop
-fault-requires c κs = search needs
+loop-again c = let j = c .before .before .before .before .before .before .before .before .before .before .loop .inv in
+    let f = c .before .before .before .before .before .before .before .before .place-of .ensures in
+    let q = c .before .before .before .before .before .piece .ensures in
+    joining-more j f q (c .before .if1 .left) (omega (arith, f .within))
 
 same-length-3 : tie.Need-same-length-3 Inv-loop μ-loop
-same-length-3 c = search needs
+same-length-3 c = same-long (c .before .loop .inv)
 
 returns-3 : tie.Need-returns-3 Inv-loop μ-loop
-returns-3 c = search needs
+returns-3 c = absurd (omega (arith, c .before .loop .inv .inside))
 
 pub pieces-spec : {M : Type 1} → statement M
 pieces-spec =
@@ -80,6 +88,5 @@ pieces-spec =
     add-at
     loop-less
     loop-again
-    fault-requires
     same-length-3
     returns-3)

@@ -1,13 +1,13 @@
 -- `hex::decode` meets its contract. The loop's invariant: the bytes passed are those that the text spells, and all their
 -- characters are digits.
 -- Assumes nothing.
-use mathlib.Core.Path.{_≡_, refl, sym, ap, ap₂, _∙_}
+use mathlib.Core.Path.{_≡_, refl, sym, ap₂, _∙_}
 use mathlib.Core.Bool.{Bool, true, false}
 use mathlib.Core.List.{List}
 use Prim.Native.Nat.{ℕ, _+_, _*_, _-_, _<_}
 use native.Mathlib.Omega.{arith}
 use native.Mathlib.Nat.{not-suc-le-zero}
-use lib.ListN.{length, getD}
+use lib.ListN.{length}
 use borrow.Author.Needs.{needs}
 use borrow.Author.Count.{below-more}
 use Rattle.octets.proofs.Lists.{length-tabulate, getD-tabulate}
@@ -63,7 +63,8 @@ same-length c = search needs
 
 -- src/hex.rt:49:13
 returns : tie.Need-returns Inv-loop μ-loop
-returns c = (λ e. never e, λ e. never e)
+returns c = let l = c .before .before .before .before .before .before .loop in
+    (λ e. never e, (λ s. absurd (omega (arith, c .before .before .before .hex-digit .ensures, s (l .i) (omega (arith, l .inv .0 .long)) .0)), λ e. never e))
 
 -- src/hex.rt:52:13
 same-length-2 : tie.Need-same-length-2 Inv-loop μ-loop
@@ -71,7 +72,8 @@ same-length-2 c = search needs
 
 -- src/hex.rt:52:13
 returns-2 : tie.Need-returns-2 Inv-loop μ-loop
-returns-2 c = (λ e. never e, λ e. never e)
+returns-2 c = let l = c .before .before .before .before .before .before .before .loop in
+    (λ e. never e, (λ s. absurd (omega (arith, c .before .before .hex-digit2 .ensures, s (l .i) (omega (arith, l .inv .0 .long)) .1)), λ e. never e))
 
 -- src/hex.rt:54:18
 hex-byte-requires : tie.Need-hex-byte-requires Inv-loop μ-loop
@@ -110,7 +112,7 @@ same-length-3 c = search needs
 -- src/hex.rt:39:1
 returns-3 : tie.Need-returns-3 Inv-loop μ-loop
 returns-3 c = let f = c .before .loop .inv in
-    (λ e k h. f .1 k (omega (arith, f .0 .within)), λ e. filled-all (f .0) (omega (arith, f .0 .long)))
+    (λ e k h. f .1 k (omega (arith, f .0 .within)), (λ s. refl, λ e. filled-all (f .0) (omega (arith, f .0 .long))))
 
 pub decode-spec : {M : Type 1} → statement M
 decode-spec =
