@@ -1,7 +1,8 @@
 // Bytes made by a rule, to be sent as data or to stand in a buffer. For the programs.
 // Every length is in bytes.
-// Proved: `fill` writes the bytes that its rule says, `bounded` is at most the length, and every function is safe and ends.
+// Proved: `fill` and `fill_pattern` write the bytes that their rule says, and `bounded` is the lesser of a number and a length.
 ghost use mathlib.Core.Path.{_≡_};
+ghost use Prim.Native.Nat.{min};
 ghost use lib.ListN.{length};
 ghost use Rattle.io.specs.Counts.{Counts};
 ghost use Rattle.content.specs.Steps.{stepped};
@@ -24,13 +25,16 @@ pub fn fill(buf: &mut [u8], first: u8, step: u8)
     }
 }
 
-pub fn fill_pattern(buf: &mut [u8]) {
+pub fn fill_pattern(buf: &mut [u8])
+    ensures { λ _. ⌜ now (buf .exit) ≡ stepped 0xA5 13 (length (now (buf .entry))) ⌝ }
+{
     fill(buf, PATTERN_FIRST, PATTERN_STEP);
 }
 
 // n, or the length of buf in bytes where that is less.
 pub fn bounded(n: usize, buf: &[u8]) -> usize
     ensures { λ r. ⌜ Counts r (now (buf .entry)) ⌝ }
+    ensures { λ r. ⌜ r ≡ min n (length (now (buf .entry))) ⌝ }
 {
     if n < buf.len() { n } else { buf.len() }
 }
