@@ -110,7 +110,10 @@ withChannel c k = record {
   channel = k;
 }
 
--- ---- power-up (01, Operations, RESET)
+-- ---- the card with its channel closed: stage 0, the session's bytes zero
+abbrev pub closed : Card → Card
+closed c = withChannel c closedOf
+
 -- the PIN not verified
 abbrev pub unverified : Pins → Pins
 unverified p = record { pin = p .pin; puk = p .puk; «pin_tries» = p .«pin_tries»; «puk_tries» = p .«puk_tries»; verified = 0 }
@@ -119,15 +122,12 @@ unverified p = record { pin = p .pin; puk = p .puk; «pin_tries» = p .«pin_tri
 abbrev pub notPending : Pairing → Pairing
 notPending p = record { secret = p .secret; slots = p .slots; pending = 0; expected = zeros 32 }
 
+abbrev pub forgotten : Card → Card
+forgotten c = withPairing c (notPending (c .pairing))
+
+-- ---- power-up (01, Operations, RESET): the channel closed, the PIN not verified, no pending pairing
 abbrev pub resetOf : Card → Card
-resetOf c = record {
-  initialised = c .initialised;
-  identity = c .identity;
-  pins = unverified (c .pins);
-  pairing = notPending (c .pairing);
-  keys = c .keys;
-  channel = closedOf;
-}
+resetOf c = withPins (forgotten (closed c)) (unverified (c .pins))
 
 -- PIN and PUK put in the place of the card's own
 abbrev pub withSecrets : List ℕ → List ℕ → Card → Card

@@ -2,7 +2,7 @@
 // Every field is a u8 or an array of u8, so the structs have one layout without padding; every length is in bytes.
 // Proved: a fresh card and a card at power-up are what their definitions say, field by field.
 ghost use mathlib.Core.Path.{_≡_};
-ghost use Rattle.card.specs.State.{freshOf, resetOf, closedOf};
+ghost use Rattle.card.specs.State.{freshOf, resetOf, closed, closedOf};
 
 // Lengths, in bytes.
 pub const UID_BYTES: usize = 16;
@@ -18,6 +18,20 @@ pub const KEY_BYTES: usize = 32;
 pub const IV_BYTES: usize = 16;
 
 pub const PATH_MAX_BYTES: usize = 40;
+
+// The channel's stages: closed, opened, and mutually authenticated.
+pub const STAGE_CLOSED: u8 = 0;
+
+pub const STAGE_OPENED: u8 = 1;
+
+pub const STAGE_AUTHENTICATED: u8 = 2;
+
+// The kinds of key: none, a key without a chain code, and one with it.
+pub const KEY_NONE: u8 = 0;
+
+pub const KEY_SINGLE: u8 = 1;
+
+pub const KEY_EXTENDED: u8 = 2;
 
 // What the card answers for a refused call: the numbers of 01, Operations and numbered refusals.
 pub const REFUSAL_NONE: u8 = 0;
@@ -106,11 +120,11 @@ pub struct Card {
 
 impl Channel {
     // The channel in stage 0.
-    pub fn closed() -> Channel
+    fn closed() -> Channel
         ensures { λ r. ⌜ r ≡ closedOf ⌝ }
     {
         Channel {
-            stage: 0,
+            stage: STAGE_CLOSED,
             enc_key: [0; KEY_BYTES],
             mac_key: [0; KEY_BYTES],
             iv: [0; IV_BYTES],
@@ -154,7 +168,7 @@ impl Card {
             bytes: [0; PATH_MAX_BYTES],
         };
         let keys = Keys {
-            kind: 0,
+            kind: KEY_NONE,
             uid: [0; KEY_BYTES],
             current: empty,
             pinless: empty,
@@ -170,6 +184,15 @@ impl Card {
         }
     }
 
+    // The card with its channel closed: the one place that closes a channel.
+    pub fn close(mut self) -> Card
+        ensures { λ r. ⌜ r ≡ closed self ⌝ }
+    {
+        let channel = Channel::closed();
+        self.channel = channel;
+        self
+    }
+
     // What power-up leaves of a card (01, Operations, RESET), without the question whether it is sound.
     pub fn powered_up(mut self) -> Card
         ensures { λ r. ⌜ r ≡ resetOf self ⌝ }
@@ -179,8 +202,6 @@ impl Card {
         pairing.expected = [0; KEY_BYTES];
         self.pins.verified = 0;
         self.pairing = pairing;
-        let channel = Channel::closed();
-        self.channel = channel;
-        self
+        self.close()
     }
 }

@@ -1,0 +1,14 @@
+-- The closed channel in the place of the card's own.
+-- Assumes nothing.
+use borrow.Author.Needs.{needs}
+use Rattle.card.proofs.Card.close.Statement.{statement}
+use Rattle.card.proofs.Card.close.Tie as tie
+
+closed-requires : tie.Need-closed-requires
+closed-requires c κs = search needs
+
+returns : tie.Need-returns
+returns c = rw (c .closed .ensures)
+
+pub close-spec : {M : Type 1} → statement M
+close-spec = tie.close (tie.spec closed-requires returns)

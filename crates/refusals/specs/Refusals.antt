@@ -1,0 +1,55 @@
+-- The table of refusals (01, Operations and numbered refusals): the numbers, in order, and the room that each operation asks of a buffer.
+-- An operation gives the lowest number that applies. Every room is in bytes.
+use Prim.Native.Nat.{ℕ}
+
+-- ---- the numbers
+abbrev pub noRefusal : ℕ
+noRefusal = 0
+
+-- the state is not sound
+abbrev pub unsound : ℕ
+unsound = 1
+
+-- the buffer has less room than the operation asks for
+abbrev pub noRoom : ℕ
+noRoom = 2
+
+-- ANSWER: a supply is read and its length, or its flag byte, is wrong
+abbrev pub wrongSupply : ℕ
+wrongSupply = 3
+
+-- WALK: malformed
+abbrev pub malformed : ℕ
+malformed = 4
+
+-- WALK: too deep
+abbrev pub tooDeep : ℕ
+tooDeep = 5
+
+-- SEAL: data over 223
+abbrev pub dataLong : ℕ
+dataLong = 6
+
+-- UNSEAL: not genuine
+abbrev pub notGenuine : ℕ
+notGenuine = 7
+
+-- READ: not a record
+abbrev pub notRecord : ℕ
+notRecord = 8
+
+-- ---- the rooms
+abbrev pub askRoom : ℕ
+askRoom = 255
+
+abbrev pub answerRoom : ℕ
+answerRoom = 258
+
+abbrev pub sealRoom : ℕ
+sealRoom = 261
+
+abbrev pub unsealRoom : ℕ
+unsealRoom = 223
+
+abbrev pub writeRoom : ℕ
+writeRoom = 448

@@ -1,0 +1,40 @@
+// The table of refusals: each number that an operation can give in the place of an answer, and the room that a buffer must have.
+// Every room is in bytes. The same table stands as definitions in specs/Refusals.antt, and every contract cites it there.
+// A refusal hands back the state that it was given and changes no byte of any buffer; the lowest number that applies is given.
+
+pub const REFUSAL_NONE: u8 = 0;
+
+// The card is not sound.
+pub const REFUSAL_UNSOUND: u8 = 1;
+
+// The buffer has not the room.
+pub const REFUSAL_ROOM: u8 = 2;
+
+// ANSWER: a supply is read, and its length or its flag byte is wrong.
+pub const REFUSAL_SUPPLY: u8 = 3;
+
+// WALK: malformed.
+pub const REFUSAL_MALFORMED: u8 = 4;
+
+// WALK: too deep.
+pub const REFUSAL_TOO_DEEP: u8 = 5;
+
+// SEAL: the data are too long.
+pub const REFUSAL_DATA_LONG: u8 = 6;
+
+// UNSEAL: not genuine.
+pub const REFUSAL_NOT_GENUINE: u8 = 7;
+
+// READ: not a record.
+pub const REFUSAL_NOT_RECORD: u8 = 8;
+
+// The room that each operation asks for, in bytes.
+pub const ASK_ROOM_BYTES: usize = 255;
+
+pub const ANSWER_ROOM_BYTES: usize = 258;
+
+pub const SEAL_ROOM_BYTES: usize = 261;
+
+pub const UNSEAL_ROOM_BYTES: usize = 223;
+
+pub const WRITE_ROOM_BYTES: usize = 448;
