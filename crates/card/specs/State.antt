@@ -70,6 +70,16 @@ freshOf uid key = record {
 }
 
 -- ---- a card with one part in the place of its own
+abbrev pub withInitialised : Card → ℕ → Card
+withInitialised c flag = record {
+  initialised = flag;
+  identity = c .identity;
+  pins = c .pins;
+  pairing = c .pairing;
+  keys = c .keys;
+  channel = c .channel;
+}
+
 abbrev pub withPins : Card → Pins → Card
 withPins c p = record {
   initialised = c .initialised;

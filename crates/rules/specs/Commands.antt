@@ -1,5 +1,6 @@
--- The fifteen commands (01, Commands), in 01's order. For each one: the checks of step 6, in order, with their status words; and the reply
--- where all hold, from the card, the data (opened, where the command is sealed) and the supply. Every length is in bytes.
+-- The fifteen instructions' commands (01, Commands), in 01's order, and at the end one rule for each command: the checks of step 6, in order, with
+-- their status words; what is compared and which supply is read past them (Supplies.antt); and the reply, from the card, the data (opened,
+-- where the command is sealed) and the supply. Every length is in bytes.
 use Prim.Native.Nat.{ℕ, _+_, _-_, _%_}
 use mathlib.Core.Bool.{Bool, true, false, _&&_, _||_, not, cond}
 use mathlib.Core.List.{List, [], _∷_, _++_}
@@ -18,26 +19,25 @@ use Rattle.card.specs.declared.Path.{Path}
 use Rattle.card.specs.declared.Keys.{Keys}
 use Rattle.card.specs.declared.Channel.{Channel}
 use Rattle.card.specs.declared.Card.{Card}
-use Rattle.card.specs.State.{pinTries, pukTries, freeSlot, noKeys, emptyPath, withPins, withPairing, withKeys, withChannel, unverified, notPending, pathBytes, pathOf, keyUid}
+use Rattle.card.specs.State.{pinTries, pukTries, freeSlot, noKeys, emptyPath, withInitialised, withPins, withPairing, withKeys, withChannel, closed, forgotten, unverified, notPending, pathBytes, pathOf, keyUid}
 use Rattle.card.specs.Slots.{allOf, someOf, isZero, isFree}
 use Rattle.card.specs.Sound.{isDigit}
 use Rattle.slots.specs.declared.Free.{Free}
 use Rattle.slots.specs.declared.Free.the-variants as free
 use Rattle.slots.specs.Free.{firstFree}
 use Rattle.keypair.specs.Keypair.{keypair}
-use Rattle.answer_templates.specs.Answers.{preInitialised, applicationInfo, status, signature}
-use Rattle.rules.specs.declared.Report.{Report}
-use Rattle.rules.specs.declared.Report.the-variants as report
-use Rattle.rules.specs.declared.Secret.{Secret}
-use Rattle.rules.specs.declared.Secret.the-variants as secret
+use Rattle.answer_templates.specs.Answers as answer
+use Rattle.rules.specs.declared.StatusKind.{StatusKind}
+use Rattle.rules.specs.declared.StatusKind.the-variants as status
+use Rattle.rules.specs.declared.SecretKind.{SecretKind}
+use Rattle.rules.specs.declared.SecretKind.the-variants as secret
 use Rattle.rules.specs.declared.KeyForm.{KeyForm}
 use Rattle.rules.specs.declared.KeyForm.the-variants as key
 use Rattle.rules.specs.declared.Command.{Command}
 use Rattle.rules.specs.declared.Command.the-variants as command
-use Rattle.rules.specs.declared.Supply.{Supply}
-use Rattle.rules.specs.Words.{success, triesLeft, securityNotMet, referenceInvalid, conditionsNotMet, wrongData, notFound, noSpace, wrongParameters, Check, must, Reply, succeeds, fails}
+use Rattle.rules.specs.Words.{triesLeft, securityNotMet, referenceInvalid, conditionsNotMet, wrongData, notFound, noSpace, wrongParameters, Check, must, Reply, succeeds, fails}
 use Rattle.rules.specs.Supplies.{noSupply, initSupply, openSupply, mutualSupply, pairFirstSupply, pairFinalSupply, loadSupply, deriveSupply, signSupply, saysYes, part, initKey, openEncKey, openMacKey, openSalt, openIv, mutualRandom, pairCryptogram, pairChallenge, pairExpected, pairSalt, pairKey, loadUid, signKey, signR, signS}
-use Rattle.rules.specs.Steps.{closed, forgotten}
+use Rattle.rules.specs.Rules.{Secret, pin, puk, Rule, rule, comparing}
 
 -- ---- what several commands ask
 abbrev pub isVerified : Pins → Bool
@@ -75,17 +75,22 @@ unfoldable pub freeSlots : List Slot → ℕ
 freeSlots [] = 0
 freeSlots (s ∷ more) = cond (isFree s) (1 + freeSlots more) (freeSlots more)
 
-abbrev pub selected : Card → List ℕ
-selected c =
-    cond (isZero (c .initialised)) (preInitialised (c .identity .«public_key»))
-    (applicationInfo (c .identity .uid) (c .identity .«public_key») (freeSlots (c .pairing .slots)) (keyUid (c .keys)))
+-- what SELECT answers, from the parts of the card that it shows
+abbrev pub selected : ℕ → Identity → List Slot → Keys → List ℕ
+selected initialised id slots k =
+    cond (isZero initialised) (answer.preInitialised (id .«public_key»))
+    (answer.applicationInfo (id .uid) (id .«public_key») (freeSlots slots) (keyUid k))
 
 unfoldable pub selectReply : Card → Reply
-selectReply c = succeeds (withPins (closed c) (unverified (c .pins))) (selected c)
+selectReply c =
+    succeeds (withPins (closed c) (unverified (c .pins))) (selected (c .initialised) (c .identity) (c .pairing .slots) (c .keys))
 
 -- ---- INIT FE: the length byte 41, a point starting 04, an IV of 16 bytes and a ciphertext of 64
+abbrev pub isInitData : List ℕ → Bool
+isInitData d = eqb (length d) 146 && eqb (getD d 0 0) 0x41 && eqb (getD d 1 0) 0x04
+
 unfoldable pub initChecks : List ℕ → List Check
-initChecks d = must (eqb (length d) 146 && eqb (getD d 0 0) 0x41 && eqb (getD d 1 0) 0x04) wrongData ∷ []
+initChecks d = must (isInitData d) wrongData ∷ []
 
 unfoldable pub initContent : List ℕ → List ℕ → Option (List ℕ)
 initContent aes d = unpad (cbcDecrypt (invAes256 aes) (part 66 16 d) (part 82 64 d))
@@ -94,15 +99,15 @@ initContent aes d = unpad (cbcDecrypt (invAes256 aes) (part 66 16 d) (part 82 64
 abbrev pub isContent : List ℕ → Bool
 isContent x = eqb (length x) 50 && (allOf isDigit (part 0 6 x) && allOf isDigit (part 6 12 x))
 
+-- PIN and PUK of the content, with full tries
+abbrev pub pinsWith : List ℕ → Pins
+pinsWith x = record { pin = part 0 6 x; puk = part 6 12 x; «pin_tries» = pinTries; «puk_tries» = pukTries; verified = 0 }
+
+abbrev pub withPairingSecret : Pairing → List ℕ → Pairing
+withPairingSecret p d = record { secret = d; slots = p .slots; pending = p .pending; expected = p .expected }
+
 abbrev pub initialisedWith : Card → List ℕ → Card
-initialisedWith c x = record {
-  initialised = 1;
-  identity = c .identity;
-  pins = record { pin = part 0 6 x; puk = part 6 12 x; «pin_tries» = pinTries; «puk_tries» = pukTries; verified = 0 };
-  pairing = record { secret = part 18 32 x; slots = c .pairing .slots; pending = c .pairing .pending; expected = c .pairing .expected };
-  keys = c .keys;
-  channel = c .channel;
-}
+initialisedWith c x = withInitialised (withPairing (withPins c (pinsWith x)) (withPairingSecret (c .pairing) (part 18 32 x))) 1
 
 unfoldable pub initWith : Card → Option (List ℕ) → Reply
 initWith c none = fails c wrongData
@@ -111,7 +116,7 @@ initWith c (some x) = cond (isContent x) (succeeds (initialisedWith c x) []) (fa
 unfoldable pub initReply : Card → List ℕ → List ℕ → Reply
 initReply c d s = cond (saysYes s) (initWith c (initContent (initKey s) d)) (fails c wrongData)
 
--- ---- OPEN 10, P1 the slot: the channel is closed by now
+-- ---- OPEN 10, P1 the slot: the card that comes here has its channel closed (Steps.antt, step 5)
 abbrev pub slotAt : List Slot → ℕ → Slot
 slotAt slots i = getD slots i freeSlot
 
@@ -123,7 +128,7 @@ openedWith s = record { stage = 1; «enc_key» = openEncKey s; «mac_key» = ope
 
 unfoldable pub openReply : Card → List ℕ → Reply
 openReply c s =
-    cond (saysYes s) (succeeds (withChannel c (openedWith s)) (openSalt s ++ openIv s)) (fails (closed c) wrongData)
+    cond (saysYes s) (succeeds (withChannel c (openedWith s)) (openSalt s ++ openIv s)) (fails c wrongData)
 
 -- ---- MUTUAL 11: in stage 2 not again
 unfoldable pub mutualChecks : ℕ → List ℕ → List Check
@@ -181,9 +186,13 @@ unfoldable pub unpairReply : Card → ℕ → Reply
 unpairReply c i = succeeds (withPairing c (withSlot (c .pairing) i freeSlot)) []
 
 -- ---- GET STATUS F2
-unfoldable pub statusReply : Card → Report → Reply
-statusReply c report.Application = succeeds c (status (c .pins .«pin_tries») (c .pins .«puk_tries») (hasKey (c .keys)))
-statusReply c report.Path = succeeds c (pathBytes (c .keys .current))
+-- its template, from the parts of the card that it tells
+abbrev pub statusBytes : Pins → Keys → List ℕ
+statusBytes p k = answer.status (p .«pin_tries») (p .«puk_tries») (hasKey k)
+
+unfoldable pub statusReply : Card → StatusKind → Reply
+statusReply c status.Application = succeeds c (statusBytes (c .pins) (c .keys))
+statusReply c status.Path = succeeds c (pathBytes (c .keys .current))
 
 -- ---- VERIFY 20: any other bytes or length is wrong
 unfoldable pub verifyChecks : Pins → List Check
@@ -195,22 +204,19 @@ pinRight p = record { pin = p .pin; puk = p .puk; «pin_tries» = pinTries; «pu
 abbrev pub pinWrong : Pins → Pins
 pinWrong p = record { pin = p .pin; puk = p .puk; «pin_tries» = p .«pin_tries» - 1; «puk_tries» = p .«puk_tries»; verified = 0 }
 
--- how the comparison came out decides
-unfoldable pub verifyBy : Bool → Card → Reply
-verifyBy right c =
+-- how the comparison with the PIN came out decides
+unfoldable pub verifyReply : Bool → Card → Reply
+verifyReply right c =
     cond right (succeeds (withPins c (pinRight (c .pins))) [])
     (fails (withPins c (pinWrong (c .pins))) (triesLeft (c .pins .«pin_tries» - 1)))
 
-unfoldable pub verifyReply : Card → List ℕ → Reply
-verifyReply c d = verifyBy (sameBytes d (c .pins .pin)) c
-
 -- ---- CHANGE 21 (PIN): PIN, PUK or pairing secret
-abbrev pub isSecret : Secret → List ℕ → Bool
+abbrev pub isSecret : SecretKind → List ℕ → Bool
 isSecret secret.Pin d = areDigits 6 d
 isSecret secret.Puk d = areDigits 12 d
 isSecret secret.Pairing d = eqb (length d) 32
 
-unfoldable pub changeChecks : Pins → Secret → List ℕ → List Check
+unfoldable pub changeChecks : Pins → SecretKind → List ℕ → List Check
 changeChecks p which d = must (isVerified p) conditionsNotMet ∷ must (isSecret which d) wrongData ∷ []
 
 -- full tries for the one changed; verification stays
@@ -220,35 +226,33 @@ withPin p d = record { pin = d; puk = p .puk; «pin_tries» = pinTries; «puk_tr
 abbrev pub withPuk : Pins → List ℕ → Pins
 withPuk p d = record { pin = p .pin; puk = d; «pin_tries» = p .«pin_tries»; «puk_tries» = pukTries; verified = p .verified }
 
-abbrev pub withPairingSecret : Pairing → List ℕ → Pairing
-withPairingSecret p d = record { secret = d; slots = p .slots; pending = p .pending; expected = p .expected }
-
-unfoldable pub changeReply : Card → Secret → List ℕ → Reply
+unfoldable pub changeReply : Card → SecretKind → List ℕ → Reply
 changeReply c secret.Pin d = succeeds (withPins c (withPin (c .pins) d)) []
 changeReply c secret.Puk d = succeeds (withPins c (withPuk (c .pins) d)) []
 changeReply c secret.Pairing d = succeeds (withPairing c (withPairingSecret (c .pairing) d)) []
 
 -- ---- UNBLOCK 22: only at 0 PIN tries. PUK, any 12 bytes, then the new PIN
+abbrev pub isUnblocking : List ℕ → Bool
+isUnblocking d = eqb (length d) 18 && allOf isDigit (drop 12 d)
+
 unfoldable pub unblockChecks : Pins → List ℕ → List Check
 unblockChecks p d =
     must (isZero (p .«pin_tries»)) conditionsNotMet
     ∷ must (not (isZero (p .«puk_tries»))) (triesLeft 0)
-    ∷ must (eqb (length d) 18 && allOf isDigit (drop 12 d)) wrongData
+    ∷ must (isUnblocking d) wrongData
     ∷ []
 
 abbrev pub pukRight : Pins → List ℕ → Pins
-pukRight p pin = record { pin = pin; puk = p .puk; «pin_tries» = pinTries; «puk_tries» = pukTries; verified = 1 }
+pukRight p newPin = record { pin = newPin; puk = p .puk; «pin_tries» = pinTries; «puk_tries» = pukTries; verified = 1 }
 
 abbrev pub pukWrong : Pins → Pins
 pukWrong p = record { pin = p .pin; puk = p .puk; «pin_tries» = p .«pin_tries»; «puk_tries» = p .«puk_tries» - 1; verified = p .verified }
 
-unfoldable pub unblockBy : Bool → Card → List ℕ → Reply
-unblockBy right c pin =
-    cond right (succeeds (withPins c (pukRight (c .pins) pin)) [])
+-- how the comparison with the PUK came out decides
+unfoldable pub unblockReply : Bool → Card → List ℕ → Reply
+unblockReply right c newPin =
+    cond right (succeeds (withPins c (pukRight (c .pins) newPin)) [])
     (fails (withPins c (pukWrong (c .pins))) (triesLeft (c .pins .«puk_tries» - 1)))
-
-unfoldable pub unblockReply : Card → List ℕ → Reply
-unblockReply c d = unblockBy (sameBytes (take 12 d) (c .pins .puk)) c (drop 12 d)
 
 -- ---- LOAD D0 (PIN): a keypair template without or with the chain code, or a seed
 abbrev pub isKeyData : KeyForm → List ℕ → Bool
@@ -309,59 +313,23 @@ signChecks p k d =
     must (hasKey k && (isVerified p || onPinlessPath k)) conditionsNotMet ∷ must (eqb (length d) 32) wrongData ∷ []
 
 unfoldable pub signReply : Card → List ℕ → Reply
-signReply c s = succeeds c (signature (signKey s) (signR s) (signS s))
+signReply c s = succeeds c (answer.signature (signKey s) (signR s) (signS s))
 
--- ---- all of them: the checks, the supply that is read past them, and the reply
-unfoldable pub checksOf : Command → Card → List ℕ → List Check
-checksOf command.Select c d = selectChecks d
-checksOf command.Init c d = initChecks d
-checksOf (command.Open i) c d = openChecks (c .pairing .slots) i d
-checksOf command.Mutual c d = mutualChecks (c .channel .stage) d
-checksOf command.PairFirst c d = pairFirstChecks (c .pairing) (c .channel .stage) d
-checksOf command.PairFinal c d = pairFinalChecks (c .pairing) (c .channel .stage) d
-checksOf (command.Unpair i) c d = unpairChecks (c .pins)
-checksOf (command.Status which) c d = []
-checksOf command.Verify c d = verifyChecks (c .pins)
-checksOf (command.Change which) c d = changeChecks (c .pins) which d
-checksOf command.Unblock c d = unblockChecks (c .pins) d
-checksOf (command.Load form) c d = loadChecks (c .pins) form d
-checksOf command.Derive c d = deriveChecks (c .pins) (c .keys) d
-checksOf command.Remove c d = removeChecks (c .pins)
-checksOf command.SetPinless c d = pinlessChecks (c .pins) d
-checksOf command.Sign c d = signChecks (c .pins) (c .keys) d
-
-unfoldable pub supplyOf : Command → Supply
-supplyOf command.Select = noSupply
-supplyOf command.Init = initSupply
-supplyOf (command.Open i) = openSupply
-supplyOf command.Mutual = mutualSupply
-supplyOf command.PairFirst = pairFirstSupply
-supplyOf command.PairFinal = pairFinalSupply
-supplyOf (command.Unpair i) = noSupply
-supplyOf (command.Status which) = noSupply
-supplyOf command.Verify = noSupply
-supplyOf (command.Change which) = noSupply
-supplyOf command.Unblock = noSupply
-supplyOf (command.Load form) = loadSupply
-supplyOf command.Derive = deriveSupply
-supplyOf command.Remove = noSupply
-supplyOf command.SetPinless = noSupply
-supplyOf command.Sign = signSupply
-
-unfoldable pub replyOf : Command → Card → List ℕ → List ℕ → Reply
-replyOf command.Select c d s = selectReply c
-replyOf command.Init c d s = initReply c d s
-replyOf (command.Open i) c d s = openReply c s
-replyOf command.Mutual c d s = mutualReply c s
-replyOf command.PairFirst c d s = pairFirstReply c s
-replyOf command.PairFinal c d s = pairFinalReply c s
-replyOf (command.Unpair i) c d s = unpairReply c i
-replyOf (command.Status which) c d s = statusReply c which
-replyOf command.Verify c d s = verifyReply c d
-replyOf (command.Change which) c d s = changeReply c which d
-replyOf command.Unblock c d s = unblockReply c d
-replyOf (command.Load form) c d s = loadReply c form s
-replyOf command.Derive c d s = deriveReply c d s
-replyOf command.Remove c d s = removeReply c
-replyOf command.SetPinless c d s = pinlessReply c d
-replyOf command.Sign c d s = signReply c s
+-- ---- the rules: for each command its checks, the supply that is read past them or the secret that is compared, and its reply
+unfoldable pub ruleOf : Command → Rule
+ruleOf command.Select = rule (λ c d. selectChecks d) noSupply (λ c d s. selectReply c)
+ruleOf command.Init = rule (λ c d. initChecks d) initSupply initReply
+ruleOf (command.Open i) = rule (λ c d. openChecks (c .pairing .slots) i d) openSupply (λ c d s. openReply c s)
+ruleOf command.Mutual = rule (λ c d. mutualChecks (c .channel .stage) d) mutualSupply (λ c d s. mutualReply c s)
+ruleOf command.PairFirst = rule (λ c d. pairFirstChecks (c .pairing) (c .channel .stage) d) pairFirstSupply (λ c d s. pairFirstReply c s)
+ruleOf command.PairFinal = rule (λ c d. pairFinalChecks (c .pairing) (c .channel .stage) d) pairFinalSupply (λ c d s. pairFinalReply c s)
+ruleOf (command.Unpair i) = rule (λ c d. unpairChecks (c .pins)) noSupply (λ c d s. unpairReply c i)
+ruleOf (command.Status which) = rule (λ c d. []) noSupply (λ c d s. statusReply c which)
+ruleOf command.Verify = comparing pin (λ c d. verifyChecks (c .pins)) (λ right c d. verifyReply right c)
+ruleOf (command.Change which) = rule (λ c d. changeChecks (c .pins) which d) noSupply (λ c d s. changeReply c which d)
+ruleOf command.Unblock = comparing puk (λ c d. unblockChecks (c .pins) d) (λ right c d. unblockReply right c (drop 12 d))
+ruleOf (command.Load form) = rule (λ c d. loadChecks (c .pins) form d) loadSupply (λ c d s. loadReply c form s)
+ruleOf command.Derive = rule (λ c d. deriveChecks (c .pins) (c .keys) d) deriveSupply deriveReply
+ruleOf command.Remove = rule (λ c d. removeChecks (c .pins)) noSupply (λ c d s. removeReply c)
+ruleOf command.SetPinless = rule (λ c d. pinlessChecks (c .pins) d) noSupply (λ c d s. pinlessReply c d)
+ruleOf command.Sign = rule (λ c d. signChecks (c .pins) (c .keys) d) signSupply (λ c d s. signReply c s)

@@ -1,5 +1,10 @@
 pub mod Words
 pub mod Supplies
-pub mod Steps
+pub mod Rules
 pub mod Commands
+pub mod Rows
+pub mod Channel
+pub mod Steps
 pub mod Engine
+pub mod Comparison
+pub mod Code

@@ -1,50 +1,62 @@
--- Steps 1 to 5 of the order of checks (01, Order of checks for a command), each as a definition of its own; Engine.antt puts them
--- in order. Every length, Lc included, is in bytes.
+-- The order of checks for a command, steps 1 to 6 (01, Order of checks for a command): each step a definition of its own, in order, and at the
+-- end `arrival`, steps 1 to 5 one after the other, and `decide`, the whole. Every length, Lc included, is in bytes.
 use Prim.Native.Nat.{ℕ, _+_}
-use mathlib.Core.Bool.{Bool, true, false, _&&_, _||_, not, cond}
+use mathlib.Core.Bool.{Bool, _&&_, _||_, not, cond}
 use mathlib.Core.List.{List, [], _∷_}
 use mathlib.Core.Option.{Option, none, some}
 use lib.Dec.{ltb, leb, eqb}
 use lib.ListN.{length, take, drop, getD}
 use Rattle.octets.specs.Bytes.{sameBytes}
+use Rattle.message.specs.Message.{commandHead, openField}
 use Rattle.card.specs.declared.Card.{Card}
-use Rattle.card.specs.State.{slotCount, withPairing, withChannel, closedOf, notPending}
+use Rattle.card.specs.State.{closed, forgotten}
 use Rattle.card.specs.Slots.{isZero}
 use Rattle.rules.specs.declared.Instruction.{Instruction}
 use Rattle.rules.specs.declared.Instruction.the-variants as ins
 use Rattle.rules.specs.declared.Named.{Named}
 use Rattle.rules.specs.declared.Named.the-variants as named
-use Rattle.rules.specs.declared.Report.the-variants as report
-use Rattle.rules.specs.declared.Secret.the-variants as secret
-use Rattle.rules.specs.declared.KeyForm.the-variants as key
+use Rattle.rules.specs.declared.Loss.{Loss}
+use Rattle.rules.specs.declared.Loss.the-variants as loss
 use Rattle.rules.specs.declared.Command.{Command}
-use Rattle.rules.specs.declared.Command.the-variants as command
-use Rattle.rules.specs.declared.Choice.{Choice}
-use Rattle.rules.specs.declared.Choice.the-variants as choice
+use Rattle.rules.specs.declared.Supply.{Supply}
+use Rattle.rules.specs.declared.Verdict.{Verdict}
+use Rattle.rules.specs.declared.Verdict.the-variants.{Reads, Fails}
+use Rattle.rules.specs.Words.{wrongLength, conditionsNotMet, securityNotMet, wrongParameters, unknownInstruction, unknownClass, Check, verdict, Reply, fails}
+use Rattle.rules.specs.Supplies.{noSupply}
+use Rattle.rules.specs.Rules.{outcomeOf}
+use Rattle.rules.specs.Commands.{ruleOf}
+use Rattle.rules.specs.Rows.{rowOf, class80, offered, isPlain}
+use Rattle.rules.specs.Channel.{sessionOf, withMac, Outgoing, plainly, tell}
 
--- the card with its channel in stage 0, and the card without a pending pairing
-abbrev pub closed : Card → Card
-closed c = withChannel c closedOf
+-- ---- a step goes on with what it found, or stops with an answer
+pub data Step (A : Type 0) : Type 0 where
+  goes : A → Step A
+  stops : Outgoing → Step A
 
-abbrev pub forgotten : Card → Card
-forgotten c = withPairing c (notPending (c .pairing))
+abbrev pub then : {A B : Type 0} → Step A → (A → Step B) → Step B
+then (goes x) next = next x
+then (stops t) next = stops t
+
+-- a plain status word
+abbrev pub stopsWith : {A : Type 0} → Card → ℕ → Step A
+stopsWith c w = stops (plainly (fails c w))
 
 -- ---- step 1, by the first two bytes, however short the command
 abbrev pub begins : ℕ → List ℕ → Bool
 begins instruction cmd = sameBytes (take 2 cmd) (0x80 ∷ instruction ∷ [])
 
 -- in stage 1 anything but 80 11 drops the channel
-abbrev pub dropped : List ℕ → Card → Card
-dropped cmd c = cond (eqb (c .channel .stage) 1 && not (begins 0x11 cmd)) (closed c) c
+abbrev pub dropping : List ℕ → Card → Card
+dropping cmd c = cond (eqb (c .channel .stage) 1 && not (begins 0x11 cmd)) (closed c) c
 
 -- anything but 80 12 forgets a pending pairing
-abbrev pub kept : List ℕ → Card → Card
-kept cmd c = cond (begins 0x12 cmd) c (forgotten c)
+abbrev pub forgetting : List ℕ → Card → Card
+forgetting cmd c = cond (begins 0x12 cmd) c (forgotten c)
 
-unfoldable pub afterStep1 : List ℕ → Card → Card
-afterStep1 cmd c = kept cmd (dropped cmd c)
+unfoldable pub step1 : List ℕ → Card → Card
+step1 cmd c = forgetting cmd (dropping cmd c)
 
--- ---- step 2, the form: the command's data, or none where the form is wrong
+-- ---- step 2, the form: the command's data as received, or 6700
 abbrev pub lcOf : List ℕ → ℕ
 lcOf cmd = getD cmd 4 0
 
@@ -57,6 +69,13 @@ dataOf cmd =
     cond (ltb (length cmd) 4) none
     (cond (leb (length cmd) 5) (some [])
     (cond (lcFits (lcOf cmd) (length cmd)) (some (take (lcOf cmd) (drop 5 cmd))) none))
+
+abbrev pub byForm : Card → Option (List ℕ) → Step (List ℕ)
+byForm c none = stopsWith c wrongLength
+byForm c (some field) = goes field
+
+abbrev pub step2 : List ℕ → Card → Step (List ℕ)
+step2 cmd c = byForm c (dataOf cmd)
 
 -- the header CLA INS P1 P2, which a command of a right form has
 abbrev pub headerOf : List ℕ → List ℕ
@@ -75,53 +94,6 @@ abbrev pub p2Of : List ℕ → ℕ
 p2Of cmd = getD cmd 3 0
 
 -- ---- step 3, class and instruction
--- what 01 says of an instruction: its byte, whether it is there before INIT and after, and the lowest stage of the channel that it goes in.
--- Stage 0 is said of SELECT, INIT, OPEN and PAIR, which are plain in every stage
-pub record Row : Type 0 where
-  pub byte : ℕ
-  pub before : Bool
-  pub after : Bool
-  pub stage : ℕ
-
-abbrev row : ℕ → Bool → Bool → ℕ → Row
-row byte before after stage = record { byte = byte; before = before; after = after; stage = stage }
-
-abbrev pub rowOf : Instruction → Row
-rowOf ins.Select = row 0xA4 true true 0
-rowOf ins.Init = row 0xFE true false 0
-rowOf ins.Open = row 0x10 false true 0
-rowOf ins.Mutual = row 0x11 false true 1
-rowOf ins.Pair = row 0x12 false true 0
-rowOf ins.Unpair = row 0x13 false true 2
-rowOf ins.Status = row 0xF2 false true 2
-rowOf ins.Verify = row 0x20 false true 2
-rowOf ins.Change = row 0x21 false true 2
-rowOf ins.Unblock = row 0x22 false true 2
-rowOf ins.Load = row 0xD0 false true 2
-rowOf ins.Derive = row 0xD1 false true 2
-rowOf ins.Remove = row 0xD3 false true 2
-rowOf ins.SetPinless = row 0xC1 false true 2
-rowOf ins.Sign = row 0xC0 false true 2
-
--- those of class 80: all but SELECT
-abbrev pub class80 : List Instruction
-class80 =
-    ins.Init
-    ∷ ins.Open
-    ∷ ins.Mutual
-    ∷ ins.Pair
-    ∷ ins.Unpair
-    ∷ ins.Status
-    ∷ ins.Verify
-    ∷ ins.Change
-    ∷ ins.Unblock
-    ∷ ins.Load
-    ∷ ins.Derive
-    ∷ ins.Remove
-    ∷ ins.SetPinless
-    ∷ ins.Sign
-    ∷ []
-
 -- the one of a list that has this instruction byte
 abbrev pub withByte : ℕ → List Instruction → Named
 withByte b [] = named.Unknown
@@ -134,75 +106,122 @@ byClass cla b =
     (cond (eqb cla 0 && eqb b (rowOf ins.Select .byte)) (named.Known ins.Select) named.WrongClass)
 
 -- an initialised card has no INIT; before INIT there are SELECT and INIT alone
-abbrev pub offered : Bool → Instruction → Bool
-offered initialised i = cond initialised (rowOf i .after) (rowOf i .before)
-
 abbrev pub onCard : Bool → Named → Named
-onCard initialised (named.Known i) = cond (offered initialised i) (named.Known i) named.Unknown
+onCard initialised (named.Known i) = cond (offered (rowOf i .offer) initialised) (named.Known i) named.Unknown
 onCard initialised named.WrongClass = named.WrongClass
 onCard initialised named.Unknown = named.Unknown
-
-abbrev pub isInitialised : Card → Bool
-isInitialised c = not (isZero (c .initialised))
 
 unfoldable pub nameOf : Bool → ℕ → ℕ → Named
 nameOf initialised cla b = onCard initialised (byClass cla b)
 
--- ---- step 4: SELECT, INIT, OPEN and PAIR are plain in every stage; MUTUAL goes in stage 1 or 2, the others in stage 2
-unfoldable pub isPlain : Instruction → Bool
-isPlain i = isZero (rowOf i .stage)
+abbrev pub isInitialised : Card → Bool
+isInitialised c = not (isZero (c .initialised))
 
-unfoldable pub inStage : Instruction → ℕ → Bool
+abbrev pub byName : Card → Named → Step Instruction
+byName c (named.Known i) = goes i
+byName c named.WrongClass = stopsWith c unknownClass
+byName c named.Unknown = stopsWith c unknownInstruction
+
+abbrev pub step3 : List ℕ → Card → Step Instruction
+step3 cmd c = byName c (nameOf (isInitialised c) (claOf cmd) (insOf cmd))
+
+-- ---- step 4: a plain command goes on with its data as it is; the others need the stage, and their data is opened
+pub record Opened : Type 0 where
+  pub card : Card
+  pub data′ : List ℕ
+
+-- the MAC of the command is the next IV
+abbrev pub byOpening : Card → List ℕ → Option (List ℕ) → Step Opened
+byOpening c field none = stopsWith (closed c) securityNotMet
+byOpening c field (some d) = goes (record { card = withMac c (take 16 field); data′ = d })
+
+abbrev pub inStage : Instruction → ℕ → Bool
 inStage i stage = leb (rowOf i .stage) stage
 
--- what is lost before steps 5 and 6, so that an error there leaves this card: OPEN has closed the channel; PAIR with P1 01 has ended the
--- pending pairing; MUTUAL in stage 1 gives the channel up
-unfoldable pub atStake : Instruction → ℕ → Card → Card
-atStake ins.Open p1 c = closed c
-atStake ins.Pair p1 c = cond (eqb p1 1) (forgotten c) c
-atStake ins.Mutual p1 c = cond (eqb (c .channel .stage) 2) c (closed c)
-atStake ins.Select p1 c = c
-atStake ins.Init p1 c = c
-atStake ins.Unpair p1 c = c
-atStake ins.Status p1 c = c
-atStake ins.Verify p1 c = c
-atStake ins.Change p1 c = c
-atStake ins.Unblock p1 c = c
-atStake ins.Load p1 c = c
-atStake ins.Derive p1 c = c
-atStake ins.Remove p1 c = c
-atStake ins.SetPinless p1 c = c
-atStake ins.Sign p1 c = c
+-- what the card opens of a command's field
+abbrev pub openedBy : Card → List ℕ → List ℕ → Option (List ℕ)
+openedBy c cmd field = openField (sessionOf (c .channel)) (commandHead (headerOf cmd)) field
 
--- ---- step 5: the P1 that each instruction lists. P2 is 00
-abbrev pub only : ℕ → ℕ → Command → Option Command
-only n p1 k = cond (eqb p1 n) (some k) none
+unfoldable pub step4 : Instruction → List ℕ → Card → List ℕ → Step Opened
+step4 i cmd c field =
+    cond (isPlain i) (goes (record { card = c; data′ = field }))
+    (cond (inStage i (c .channel .stage)) (byOpening c field (openedBy c cmd field)) (stopsWith c conditionsNotMet))
 
-abbrev pub byP1 : Instruction → ℕ → Option Command
-byP1 ins.Select p1 = only 0x04 p1 command.Select
-byP1 ins.Init p1 = only 0 p1 command.Init
-byP1 ins.Open p1 = cond (ltb p1 slotCount) (some (command.Open p1)) none
-byP1 ins.Mutual p1 = only 0 p1 command.Mutual
-byP1 ins.Pair p1 = cond (eqb p1 0) (some command.PairFirst) (only 1 p1 command.PairFinal)
-byP1 ins.Unpair p1 = cond (ltb p1 slotCount) (some (command.Unpair p1)) none
-byP1 ins.Status p1 = cond (eqb p1 0) (some (command.Status report.Application)) (only 1 p1 (command.Status report.Path))
-byP1 ins.Verify p1 = only 0 p1 command.Verify
-byP1 ins.Change p1 =
-    cond (eqb p1 0) (some (command.Change secret.Pin))
-    (cond (eqb p1 1) (some (command.Change secret.Puk)) (only 2 p1 (command.Change secret.Pairing)))
-byP1 ins.Unblock p1 = only 0 p1 command.Unblock
-byP1 ins.Load p1 =
-    cond (eqb p1 1) (some (command.Load key.Keypair))
-    (cond (eqb p1 2) (some (command.Load key.Extended)) (only 3 p1 (command.Load key.Seed)))
-byP1 ins.Derive p1 = only 0 p1 command.Derive
-byP1 ins.Remove p1 = only 0 p1 command.Remove
-byP1 ins.SetPinless p1 = only 0 p1 command.SetPinless
-byP1 ins.Sign p1 = only 0 p1 command.Sign
+-- ---- step 5: P1 and P2
+-- OPEN closes any channel before steps 5 and 6
+abbrev pub begun : Loss → Card → Card
+begun loss.Channel c = closed c
+begun loss.HalfOpen c = c
+begun loss.Pending c = c
+begun loss.Nothing c = c
 
-unfoldable pub commandOf : Instruction → ℕ → ℕ → Option Command
-commandOf i p1 p2 = cond (isZero p2) (byP1 i p1) none
+-- what an error at step 5 or 6 leaves: MUTUAL in stage 1 gives the channel up; PAIR with P1 01 ends the pending pairing
+abbrev pub failed : Loss → ℕ → Card → Card
+failed loss.Channel p1 c = c
+failed loss.HalfOpen p1 c = cond (eqb (c .channel .stage) 2) c (closed c)
+failed loss.Pending p1 c = cond (eqb p1 1) (forgotten c) c
+failed loss.Nothing p1 c = c
 
--- what the code answers for it
-abbrev pub choiceOf : Option Command → Choice
-choiceOf (some k) = choice.Listed k
-choiceOf none = choice.Unlisted
+-- at step 6: the command and its data, the card, the card that an error leaves, and whether the command came over the channel
+pub record Arrived : Type 0 where
+  pub command : Command
+  pub data′ : List ℕ
+  pub card : Card
+  pub lost : Card
+  pub over : Bool
+
+abbrev pub byChoice : Bool → List ℕ → Card → Card → Option Command → Step Arrived
+byChoice over d c lost none = stops (tell over (fails lost wrongParameters))
+byChoice over d c lost (some k) = goes (record { command = k; data′ = d; card = c; lost = lost; over = over })
+
+unfoldable pub step5 : Instruction → List ℕ → Opened → Step Arrived
+step5 i cmd o =
+    let c = begun (rowOf i .loss) (o .card) in
+    byChoice (not (isPlain i)) (o .data′) c (failed (rowOf i .loss) (p1Of cmd) c) (rowOf i .lists (p1Of cmd) (p2Of cmd))
+
+-- ---- steps 1 to 5: the command at its own checks, or the answer of the step that stops
+unfoldable pub pastStep1 : List ℕ → Card → Step Arrived
+pastStep1 cmd c =
+    then (step2 cmd c) (λ field.
+    then (step3 cmd c) (λ i.
+    then (step4 i cmd c field) (λ o.
+    step5 i cmd o)))
+
+unfoldable pub arrival : Card → List ℕ → Step Arrived
+arrival c cmd = pastStep1 cmd (step1 cmd c)
+
+-- ---- step 6: the command's checks, then comparison or supply
+-- the parts of a command's rule; the PIN and the PUK that are compared are those of the card
+abbrev pub checksOf : Command → Card → List ℕ → List Check
+checksOf k c d = ruleOf k .checks c d
+
+abbrev pub supplyOf : Command → Supply
+supplyOf k = ruleOf k .supply
+
+abbrev pub replyOf : Command → Card → List ℕ → List ℕ → Reply
+replyOf k c d s = ruleOf k .reply (outcomeOf (ruleOf k .compares) (c .pins) d) c d s
+
+-- what the order of checks comes to: the supply that is read, with the data for it; and the answer, from the supply
+pub record Decision : Type 0 where
+  pub supply : Supply
+  pub data′ : List ℕ
+  pub answer : List ℕ → Outgoing
+
+-- an answer that reads no supply
+abbrev pub ends : Outgoing → Decision
+ends t = record { supply = noSupply; data′ = []; answer = λ _. t }
+
+abbrev pub byVerdict : Arrived → Verdict → Decision
+byVerdict a (Reads k) = record { supply = k; data′ = a .data′; answer = λ s. tell (a .over) (replyOf (a .command) (a .card) (a .data′) s) }
+byVerdict a (Fails w) = ends (tell (a .over) (fails (a .lost) w))
+
+unfoldable pub step6 : Arrived → Decision
+step6 a = byVerdict a (verdict (supplyOf (a .command)) (checksOf (a .command) (a .card) (a .data′)))
+
+-- ---- the whole
+abbrev pub finish : Step Arrived → Decision
+finish (goes a) = step6 a
+finish (stops t) = ends t
+
+unfoldable pub decide : Card → List ℕ → Decision
+decide c cmd = finish (arrival c cmd)

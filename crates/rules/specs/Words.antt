@@ -1,11 +1,11 @@
 -- The status words by name, the checks that give them, and what a command's rule answers.
 use Prim.Native.Nat.{ℕ, _+_, _/_, _%_}
 use mathlib.Core.Bool.{Bool, cond}
-use mathlib.Core.List.{List, [], _∷_, _++_}
-use mathlib.Core.Path.{_≡_}
-use lib.ListN.{length, drop}
+use mathlib.Core.List.{List, [], _∷_}
 use Rattle.card.specs.declared.Card.{Card}
-use Rattle.rules.specs.declared.Replied.{Replied}
+use Rattle.rules.specs.declared.Supply.{Supply}
+use Rattle.rules.specs.declared.Verdict.{Verdict}
+use Rattle.rules.specs.declared.Verdict.the-variants.{Reads, Fails}
 
 -- ---- the status words, SW1 SW2 as one number
 abbrev pub success : ℕ
@@ -57,10 +57,10 @@ pub record Check : Type 0 where
 abbrev pub must : Bool → ℕ → Check
 must b w = record { holds = b; otherwise = w }
 
--- the status word of the first check that does not hold; success where all hold
-abbrev pub verdict : List Check → ℕ
-verdict [] = success
-verdict (k ∷ more) = cond (k .holds) (verdict more) (k .otherwise)
+-- where all hold, the supply is read; otherwise the status word is that of the first check that does not
+abbrev pub verdict : Supply → List Check → Verdict
+verdict s [] = Reads s
+verdict s (k ∷ more) = cond (k .holds) (verdict s more) (Fails (k .otherwise))
 
 -- ---- what a command's rule answers: the status word, the response data, and the next card
 pub record Reply : Type 0 where
@@ -73,11 +73,3 @@ succeeds c response = record { status = success; response = response; card = c }
 
 abbrev pub fails : Card → ℕ → Reply
 fails c w = record { status = w; response = []; card = c }
-
--- what the code answers for it, and what it leaves in the buffer: the response data from the start, the rest as it was
-abbrev pub reportOf : Reply → Replied
-reportOf r = record { status = r .status; count = length (r .response); card = r .card }
-
-pub record Replies (r : Reply) (out : Replied) (before after : List ℕ) : Type 0 where
-  pub told : out ≡ reportOf r
-  pub left : after ≡ r .response ++ drop (length (r .response)) before

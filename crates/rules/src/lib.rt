@@ -1,5 +1,6 @@
 // The rulebook: what a command is, and the definitions of all that the card does with one, from its bytes to its answer.
-// Every length and count is in bytes. The rules stand in specs/; here are the types that the code and the rules share.
+// Every length and count is in bytes. The rules stand in specs/; here are the types and the constants that the code and the rules share.
+// A new command has one row in specs/Rows.antt, one rule in specs/Commands.antt, and its name in the two enums below.
 use card::Card;
 
 // The status words (01), as one number of two bytes, SW1 SW2.
@@ -28,6 +29,42 @@ pub const UNKNOWN_INSTRUCTION: u16 = 0x6D00;
 
 pub const UNKNOWN_CLASS: u16 = 0x6E00;
 
+// The class bytes: of SELECT, and of all other instructions.
+pub const CLASS_SELECT: u8 = 0x00;
+
+pub const CLASS: u8 = 0x80;
+
+// The instruction bytes.
+pub const INS_SELECT: u8 = 0xA4;
+
+pub const INS_INIT: u8 = 0xFE;
+
+pub const INS_OPEN: u8 = 0x10;
+
+pub const INS_MUTUAL: u8 = 0x11;
+
+pub const INS_PAIR: u8 = 0x12;
+
+pub const INS_UNPAIR: u8 = 0x13;
+
+pub const INS_STATUS: u8 = 0xF2;
+
+pub const INS_VERIFY: u8 = 0x20;
+
+pub const INS_CHANGE: u8 = 0x21;
+
+pub const INS_UNBLOCK: u8 = 0x22;
+
+pub const INS_LOAD: u8 = 0xD0;
+
+pub const INS_DERIVE: u8 = 0xD1;
+
+pub const INS_REMOVE: u8 = 0xD3;
+
+pub const INS_SET_PINLESS: u8 = 0xC1;
+
+pub const INS_SIGN: u8 = 0xC0;
+
 // The most data that a command's response has, in bytes: with the status word it can be sealed.
 pub const RESPONSE_MAX_BYTES: usize = 221;
 
@@ -50,6 +87,22 @@ pub enum Instruction {
     Sign,
 }
 
+// Where an instruction is offered: on every card, on one before INIT, or on one after INIT.
+pub enum Offer {
+    Always,
+    BeforeInit,
+    AfterInit,
+}
+
+// What an instruction gives up at steps 5 and 6: nothing; the channel, before both; the channel in stage 1, by an error; or, with P1 01, the
+// pending pairing, by an error.
+pub enum Loss {
+    Nothing,
+    Channel,
+    HalfOpen,
+    Pending,
+}
+
 // Step 3: the instruction, or which of the two checks fails.
 pub enum Named {
     Known(Instruction),
@@ -58,13 +111,13 @@ pub enum Named {
 }
 
 // GET STATUS, P1 00 and 01: the tries and whether there is a key; the current path.
-pub enum Report {
+pub enum StatusKind {
     Application,
     Path,
 }
 
-// CHANGE, P1 00, 01 and 02.
-pub enum Secret {
+// CHANGE, P1 00, 01 and 02: which secret.
+pub enum SecretKind {
     Pin,
     Puk,
     Pairing,
@@ -86,9 +139,9 @@ pub enum Command {
     PairFirst,
     PairFinal,
     Unpair(u8),
-    Status(Report),
+    Status(StatusKind),
     Verify,
-    Change(Secret),
+    Change(SecretKind),
     Unblock,
     Load(KeyForm),
     Derive,
@@ -103,11 +156,17 @@ pub enum Choice {
     Unlisted,
 }
 
-// A supply: its kind, 1 to 8, or 0 for none; how many bytes it has; and whether its first byte is a flag.
+// A supply: its kind, or 0 for none; how many bytes it has; and whether its first byte is a flag.
 pub struct Supply {
     pub kind: u8,
     pub bytes: usize,
     pub flagged: bool,
+}
+
+// Step 6: the supply that is read where all checks hold, or the status word of the first check that does not.
+pub enum Verdict {
+    Reads(Supply),
+    Fails(u16),
 }
 
 // What a command's function answers: the status word, how many bytes of response data it wrote from the buffer's start, and the next card.

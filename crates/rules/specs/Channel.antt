@@ -1,0 +1,47 @@
+-- The card's end of the channel, and how an answer goes out (01, The sealed message).
+use Prim.Native.Nat.{ℕ}
+use mathlib.Core.Bool.{Bool, _&&_, cond}
+use mathlib.Core.List.{List, _++_}
+use lib.Dec.{eqb}
+use Rattle.message.specs.declared.Session.{Session}
+use Rattle.message.specs.Message.{responseHead, fieldMac}
+use Rattle.message.specs.Terminal.{sealedResponse}
+use Rattle.card.specs.declared.Channel.{Channel}
+use Rattle.card.specs.declared.Card.{Card}
+use Rattle.card.specs.State.{withChannel}
+use Rattle.rules.specs.Words.{word, Reply}
+
+abbrev pub sessionOf : Channel → Session
+sessionOf k = record { «enc_key» = k .«enc_key»; «mac_key» = k .«mac_key»; iv = k .iv }
+
+-- the MAC of the latest message sealed or opened is the next IV
+abbrev pub withMac : Card → List ℕ → Card
+withMac c mac = withChannel c (record {
+  stage = c .channel .stage;
+  «enc_key» = c .channel .«enc_key»;
+  «mac_key» = c .channel .«mac_key»;
+  iv = mac;
+})
+
+-- ---- an answer as it goes out: its bytes, and the card that it leaves
+pub record Outgoing : Type 0 where
+  pub bytes : List ℕ
+  pub card : Card
+
+-- plain: the response data, then the status word
+abbrev pub plainText : Reply → List ℕ
+plainText r = r .response ++ word (r .status)
+
+abbrev pub plainly : Reply → Outgoing
+plainly r = record { bytes = plainText r; card = r .card }
+
+-- sealed: both together, under the session of the card that is left
+abbrev pub sealed : Reply → Outgoing
+sealed r = record {
+  bytes = sealedResponse (sessionOf (r .card .channel)) (plainText r);
+  card = withMac (r .card) (fieldMac (sessionOf (r .card .channel)) responseHead (plainText r));
+}
+
+-- an answer is sealed where the command came over the channel and the card that is left is in stage 2; otherwise it is plain
+unfoldable pub tell : Bool → Reply → Outgoing
+tell over r = cond (over && eqb (r .card .channel .stage) 2) (sealed r) (plainly r)
