@@ -1,38 +1,41 @@
 -- What follows where a command's checks hold and its supply has the form: each check, and the lengths of the supply's parts.
 -- Assumes nothing.
 use mathlib.Core.Path.{_≡_, refl, sym}
-use mathlib.Core.Bool.{Bool, true, false, _&&_, _||_, not, cond, false≢true}
+use mathlib.Core.Bool.{Bool, true, false, _&&_, _||_, false≢true}
 use mathlib.Core.List.{List, [], _∷_}
-use Prim.Native.Nat.{ℕ, _+_, _≤_}
+use Prim.Native.Nat.{ℕ, _+_, _≤_, _<_}
 use native.Mathlib.Omega.{arith}
 use lib.Dec.{eqb}
 use lib.ListN.{length, length-take, length-drop}
-use borrow.Author.Tests.{eqb-true, eqb-false, not-true}
+use borrow.Author.Tests.{eqb-true}
+use Rattle.template.proofs.HeadFacts.{by-test}
 use Rattle.card.proofs.Tests.{both}
 use Rattle.rules.specs.declared.Supply.{Supply}
-use Rattle.rules.specs.Words.{Check, verdict, success}
+use Rattle.rules.specs.declared.Verdict.{Verdict}
+use Rattle.rules.specs.declared.Verdict.the-variants.{Reads, Fails}
+use Rattle.rules.specs.Words.{Check, verdict, Hold}
 use Rattle.rules.specs.Supplies.{suits, part}
 
--- ---- checks: where the verdict is success, each check holds
-abbrev pub Hold : List Check → Type 0
-Hold [] = Unit {0}
-Hold (k ∷ more) = (k .holds ≡ true) × Hold more
+-- ---- a verdict by cases: each check holds and the supply is read, or a status word of one of them
+abbrev pub Below : ℕ → List Check → Type 0
+Below n [] = Unit {0}
+Below n (k ∷ more) = (k .otherwise < n) × Below n more
 
--- no check gives success as its status word
-abbrev pub eachFails : List Check → Bool
-eachFails [] = true
-eachFails (k ∷ more) = not (eqb (k .otherwise) success) && eachFails more
+module _ (P : Verdict → Type 0) (s : Supply) where
+  pub by-verdict : (l : List Check) → (Hold l → P (Reads s)) → ((w : ℕ) → P (Fails w)) → P (verdict s l)
+  by-verdict [] h f = h tt
+  by-verdict (k ∷ more) h f = by-test P (k .holds) (λ e. by-verdict more (λ t. h (e, t)) f) (λ e. f (k .otherwise))
 
-first : (b : Bool) (w n : ℕ) → (w ≡ success → ⊥) → cond b n w ≡ success → (b ≡ true) × (n ≡ success)
-first true w n f e = (refl, e)
-first false w n f e = absurd (f e)
+  -- the same, where every status word is below a number
+  pub by-verdict-below : (n : ℕ) (l : List Check) → Below n l → (Hold l → P (Reads s)) → ((w : ℕ) → w < n → P (Fails w)) → P (verdict s l)
+  by-verdict-below n [] b h f = h tt
+  by-verdict-below n (k ∷ more) b h f =
+      by-test P (k .holds) (λ e. by-verdict-below n more (b .1) (λ t. h (e, t)) f) (λ e. f (k .otherwise) (b .0))
 
-pub checked : (l : List Check) → eachFails l ≡ true → verdict l ≡ success → Hold l
-checked [] f e = tt
-checked (k ∷ more) f e =
-    let n = both (not (eqb (k .otherwise) success)) (eachFails more) f in
-    let h = first (k .holds) (k .otherwise) (verdict more) (eqb-false (k .otherwise) success (not-true _ (n .0))) e in
-    (h .0, checked more (n .1) (h .1))
+-- where each check holds, the supply is read
+pub held : (s : Supply) (l : List Check) → Hold l → verdict s l ≡ Reads s
+held s [] h = refl
+held s (k ∷ more) h = rw (h .0) (held s more (h .1))
 
 -- ---- supplies: the length where one is read
 pub suited : (k : Supply) (s : List ℕ) → eqb (k .kind) 0 ≡ false → suits k s ≡ true → length s ≡ k .bytes

@@ -1,7 +1,7 @@
 pub mod Checks
+pub mod Arrival
 pub mod Parts
 pub mod Changed
-pub mod Kept
 pub mod PendingSlot
-pub mod Responses
-pub mod SupplyLaws
+pub mod Erasure
+pub mod Lawful

@@ -13,13 +13,13 @@ use Rattle.card.specs.declared.Path.{Path}
 use Rattle.card.specs.declared.Keys.{Keys}
 use Rattle.card.specs.declared.Channel.{Channel}
 use Rattle.card.specs.declared.Card.{Card}
-use Rattle.card.specs.State.{slotCount, withPins, withPairing, withKeys, withChannel, unverified, notPending, closedOf}
+use Rattle.card.specs.State.{slotCount, withPins, withPairing, withKeys, withChannel, closed, forgotten, unverified, notPending, closedOf}
 use Rattle.card.specs.Slots.{allOf, isZero, allZero, slotWithin}
 use Rattle.card.specs.Sound.{isSound, pinsSound, pairingSound, pathSound, keysSound, channelSound, sessionZero, pinsBlank, pairingBlank}
 use Rattle.card.specs.Shape.{KeysLong, Shaped}
 use Rattle.card.proofs.Tests.{both}
 use Rattle.card.proofs.Rules.{PinsRules, pins-rules, pins-sound, PairingRules, pairing-rules, PathRules, KeysRules, parts-rules, parts-sound, blank-rules, parts-blank, Before, After, sound-cases, sound-before, sound-after}
-use Rattle.rules.specs.Steps.{isInitialised, closed, forgotten}
+use Rattle.rules.specs.Steps.{isInitialised}
 
 -- ---- a card that is sound, and has its shape where the card g has it
 pub record Fit (g c : Card) : Type 0 where
