@@ -25,6 +25,7 @@ use Rattle.rules.specs.Words.{wrongLength, securityNotMet, conditionsNotMet, wr
 use Rattle.rules.specs.Rows.{rowOf, class80, offered, isPlain}
 use Rattle.rules.specs.Channel.{withMac, tell}
 use Rattle.rules.specs.Steps.{Step, goes, stops, then, stopsWith, begins, dropping, step1, dataOf, byForm, claOf, insOf, p1Of, p2Of, withByte, byClass, onCard, nameOf, isInitialised, byName, Opened, byOpening, inStage, openedBy, step4, begun, failed, Arrived, byChoice, step5, pastStep1, arrival}
+use Rattle.rule_laws.specs.Lawful.{Ready}
 
 -- ---- what steps 2 to 4 found, on the card that step 1 leaves
 pub record At (cmd : List ℕ) (c : Card) : Type 0 where
@@ -170,14 +171,7 @@ step1-stage cmd c e = by-test (λ (k : Card). k .channel .stage ≡ 1 → ⊥) (
     not-one = by-test (λ (k : Card). k .channel .stage ≡ 1 → ⊥) (eqb (c .channel .stage) 1 && not (begins 0x11 cmd))
         (λ t z. omega arith) (λ t z. false≢true (sym (rw (z, e) at t)))
 
--- ---- what steps 1 to 4 have seen to where a command of this instruction comes to its own checks, on the card that it is given there
-pub record Ready (i : Instruction) (c : Card) : Type 0 where
-  pub offer : offered (rowOf i .offer) (isInitialised c) ≡ true
-  pub pending : (rowOf i .byte ≡ 0x12 → ⊥) → c .pairing .pending ≡ 0
-  pub half : (rowOf i .byte ≡ 0x11 → ⊥) → c .channel .stage ≡ 1 → ⊥
-  pub stage : isPlain i ≡ false → inStage i (c .channel .stage) ≡ true
-
--- ---- it is so behind steps 1 to 4
+-- ---- what `Ready` says is so behind steps 1 to 4
 module _ (cmd : List ℕ) (c : Card) (x : At cmd (step1 cmd c)) where
   abbrev behind : Card
   behind = step1 cmd c

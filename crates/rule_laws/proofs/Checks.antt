@@ -15,12 +15,9 @@ use Rattle.rules.specs.declared.Verdict.{Verdict}
 use Rattle.rules.specs.declared.Verdict.the-variants.{Reads, Fails}
 use Rattle.rules.specs.Words.{Check, verdict, Hold}
 use Rattle.rules.specs.Supplies.{suits, part}
+use Rattle.rule_laws.specs.Lawful.{Below}
 
 -- ---- a verdict by cases: each check holds and the supply is read, or a status word of one of them
-abbrev pub Below : ℕ → List Check → Type 0
-Below n [] = Unit {0}
-Below n (k ∷ more) = (k .otherwise < n) × Below n more
-
 module _ (P : Verdict → Type 0) (s : Supply) where
   pub by-verdict : (l : List Check) → (Hold l → P (Reads s)) → ((w : ℕ) → P (Fails w)) → P (verdict s l)
   by-verdict [] h f = h tt

@@ -7,7 +7,8 @@ use lib.Dec.{eqb}
 use Rattle.card.specs.declared.Card.{Card}
 use Rattle.card.specs.State.{withSecrets}
 use Rattle.rules.specs.Words.{Reply}
-use Rattle.rules.specs.Channel.{Outgoing, plainly, sealed, tell}
+use Rattle.rules.specs.Channel.{plainly, sealed, tell}
+use Rattle.rule_laws.specs.Lawful.{eraseReply, eraseOut}
 
 -- ---- conditions
 module _ {A B : Type 0} (f : A → B) where
@@ -18,16 +19,6 @@ module _ {A B : Type 0} (f : A → B) where
   pub cond-same : (b : Bool) {x x′ y y′ : A} → f x ≡ f x′ → f y ≡ f y′ → f (cond b x y) ≡ f (cond b x′ y′)
   cond-same true p q = p
   cond-same false p q = q
-
--- ---- without PIN and PUK
-abbrev pub erase : Card → Card
-erase c = withSecrets [] [] c
-
-abbrev pub eraseReply : Reply → Reply
-eraseReply r = record { status = r .status; response = r .response; card = erase (r .card) }
-
-abbrev pub eraseOut : Outgoing → Outgoing
-eraseOut t = record { bytes = t .bytes; card = erase (t .card) }
 
 -- ---- how an answer goes out does not look at PIN and PUK
 tell-blind : (over : Bool) (r : Reply) → tell over (eraseReply r) ≡ eraseOut (tell over r)

@@ -4,4 +4,8 @@ pub mod Parts
 pub mod Changed
 pub mod PendingSlot
 pub mod Erasure
-pub mod Lawful
+pub mod Texts
+pub mod KeyCommands
+pub mod PinCommands
+pub mod ChannelCommands
+pub mod Table

@@ -20,11 +20,7 @@ use Rattle.card.specs.Shape.{KeysLong, Shaped}
 use Rattle.card.proofs.Tests.{both}
 use Rattle.card.proofs.Rules.{PinsRules, pins-rules, pins-sound, PairingRules, pairing-rules, PathRules, KeysRules, parts-rules, parts-sound, blank-rules, parts-blank, Before, After, sound-cases, sound-before, sound-after}
 use Rattle.rules.specs.Steps.{isInitialised}
-
--- ---- a card that is sound, and has its shape where the card g has it
-pub record Fit (g c : Card) : Type 0 where
-  pub sound : isSound c ≡ true
-  pub shaped : Shaped g → Shaped c
+use Rattle.rule_laws.specs.Lawful.{Fit}
 
 pub itself-fit : (c : Card) → isSound c ≡ true → Fit c c
 itself-fit c e = record { sound = e; shaped = λ w. w }

@@ -1,9 +1,9 @@
 -- What the theorems about the engine need of a command's rule, and of an instruction's row: nothing else about a single command is used above.
--- Each command's proof of it stands in ChannelCommands, PinCommands or KeyCommands, and Table has one line an instruction.
--- Assumes nothing.
+-- Each command's proof of it stands in proofs/ChannelCommands, PinCommands or KeyCommands, and proofs/Table has one line an instruction.
+-- Every length is in bytes.
 use mathlib.Core.Path.{_≡_}
 use mathlib.Core.Bool.{Bool, true, false}
-use mathlib.Core.List.{List}
+use mathlib.Core.List.{List, [], _∷_}
 use mathlib.Core.Option.{Option, none, some}
 use Prim.Native.Nat.{ℕ, _≤_, _<_}
 use lib.ListN.{length}
@@ -11,19 +11,44 @@ use Rattle.octets.specs.Bytes.{Bytes}
 use Rattle.card.specs.declared.Pins.{Pins}
 use Rattle.card.specs.declared.Card.{Card}
 use Rattle.card.specs.State.{withSecrets}
+use Rattle.card.specs.Sound.{isSound}
 use Rattle.card.specs.Shape.{Shaped}
 use Rattle.rules.specs.declared.Instruction.{Instruction}
 use Rattle.rules.specs.declared.Named.the-variants as named
 use Rattle.rules.specs.declared.Command.{Command}
-use Rattle.rules.specs.Words.{Hold, Reply}
+use Rattle.rules.specs.Words.{Check, Hold, Reply}
 use Rattle.rules.specs.Supplies.{suits, flagOf}
 use Rattle.rules.specs.Commands.{ruleOf}
 use Rattle.rules.specs.Rows.{rowOf, offered, isPlain}
+use Rattle.rules.specs.Channel.{Outgoing}
 use Rattle.rules.specs.Steps.{nameOf, isInitialised, inStage, begun, checksOf, supplyOf, replyOf}
-use Rattle.rule_laws.proofs.Checks.{Below}
-use Rattle.rule_laws.proofs.Arrival.{Ready}
-use Rattle.rule_laws.proofs.Parts.{Fit}
-use Rattle.rule_laws.proofs.Erasure.{eraseReply}
+
+-- ---- a card that is sound, and has its shape where the card g has it
+pub record Fit (g c : Card) : Type 0 where
+  pub sound : isSound c ≡ true
+  pub shaped : Shaped g → Shaped c
+
+-- ---- what steps 1 to 4 have seen to where a command of this instruction comes to its own checks, on the card that it is given there
+pub record Ready (i : Instruction) (c : Card) : Type 0 where
+  pub offer : offered (rowOf i .offer) (isInitialised c) ≡ true
+  pub pending : (rowOf i .byte ≡ 0x12 → ⊥) → c .pairing .pending ≡ 0
+  pub half : (rowOf i .byte ≡ 0x11 → ⊥) → c .channel .stage ≡ 1 → ⊥
+  pub stage : isPlain i ≡ false → inStage i (c .channel .stage) ≡ true
+
+-- ---- without PIN and PUK
+abbrev pub erase : Card → Card
+erase c = withSecrets [] [] c
+
+abbrev pub eraseReply : Reply → Reply
+eraseReply r = record { status = r .status; response = r .response; card = erase (r .card) }
+
+abbrev pub eraseOut : Outgoing → Outgoing
+eraseOut t = record { bytes = t .bytes; card = erase (t .card) }
+
+-- ---- the status word of each check is below a number
+abbrev pub Below : ℕ → List Check → Type 0
+Below n [] = Unit {0}
+Below n (k ∷ more) = (k .otherwise < n) × Below n more
 
 -- ---- a command over the channel
 -- the tries of a sound card
