@@ -7,8 +7,6 @@ ghost use Rattle.message.specs.Message.{withIv};
 // Lengths, in bytes.
 pub const MAC_BYTES: usize = 16;
 
-pub const DATA_MAX_BYTES: usize = 223;
-
 pub const FIELD_MIN_BYTES: usize = 32;
 
 pub const FIELD_MAX_BYTES: usize = 240;

@@ -20,7 +20,7 @@ use Rattle.walk.specs.declared.Field.{Field}
 use Rattle.walk.specs.declared.Field.the-variants.{Whole, Faulty}
 use Rattle.walk.specs.declared.Walked.{Walked}
 use Rattle.walk.specs.declared.Walked.the-variants.{Fields, Refused}
-use Rattle.walk.specs.Walk.{asField, fieldWith, fieldOf, plus, andThen, valueOf, sequenceOf, walkOf}
+use Rattle.walk.specs.Walk.{asField, fieldWith, readField, plus, andThen, valueOf, sequenceOf, walkOf}
 use Rattle.walk.proofs.WalkFacts.{plus-none, plus-plus, Inside, field-inside, value-few, sequence-empty, sequence-step}
 
 -- ---- readHead: bytes that follow change no head that is read
@@ -40,10 +40,10 @@ head-kept (tag ∷ n ∷ s) t =
     by-test (λ (h : Head). Kept (tag ∷ n ∷ s) h t) (ltb n 128) (λ e. rw e)
     (λ e. by-test (λ (h : Head). Kept (tag ∷ n ∷ s) h t) (eqb n 129) (λ g. second-kept tag n s t e g) (λ _. tt))
 
--- ---- fieldOf: a field that is read stays the same before other bytes
+-- ---- readField: a field that is read stays the same before other bytes
 module _ (inside : List ℕ → Walked) (s t : List ℕ) where
   with-kept : (h : Head) → Within s h → Kept s h t → (c b : ℕ) → fieldWith inside s h ≡ Whole c b
-      → fieldOf inside (s ++ t) ≡ Whole c b
+      → readField inside (s ++ t) ≡ Whole c b
   unfolding fieldWith
   with-kept Unreadable w k c b e = absurd (let z : _≡_ {A = ℕ} 0 1 = cc in omega arith)
   with-kept (Of h n) w k c b e = ap (fieldWith inside (s ++ t)) k ∙ within (ltb (length s) (h + n)) refl e
@@ -61,7 +61,7 @@ module _ (inside : List ℕ → Walked) (s t : List ℕ) where
           absurd (let y : fieldWith inside s (Of h n) ≡ Faulty Malformed = rw g in let z : _≡_ {A = ℕ} 0 1 = cc in omega arith)
       within false g f = rest g ∙ f
 
-  pub field-kept : (c b : ℕ) → fieldOf inside s ≡ Whole c b → fieldOf inside (s ++ t) ≡ Whole c b
+  pub field-kept : (c b : ℕ) → readField inside s ≡ Whole c b → readField inside (s ++ t) ≡ Whole c b
   field-kept c b e = with-kept (readHead s) (head-within s) (head-kept s t) c b e
 
 -- ---- sequenceOf: an accepted sequence before another
@@ -69,7 +69,7 @@ module _ (levels : ℕ) (t : List ℕ) where
   Joins : List ℕ → Type 0
   Joins s = (a : ℕ) → sequenceOf levels s ≡ Fields a → sequenceOf levels (s ++ t) ≡ plus a (sequenceOf levels t)
 
-  after-field : (s : List ℕ) (c b : ℕ) (w : Walked) → (length s ≡ 0 → ⊥) → b ≤ length s → fieldOf (valueOf levels) s ≡ Whole c b
+  after-field : (s : List ℕ) (c b : ℕ) (w : Walked) → (length s ≡ 0 → ⊥) → b ≤ length s → readField (valueOf levels) s ≡ Whole c b
       → sequenceOf levels (drop b s) ≡ w → Joins (drop b s) → Joins s
   unfolding Joins
   after-field s c b (Refused f) h g p q ih a e =
@@ -84,7 +84,7 @@ module _ (levels : ℕ) (t : List ℕ) where
       (plus-plus c k (sequenceOf levels t) ∙ rw same)
 
   -- by what the first field is, where what is left behind any field joins
-  by-first : (s : List ℕ) (f : Field) → (length s ≡ 0 → ⊥) → fieldOf (valueOf levels) s ≡ f → Inside s f
+  by-first : (s : List ℕ) (f : Field) → (length s ≡ 0 → ⊥) → readField (valueOf levels) s ≡ f → Inside s f
       → ((b : ℕ) → 2 ≤ b → Joins (drop b s)) → Joins s
   unfolding Joins
   by-first s (Whole c b) h p i ih a e = after-field s c b (sequenceOf levels (drop b s)) h (i .1) p refl (ih b (i .0)) a e
@@ -105,7 +105,7 @@ module _ (levels : ℕ) (t : List ℕ) where
   joins (suc n) s l =
       elim (decLt 0 (length s)) [
         | yes p ↦
-            by-first s (fieldOf (valueOf levels) s) (λ z. omega arith) refl (field-inside (valueOf levels) (value-few levels) s)
+            by-first s (readField (valueOf levels) s) (λ z. omega arith) refl (field-inside (valueOf levels) (value-few levels) s)
             (λ b k. joins n (drop b s) (simp length-drop (omega arith)))
         | no p ↦ empty-joins s (omega arith)
       ]
