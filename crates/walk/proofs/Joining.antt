@@ -1,13 +1,13 @@
 -- WALK of sequences that are joined, and of fields that are written: what an accepted part counts does not depend on what follows it.
 -- Assumes nothing.
 use mathlib.Core.Path.{_≡_, refl, sym, ap, _∙_}
-use mathlib.Core.Bool.{Bool, true, false}
+use mathlib.Core.Bool.{Bool, true, false, _&&_}
 use mathlib.Core.List.{List, [], _∷_, _++_}
-use Prim.Native.Nat.{ℕ, zero, suc, _+_, _≤_}
+use Prim.Native.Nat.{ℕ, zero, suc, _+_, _≤_, _<_}
 use native.Mathlib.Nat.{add-zero}
 use native.Mathlib.Decide.{decLt}
 use native.Mathlib.Omega.{arith}
-use lib.Dec.{ltb, eqb}
+use lib.Dec.{ltb, leb, eqb}
 use lib.ListN.{length, take, drop, length-append, length-drop, List·getD-append}
 use lib.Seq.{take-append-le, drop-append-le, take-length, drop-append-seam}
 use borrow.Author.Tests.{le-ltb, ltb-false}
@@ -28,17 +28,17 @@ abbrev Kept : List ℕ → Head → List ℕ → Type 0
 Kept s (Of h n) t = readHead (s ++ t) ≡ Of h n
 Kept s Unreadable t = Unit {0}
 
-second-kept : (tag n : ℕ) (s t : List ℕ) → ltb n 128 ≡ false → eqb n 129 ≡ true → Kept (tag ∷ n ∷ s) (readSecond s) t
+second-kept : (tag n : ℕ) (s t : List ℕ) → ltb n 128 ≡ false → eqb n 0x81 ≡ true → Kept (tag ∷ n ∷ s) (readSecond s) t
 second-kept tag n [] t p q = tt
 second-kept tag n (m ∷ s) t p q =
-    by-test (λ (h : Head). Kept (tag ∷ n ∷ m ∷ s) h t) (ltb m 128) (λ _. tt) (λ e. rw (p, q, e))
+    by-test (λ (h : Head). Kept (tag ∷ n ∷ m ∷ s) h t) (leb 128 m && ltb m 256) (λ e. rw (p, q, e)) (λ _. tt)
 
 head-kept : (s t : List ℕ) → Kept s (readHead s) t
 head-kept [] t = tt
 head-kept (tag ∷ []) t = tt
 head-kept (tag ∷ n ∷ s) t =
     by-test (λ (h : Head). Kept (tag ∷ n ∷ s) h t) (ltb n 128) (λ e. rw e)
-    (λ e. by-test (λ (h : Head). Kept (tag ∷ n ∷ s) h t) (eqb n 129) (λ g. second-kept tag n s t e g) (λ _. tt))
+    (λ e. by-test (λ (h : Head). Kept (tag ∷ n ∷ s) h t) (eqb n 0x81) (λ g. second-kept tag n s t e g) (λ _. tt))
 
 -- ---- readField: a field that is read stays the same before other bytes
 module _ (inside : List ℕ → Walked) (s t : List ℕ) where
@@ -123,8 +123,8 @@ sequence-sum levels s t a b p q = sequence-join levels t s a p ∙ ap (plus a) q
 pub walk-sum : (s t : List ℕ) (a b : ℕ) → walkOf s ≡ Fields a → walkOf t ≡ Fields b → walkOf (s ++ t) ≡ Fields (a + b)
 walk-sum = sequence-sum 4
 
--- ---- field: what is written is walked
-module _ (tag : ℕ) (v : List ℕ) where
+-- ---- field: what is written is walked, for every value whose length has a form
+module _ (tag : ℕ) (v : List ℕ) (brief : length v < 256) where
   h : ℕ
   h = length (fieldHead tag (length v))
 
@@ -142,7 +142,7 @@ module _ (tag : ℕ) (v : List ℕ) where
   walked : (levels : ℕ) → sequenceOf levels (field tag v) ≡ andThen (fieldWith (valueOf levels) (field tag v) (Of h (length v)))
       (λ (b : ℕ). sequenceOf levels (drop b (field tag v)))
   unfolding h
-  walked levels = sequence-step levels (field tag v) (λ z. omega arith) ∙ rw (read-length tag (length v) v)
+  walked levels = sequence-step levels (field tag v) (λ z. omega arith) ∙ rw (read-length tag (length v) v brief)
 
   pub walk-plain : (levels : ℕ) → isTemplate tag ≡ false → sequenceOf levels (field tag v) ≡ Fields 1
   unfolding fieldWith

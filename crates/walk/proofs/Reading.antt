@@ -50,22 +50,22 @@ module _ (levels : ℕ) (s : List ℕ) (r : Head) (e : r ≡ readHead s) where
       ends : h + n ≤ length s
       ends = omega (arith, head-facts s r h n e g)
 
-      pub field-plain : (bitAnd (tagOf s) 32 ≡ 32 → ⊥) → Whole 1 (h + n) ≡ readField (valueOf levels) s
+      pub field-plain : (bitAnd (tagOf s) 0x20 ≡ 0x20 → ⊥) → Whole 1 (h + n) ≡ readField (valueOf levels) s
       unfolding fieldWith
       field-plain u =
-          sym (rw (le-ltb (length s) (h + n) ends, ne-eqb (bitAnd (tagOf s) 32) 32 u)) ∙ ap (fieldWith (valueOf levels) s)
+          sym (rw (le-ltb (length s) (h + n) ends, ne-eqb (bitAnd (tagOf s) 0x20) 0x20 u)) ∙ ap (fieldWith (valueOf levels) s)
           (sym g ∙ e)
 
-      field-template : bitAnd (tagOf s) 32 ≡ 32 → asField (h + n) (valueOf levels (take n (drop h s))) ≡ readField (valueOf levels) s
+      field-template : bitAnd (tagOf s) 0x20 ≡ 0x20 → asField (h + n) (valueOf levels (take n (drop h s))) ≡ readField (valueOf levels) s
       unfolding fieldWith
       field-template u =
-          sym (rw (le-ltb (length s) (h + n) ends, eq-eqb (bitAnd (tagOf s) 32) 32 u)) ∙ ap (fieldWith (valueOf levels) s)
+          sym (rw (le-ltb (length s) (h + n) ends, eq-eqb (bitAnd (tagOf s) 0x20) 0x20 u)) ∙ ap (fieldWith (valueOf levels) s)
           (sym g ∙ e)
 
-      pub field-too-deep : bitAnd (tagOf s) 32 ≡ 32 → levels ≡ 0 → Faulty TooDeep ≡ readField (valueOf levels) s
+      pub field-too-deep : bitAnd (tagOf s) 0x20 ≡ 0x20 → levels ≡ 0 → Faulty TooDeep ≡ readField (valueOf levels) s
       field-too-deep u z = ap (asField (h + n)) (sym (no-level levels (take n (drop h s)) z)) ∙ field-template u
 
-      pub field-of-value : bitAnd (tagOf s) 32 ≡ 32 → (levels ≡ 0 → ⊥) → (w : Walked)
+      pub field-of-value : bitAnd (tagOf s) 0x20 ≡ 0x20 → (levels ≡ 0 → ⊥) → (w : Walked)
           → w ≡ sequenceOf (levels - 1) (take (h + n - h) (drop h s)) → asField (h + n) w ≡ readField (valueOf levels) s
       field-of-value u z w q =
           ap (asField (h + n))
