@@ -34,7 +34,8 @@ impl Session {
     }
 }
 
-// What opening a field finds: how many bytes of data it holds, or that it does not open.
+// What opening a field finds: how many bytes of data it holds, or that it does not open, which is 6982 at the card and refusal 7 at the
+// terminal. `openingOut` of specs/Message.antt states each case.
 pub enum Opening {
     Bytes(usize),
     Refused,
