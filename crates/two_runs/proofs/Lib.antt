@@ -1,12 +1,4 @@
 pub mod Erasure
-pub mod Replies
-pub mod Secrets
 pub mod Order
 pub mod Calls
-pub mod TwoRuns
-pub mod Compared
-pub mod Sealed
-pub mod Meets
-pub mod WrongEntries
-pub mod Reached
-pub mod Examples
+pub mod Comparisons
