@@ -2,3 +2,4 @@ pub mod Erasure
 pub mod Order
 pub mod Calls
 pub mod Comparisons
+pub mod Compared

@@ -1,0 +1,212 @@
+-- What a comparison has to do with the answer: where none is made, the answer and the next card but for PIN and PUK do not depend on PIN and
+-- PUK; where one is made, the call is not refused, and its answer is the one that the command's rule has for right or for wrong.
+-- Assumes nothing.
+use mathlib.Core.Path.{_≡_, refl, sym, ap, _∙_, subst}
+use mathlib.Core.Bool.{Bool, true, false, _&&_, _||_, not, cond, false≢true}
+use mathlib.Core.List.{List, [], _∷_}
+use mathlib.Core.Option.{Option, none, some}
+use Prim.Native.Nat.{ℕ, _≤_}
+use native.Mathlib.Omega.{arith}
+use borrow.Author.Tests.{le-ltb}
+use lib.Dec.{eqb}
+use lib.ListN.{length, take, drop}
+use Rattle.refusals.specs.Refusals.{answerRoom}
+use Rattle.message.specs.Message.{commandHead, openField}
+use Rattle.template.proofs.HeadFacts.{by-test}
+use Rattle.card.specs.declared.Pins.{Pins}
+use Rattle.card.specs.declared.Card.{Card}
+use Rattle.card.specs.Slots.{allOf}
+use Rattle.card.specs.Sound.{isSound}
+use Rattle.card.proofs.Tests.{both}
+use Rattle.rules.specs.declared.Instruction.{Instruction}
+use Rattle.rules.specs.declared.Instruction.the-variants as ins
+use Rattle.rules.specs.declared.Named.{Named}
+use Rattle.rules.specs.declared.Named.the-variants as named
+use Rattle.rules.specs.declared.Loss.{Loss}
+use Rattle.rules.specs.declared.Loss.the-variants as loss
+use Rattle.rules.specs.declared.Command.{Command}
+use Rattle.rules.specs.declared.Verdict.{Verdict}
+use Rattle.rules.specs.Words.{Check, Hold, Reply}
+use Rattle.rules.specs.Supplies.{noSupply, suits}
+use Rattle.rules.specs.Rules.{Secret, pin, puk, rightBy}
+use Rattle.rules.specs.Rows.{rowOf, class80, offered, isPlain}
+use Rattle.rules.specs.Commands.{verifyReply, unblockReply, ruleOf}
+use Rattle.rules.specs.Channel.{sessionOf, withMac, Outgoing, tell}
+use Rattle.rules.specs.Steps.{Step, goes, step1, dataOf, headerOf, claOf, insOf, p1Of, p2Of, withByte, byClass, onCard, nameOf, isInitialised, Opened, openedBy, begun, Arrived, arrival, checksOf, supplyOf, replyOf, Decision, step6, finish, decide}
+use Rattle.rules.specs.Engine.{answered, answerOut}
+use Rattle.rules.specs.Comparison.{Comparison, compared, comparedBy, comparedAt6, comparedPast, comparison}
+use Rattle.rule_laws.specs.Lawful.{Lawful}
+use Rattle.rule_laws.proofs.Arrival.{At, cardAt, arrivedAt, by-opened}
+use Rattle.rule_laws.proofs.Checks.{by-verdict, held}
+use Rattle.rule_laws.proofs.Table.{lawful}
+use Rattle.two_runs.specs.Runs.{Call, answer, comparisonAt, Agree}
+use Rattle.two_runs.proofs.Order.{by-arrival, pins-at}
+use Rattle.two_runs.proofs.Calls.{StepSame, call-same}
+use Rattle.two_runs.proofs.Comparisons.{commandOf, only-compares}
+
+never : {A B : Type 0} (x : A) → none ≡ some x → B
+never x e = absurd (let z : _≡_ {A = ℕ} 0 1 = cc in omega arith)
+
+-- ---- where none is made
+pub none-made : (c d : Card) (k : Call) → isSound c ≡ true → isSound d ≡ true → Agree c d → comparisonAt c k ≡ none → StepSame c d k
+none-made c d k sc sd a e = call-same c d k sc sd a (λ x y i j. never x (sym e ∙ i))
+
+-- ---- the reply of the command that compares this secret, by how that came out, and a decision that reads no supply
+abbrev pub replyBy : Secret → Bool → Card → List ℕ → Reply
+replyBy pin right c d = verifyReply right c
+replyBy puk right c d = unblockReply right c (drop 12 d)
+
+abbrev pub deciding : List ℕ → Outgoing → Decision
+deciding d t = record { supply = noSupply; data′ = d; answer = λ _. t }
+
+-- ---- step 6: where the checks hold, the command replies; the one that compares replies by how that came out
+abbrev replying : Arrived → Command → Decision
+replying a k = record { supply = supplyOf k; data′ = a .data′; answer = λ s. tell (a .over) (replyOf k (a .card) (a .data′) s) }
+
+pub step6-replies : (a : Arrived) → Hold (checksOf (a .command) (a .card) (a .data′)) → step6 a ≡ replying a (a .command)
+unfolding step6
+step6-replies a h = rw (held (supplyOf (a .command)) (checksOf (a .command) (a .card) (a .data′)) h)
+
+by-secret : (s : Secret) (a : Arrived)
+    → replying a (commandOf s) ≡ deciding (a .data′) (tell (a .over) (replyBy s (rightBy s (a .card .pins) (a .data′)) (a .card) (a .data′)))
+unfolding ruleOf
+by-secret pin a = refl
+by-secret puk a = refl
+
+-- a comparison that is made is the one of the command's rule, where its checks hold
+record At6 (p : Pins) (a : Arrived) (x : Comparison) : Type 0 where
+  pub right : x .right ≡ rightBy (x .of) p (a .data′)
+  pub compares : ruleOf (a .command) .compares ≡ some (x .of)
+  pub checked : Hold (checksOf (a .command) (a .card) (a .data′))
+
+module _ (p : Pins) (a : Arrived) (x : Comparison) where
+  compared-is : (o : Option Secret) → ruleOf (a .command) .compares ≡ o → Hold (checksOf (a .command) (a .card) (a .data′))
+      → compared o p (a .data′) ≡ some x → At6 p a x
+  compared-is none i h e = never x e
+  compared-is (some s) i h e =
+      let same : _≡_ {A = Comparison} (record { of = s; right = rightBy s p (a .data′) }) x = cc in
+      subst (At6 p a) same (record { right = refl; compares = i; checked = h })
+
+  at6 : comparedAt6 p a ≡ some x → At6 p a x
+  at6 = by-verdict (λ (v : Verdict). comparedBy p a v ≡ some x → At6 p a x) (supplyOf (a .command)) (checksOf (a .command) (a .card) (a .data′))
+      (λ h e. compared-is (ruleOf (a .command) .compares) refl h e) (λ w e. never x e)
+
+-- ---- steps 4 and 5 of a command that is not plain: what it opens to, and the card with its MAC; only OPEN, which is plain, begins by closing
+abbrev keeps : Loss → Bool
+keeps loss.Channel = false
+keeps loss.HalfOpen = true
+keeps loss.Pending = true
+keeps loss.Nothing = true
+
+abbrev plainOrKeeps : Instruction → Bool
+plainOrKeeps i = isPlain i || keeps (rowOf i .loss)
+
+abbrev Passes : Named → Type 0
+Passes (named.Known i) = plainOrKeeps i ≡ true
+Passes named.WrongClass = Unit {0}
+Passes named.Unknown = Unit {0}
+
+all-pass : allOf plainOrKeeps (ins.Select ∷ class80) ≡ true
+unfolding allOf rowOf
+all-pass = refl
+
+listed-passes : (b : ℕ) (l : List Instruction) → allOf plainOrKeeps l ≡ true → Passes (withByte b l)
+unfolding allOf
+listed-passes b [] e = tt
+listed-passes b (i ∷ more) e =
+    let h = both (plainOrKeeps i) (allOf plainOrKeeps more) e in
+    by-test Passes (eqb b (rowOf i .byte)) (λ _. h .0) (λ _. listed-passes b more (h .1))
+
+on-card-passes : (t : Bool) (n : Named) → Passes n → Passes (onCard t n)
+on-card-passes t (named.Known i) h = by-test Passes (offered (rowOf i .offer) t) (λ _. h) (λ _. tt)
+on-card-passes t named.WrongClass h = tt
+on-card-passes t named.Unknown h = tt
+
+name-passes : (t : Bool) (cla b : ℕ) → Passes (nameOf t cla b)
+unfolding nameOf allOf
+name-passes t cla b =
+    let h = both (plainOrKeeps ins.Select) (allOf plainOrKeeps class80) all-pass in
+    on-card-passes t (byClass cla b)
+    (by-test Passes (eqb cla 0x80) (λ _. listed-passes b class80 (h .1))
+    (λ _. by-test Passes (eqb cla 0 && eqb b (rowOf ins.Select .byte)) (λ _. h .0) (λ _. tt)))
+
+kept : (plain : Bool) (l : Loss) (c : Card) → plain ≡ false → (plain || keeps l) ≡ true → begun l c ≡ c
+kept true l c p e = absurd (false≢true (sym p))
+kept false loss.Channel c p e = absurd (false≢true e)
+kept false loss.HalfOpen c p e = refl
+kept false loss.Pending c p e = refl
+kept false loss.Nothing c p e = refl
+
+module _ (c : Card) (cmd : List ℕ) (x : At cmd (step1 cmd c)) (over : isPlain (x .instruction) ≡ false) where
+  opened-over : (openedBy (step1 cmd c) cmd (x .field) ≡ some (x .opened .data′))
+      × (x .opened .card ≡ withMac (step1 cmd c) (take 16 (x .field)))
+  opened-over = by-opened
+      (λ (o : Opened). (openedBy (step1 cmd c) cmd (x .field) ≡ some (o .data′)) × (o .card ≡ withMac (step1 cmd c) (take 16 (x .field))))
+      (x .instruction) cmd (step1 cmd c) (x .field) (λ e. absurd (false≢true (sym over ∙ e))) (λ _ _ d e. (e, refl)) (x .opened) (x .opens)
+
+  card-over : cardAt (x .instruction) (x .opened) ≡ withMac (step1 cmd c) (take 16 (x .field))
+  card-over =
+      kept (isPlain (x .instruction)) (rowOf (x .instruction) .loss) (x .opened .card) over
+      (subst Passes (x .name) (name-passes (isInitialised (step1 cmd c)) (claOf cmd) (insOf cmd)))
+      ∙ opened-over .1
+
+-- ---- the whole: the field, what it opens to, whether that is the secret of the card that the call was given, and the answer
+pub record Compared (c : Card) (cmd : List ℕ) (x : Comparison) : Type 0 where
+  pub field : List ℕ
+  pub data′ : List ℕ
+  pub form : dataOf cmd ≡ some field
+  pub opens : openedBy (step1 cmd c) cmd field ≡ some data′
+  pub right : x .right ≡ rightBy (x .of) (c .pins) data′
+  pub told : Outgoing
+  pub tells : told ≡ tell true (replyBy (x .of) (x .right) (withMac (step1 cmd c) (take 16 field)) data′)
+  pub decides : decide c cmd ≡ record { supply = noSupply; data′ = data′; answer = λ _. told }
+
+module _ (c : Card) (cmd : List ℕ) (x : Comparison) where
+  not-plain : (i : Instruction) (k : Command) → Lawful i k → ruleOf k .compares ≡ some (x .of) → (b : Bool) → isPlain i ≡ b → b ≡ false
+  not-plain i k l e true p = never (x .of) (sym (l .plain p) ∙ e)
+  not-plain i k l e false p = refl
+
+  made-at : (y : At cmd (step1 cmd c)) (k : Command) → rowOf (y .instruction) .lists (p1Of cmd) (p2Of cmd) ≡ some k
+      → arrival c cmd ≡ goes (arrivedAt (y .instruction) cmd (y .opened) k)
+      → comparedAt6 (c .pins) (arrivedAt (y .instruction) cmd (y .opened) k) ≡ some x
+      → Compared c cmd x
+  unfolding decide
+  made-at y k l e m =
+      let a : Arrived = arrivedAt (y .instruction) cmd (y .opened) k in
+      let h : At6 (c .pins) a x = at6 (c .pins) a x m in
+      let over : isPlain (y .instruction) ≡ false = not-plain (y .instruction) k (lawful (y .instruction) (p1Of cmd) (p2Of cmd) k l) (h .compares) (isPlain (y .instruction)) refl in
+      let opened : Card = withMac (step1 cmd c) (take 16 (y .field)) in
+      let right : rightBy (x .of) (a .card .pins) (a .data′) ≡ x .right = ap (λ (p : Pins). rightBy (x .of) p (a .data′)) (pins-at c cmd y) ∙ sym (h .right) in
+      record {
+        field = y .field;
+        data′ = y .opened .data′;
+        form = y .form;
+        opens = opened-over c cmd y over .0;
+        right = h .right;
+        told = tell true (replyBy (x .of) (x .right) opened (y .opened .data′));
+        tells = refl;
+        decides =
+            ap finish e
+            ∙ step6-replies a (h .checked)
+            ∙ ap (replying a) (only-compares k (x .of) (h .compares))
+            ∙ by-secret (x .of) a
+            ∙ ap (deciding (y .opened .data′)) (ap (λ (b : Bool). tell (not b) (replyBy (x .of) (rightBy (x .of) (a .card .pins) (a .data′)) (a .card) (a .data′))) over
+            ∙ ap (λ (b : Bool). tell true (replyBy (x .of) b (a .card) (a .data′))) right
+            ∙ ap (λ (z : Card). tell true (replyBy (x .of) (x .right) z (a .data′))) (card-over c cmd y over));
+      }
+
+  pub one-made : comparison c cmd ≡ some x → Compared c cmd x
+  unfolding comparison
+  one-made e = by-arrival (λ (s : Step Arrived). arrival c cmd ≡ s → comparedPast (c .pins) s ≡ some x → Compared c cmd x) c cmd
+      (λ t _ m. never x m) made-at refl e
+
+-- the call is answered so wherever there is room, whatever the supply
+pub one-answers : (c : Card) (cmd s : List ℕ) (room : ℕ) (x : Comparison) → isSound c ≡ true → answerRoom ≤ room → (r : Compared c cmd x)
+    → answerOut c cmd s room ≡ answered (r .told)
+unfolding answerOut suits
+one-answers c cmd s room x e l r = rw (e, le-ltb room answerRoom l, r .decides)
+
+pub one-at : (c : Card) (cmd s buf : List ℕ) (x : Comparison) → isSound c ≡ true → answerRoom ≤ length buf → comparison c cmd ≡ some x
+    → comparisonAt c (answer cmd s buf) ≡ some x
+unfolding comparisonAt
+one-at c cmd s buf x e l m = rw (one-answers c cmd s (length buf) x e l (one-made c cmd x m)) m
