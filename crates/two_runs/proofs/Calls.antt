@@ -20,6 +20,7 @@ use Rattle.rules.specs.Engine.{AskOut, askRefused, asked, askOut, AnswerOut, an
 use Rattle.rules.specs.Comparison.{Comparison, comparison}
 use Rattle.rule_laws.specs.Lawful.{erase}
 use Rattle.rule_laws.proofs.Erasure.{cond-same}
+use Rattle.engine_laws.proofs.Refusals.{answer-refused}
 use Rattle.two_runs.specs.Runs.{Call, ask, answer, reset, comparisonAt, secretOf, comparedAt, seenAt, written, nextAt, Agree, OutAlike}
 use Rattle.two_runs.proofs.Erasure.{erase-agree, agree-swap}
 use Rattle.two_runs.proofs.Order.{Same, decide-same, compared-same}
@@ -163,20 +164,9 @@ unfolding nextAt
 ask-passes c cmd buf = refl
 
 pub refused-passes : (c : Card) (k : Call) → (seenAt c k .refusal ≡ noRefusal → ⊥) → nextAt c k ≡ c
-unfolding seenAt nextAt answerOut resetAnswer
+unfolding seenAt nextAt resetAnswer
 refused-passes c (ask cmd buf) n = refl
-refused-passes c (answer cmd s buf) n = go (isSound c) (ltb (length buf) answerRoom) (suits (decide c cmd .supply) s) n
-  where
-    out : Bool → Bool → Bool → AnswerOut
-    out b t f =
-        cond b (cond t (answerRefused c noRoom) (cond f (answered (decide c cmd .answer s)) (answerRefused c wrongSupply)))
-        (answerRefused c unsound)
-
-    go : (b t f : Bool) → (out b t f .refusal ≡ noRefusal → ⊥) → out b t f .card ≡ c
-    go false t f m = refl
-    go true true f m = refl
-    go true false true m = absurd (m refl)
-    go true false false m = refl
+refused-passes c (answer cmd s buf) n = answer-refused c cmd s (length buf) n .0
 refused-passes c reset n = go (isSound c) n
   where
     go : (b : Bool) → (cond b (done (resetOf c)) (refused unsound c) .refusal ≡ noRefusal → ⊥)

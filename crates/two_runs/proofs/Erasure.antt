@@ -1,14 +1,16 @@
 -- Agreement of two cards is equality of what is left with PIN and PUK put away, and step 1 looks at neither.
 -- Assumes nothing.
-use mathlib.Core.Path.{_≡_, refl, ap}
-use mathlib.Core.Bool.{Bool, true, false, _&&_, not, cond}
+use mathlib.Core.Path.{_≡_, refl, ap, _∙_}
+use mathlib.Core.Bool.{_&&_, not}
 use mathlib.Core.List.{List}
 use Prim.Native.Nat.{ℕ}
 use lib.Dec.{eqb}
 use Rattle.card.specs.declared.Card.{Card}
 use Rattle.card.specs.State.{withSecrets, closed, forgotten}
-use Rattle.rules.specs.Steps.{begins, step1}
+use Rattle.rules.specs.Steps.{begins, dropping, forgetting, step1}
 use Rattle.rule_laws.specs.Lawful.{erase}
+use Rattle.rule_laws.proofs.Erasure.{cond-map}
+use Rattle.engine_laws.proofs.Sound.{step1-keeps}
 use Rattle.two_runs.specs.Runs.{Agree}
 
 -- ---- Agree
@@ -34,25 +36,10 @@ agree-swap c d a = ap (withSecrets (d .pins .pin) (d .pins .puk)) (agree-erase c
 -- ---- step 1 looks at neither
 module _ (cmd : List ℕ) (c : Card) where
   pub step1-pins : step1 cmd c .pins ≡ c .pins
-  unfolding step1
-  step1-pins = go (begins 0x12 cmd) (eqb (c .channel .stage) 1 && not (begins 0x11 cmd))
-    where
-      go : (b t : Bool) → cond b (cond t (closed c) c) (forgotten (cond t (closed c) c)) .pins ≡ c .pins
-      go true true = refl
-      go true false = refl
-      go false true = refl
-      go false false = refl
+  step1-pins = step1-keeps (λ (x : Card). x .pins ≡ c .pins) (λ _ e. e) (λ _ e. e) cmd c refl
 
   pub step1-swap : (p q : List ℕ) → step1 cmd (withSecrets p q c) ≡ withSecrets p q (step1 cmd c)
   unfolding step1
-  step1-swap p q = go (begins 0x12 cmd) (eqb (c .channel .stage) 1 && not (begins 0x11 cmd))
-    where
-      swap : Card → Card
-      swap = withSecrets p q
-
-      go : (b t : Bool) → cond b (cond t (closed (swap c)) (swap c)) (forgotten (cond t (closed (swap c)) (swap c)))
-          ≡ swap (cond b (cond t (closed c) c) (forgotten (cond t (closed c) c)))
-      go true true = refl
-      go true false = refl
-      go false true = refl
-      go false false = refl
+  step1-swap p q =
+      ap (forgetting cmd) (cond-map (withSecrets p q) (eqb (c .channel .stage) 1 && not (begins 0x11 cmd)) (closed c) c)
+      ∙ cond-map (withSecrets p q) (begins 0x12 cmd) (dropping cmd c) (forgotten (dropping cmd c))

@@ -1,5 +1,11 @@
 pub mod Erasure
 pub mod Order
 pub mod Calls
+pub mod TwoRuns
 pub mod Comparisons
 pub mod Compared
+pub mod Sealed
+pub mod Meets
+pub mod WrongEntries
+pub mod Reached
+pub mod Examples

@@ -31,6 +31,7 @@ use Rattle.rule_laws.specs.Lawful.{eraseReply, eraseOut, Lawful}
 use Rattle.rule_laws.proofs.Arrival.{At, cardAt, arrivedAt, by-step5, by-opened, by-pastStep1}
 use Rattle.rule_laws.proofs.Erasure.{cond-map, told-same}
 use Rattle.rule_laws.proofs.Table.{lawful}
+use Rattle.engine_laws.proofs.Sound.{begun-keeps}
 use Rattle.two_runs.specs.Runs.{secretOf, OutAlike}
 use Rattle.two_runs.proofs.Erasure.{step1-pins, step1-swap}
 
@@ -45,18 +46,10 @@ module _ (P : Step Arrived → Type 0) (c : Card) (cmd : List ℕ) where
       by-pastStep1 P cmd (step1 cmd c) (λ w. stop _) (stop _) (λ x. by-step5 P (x .instruction) cmd (x .opened) (stop _) (go x))
 
 -- the PIN, the PUK and the tries there are those of the card that the call was given
-begun-pins : (l : Loss) (c : Card) → begun l c .pins ≡ c .pins
-begun-pins loss.Channel c = refl
-begun-pins loss.HalfOpen c = refl
-begun-pins loss.Pending c = refl
-begun-pins loss.Nothing c = refl
-
 pub pins-at : (c : Card) (cmd : List ℕ) (x : At cmd (step1 cmd c)) → cardAt (x .instruction) (x .opened) .pins ≡ c .pins
-pins-at c cmd x =
-    begun-pins (rowOf (x .instruction) .loss) (x .opened .card)
-    ∙ by-opened (λ (o : Opened). o .card .pins ≡ step1 cmd c .pins) (x .instruction) cmd (step1 cmd c) (x .field) (λ _. refl) (λ _ _ _ _. refl)
-    (x .opened) (x .opens)
-    ∙ step1-pins cmd c
+pins-at c cmd x = begun-keeps (λ (k : Card). k .pins ≡ c .pins) (λ _ e. e) (λ _ e. e) (rowOf (x .instruction) .loss) (x .opened .card)
+    (by-opened (λ (o : Opened). o .card .pins ≡ c .pins) (x .instruction) cmd (step1 cmd c) (x .field)
+    (λ _. step1-pins cmd c) (λ _ _ _ _. step1-pins cmd c) (x .opened) (x .opens))
 
 -- ---- two decisions: the supply and its data are the same; so are the answers, but for PIN and PUK of the next card, where L holds
 pub record Same (L : Type 0) (x y : Decision) : Type 0 where
