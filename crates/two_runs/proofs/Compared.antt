@@ -2,7 +2,7 @@
 -- PUK; where one is made, the call is not refused, and its answer is the one that the command's rule has for right or for wrong.
 -- Assumes nothing.
 use mathlib.Core.Path.{_≡_, refl, sym, ap, _∙_, subst}
-use mathlib.Core.Bool.{Bool, true, false, _&&_, _||_, not, cond, false≢true}
+use mathlib.Core.Bool.{Bool, true, false, _&&_, _||_, not, false≢true}
 use mathlib.Core.List.{List, [], _∷_}
 use mathlib.Core.Option.{Option, none, some}
 use Prim.Native.Nat.{ℕ, _≤_}
@@ -11,7 +11,6 @@ use borrow.Author.Tests.{le-ltb}
 use lib.Dec.{eqb}
 use lib.ListN.{length, take, drop}
 use Rattle.refusals.specs.Refusals.{answerRoom}
-use Rattle.message.specs.Message.{commandHead, openField}
 use Rattle.template.proofs.HeadFacts.{by-test}
 use Rattle.card.specs.declared.Pins.{Pins}
 use Rattle.card.specs.declared.Card.{Card}
@@ -26,13 +25,13 @@ use Rattle.rules.specs.declared.Loss.{Loss}
 use Rattle.rules.specs.declared.Loss.the-variants as loss
 use Rattle.rules.specs.declared.Command.{Command}
 use Rattle.rules.specs.declared.Verdict.{Verdict}
-use Rattle.rules.specs.Words.{Check, Hold, Reply}
+use Rattle.rules.specs.Words.{Hold, Reply}
 use Rattle.rules.specs.Supplies.{noSupply, suits}
 use Rattle.rules.specs.Rules.{Secret, pin, puk, rightBy}
 use Rattle.rules.specs.Rows.{rowOf, class80, offered, isPlain}
 use Rattle.rules.specs.Commands.{verifyReply, unblockReply, ruleOf}
-use Rattle.rules.specs.Channel.{sessionOf, withMac, Outgoing, tell}
-use Rattle.rules.specs.Steps.{Step, goes, step1, dataOf, headerOf, claOf, insOf, p1Of, p2Of, withByte, byClass, onCard, nameOf, isInitialised, Opened, openedBy, begun, Arrived, arrival, checksOf, supplyOf, replyOf, Decision, step6, finish, decide}
+use Rattle.rules.specs.Channel.{withMac, Outgoing, tell}
+use Rattle.rules.specs.Steps.{Step, goes, step1, dataOf, claOf, insOf, p1Of, p2Of, withByte, byClass, onCard, nameOf, isInitialised, Opened, openedBy, begun, Arrived, arrival, checksOf, supplyOf, replyOf, Decision, step6, finish, decide}
 use Rattle.rules.specs.Engine.{answered, answerOut}
 use Rattle.rules.specs.Comparison.{Comparison, compared, comparedBy, comparedAt6, comparedPast, comparison}
 use Rattle.rule_laws.specs.Lawful.{Lawful}

@@ -20,13 +20,13 @@ use Rattle.rules.specs.declared.Loss.the-variants as loss
 use Rattle.rules.specs.declared.Command.{Command}
 use Rattle.rules.specs.declared.Verdict.{Verdict}
 use Rattle.rules.specs.declared.Verdict.the-variants.{Reads, Fails}
-use Rattle.rules.specs.Words.{wrongParameters, conditionsNotMet, Check, verdict, Reply, fails}
+use Rattle.rules.specs.Words.{wrongParameters, conditionsNotMet, verdict, Reply, fails}
 use Rattle.rules.specs.Rules.{Secret, outcomeOf}
 use Rattle.rules.specs.Rows.{rowOf, isPlain}
 use Rattle.rules.specs.Commands.{ruleOf}
 use Rattle.rules.specs.Channel.{withMac, Outgoing, plainly, sealed, tell}
-use Rattle.rules.specs.Steps.{Step, goes, stops, then, stopsWith, step1, dataOf, byForm, claOf, insOf, p1Of, p2Of, nameOf, isInitialised, byName, Opened, byOpening, inStage, openedBy, step4, begun, failed, Arrived, byChoice, step5, pastStep1, arrival, checksOf, supplyOf, replyOf, Decision, ends, byVerdict, step6, finish, decide}
-use Rattle.rules.specs.Comparison.{Comparison, compared, comparedBy, comparedAt6, comparedPast, comparison}
+use Rattle.rules.specs.Steps.{Step, goes, stops, then, stopsWith, step1, dataOf, byForm, claOf, insOf, p1Of, p2Of, nameOf, isInitialised, byName, Opened, byOpening, inStage, openedBy, step4, begun, failed, Arrived, byChoice, step5, pastStep1, arrival, checksOf, supplyOf, replyOf, Decision, byVerdict, step6, finish, decide}
+use Rattle.rules.specs.Comparison.{compared, comparedBy, comparedAt6, comparedPast, comparison}
 use Rattle.rule_laws.specs.Lawful.{eraseReply, eraseOut, Lawful}
 use Rattle.rule_laws.proofs.Arrival.{At, cardAt, arrivedAt, by-step5, by-opened, by-pastStep1}
 use Rattle.rule_laws.proofs.Erasure.{cond-map, told-same}

@@ -18,7 +18,7 @@ use Rattle.padding.specs.Padding.{paddedBytes, unpad}
 use Rattle.padding.proofs.Laws.{unpad-pad}
 use Rattle.refusals.specs.Refusals.{answerRoom}
 use Rattle.message.specs.declared.Session.{Session}
-use Rattle.message.specs.Message.{Keyed, lc, commandHead, responseHead, ciphertext, fieldMac, sealField, openField}
+use Rattle.message.specs.Message.{Keyed, lc, commandHead, responseHead, ciphertext, fieldMac, sealField}
 use Rattle.message.specs.Terminal.{sealedCommand}
 use Rattle.message.proofs.Fields.{length-ciphertext, decrypted}
 use Rattle.message.proofs.Trips.{command-opens, command-sessions, command-keyed, response-keyed}
@@ -39,10 +39,9 @@ use Rattle.rules.specs.Words.{Hold, success, word, Reply, succeeds}
 use Rattle.rules.specs.Supplies.{initSupply, suits}
 use Rattle.rules.specs.Rows.{rowOf, isPlain}
 use Rattle.rules.specs.Commands.{mutualChecks, mutualReply, verifyChecks, verifyReply, loadChecks, loadReply, keyWith, openChecks, openReply, pairFinalChecks, pairInto, pairFinalReply, pendingWith, pairFirstChecks, pairFirstReply, withSlot, filledWith, initChecks, initContent, initWith, initReply, initialisedWith, ruleOf}
-use Rattle.rules.specs.Channel.{sessionOf, withMac, Outgoing, plainly, tell}
-use Rattle.rules.specs.Steps.{step1, dataOf, claOf, insOf, p1Of, p2Of, isInitialised, nameOf, inStage, openedBy, begun, failed, byForm, step4, step5, pastStep1, arrival, checksOf, supplyOf, replyOf, step6, finish, decide}
+use Rattle.rules.specs.Channel.{Outgoing, plainly, tell}
+use Rattle.rules.specs.Steps.{step1, dataOf, nameOf, inStage, begun, failed, step4, step5, pastStep1, arrival, checksOf, supplyOf, replyOf, step6, finish, decide}
 use Rattle.rules.specs.Engine.{AnswerOut, answered, answerOut}
-use Rattle.rule_laws.proofs.Arrival.{arrivedAt}
 use Rattle.two_runs.specs.Runs.{Call, answer, nextAt, endOf}
 use Rattle.two_runs.proofs.Compared.{step6-replies}
 use Rattle.two_runs.proofs.Sealed.{data-filled, header-is, sealed-data, sealed-arrives}
