@@ -1,4 +1,5 @@
--- One call on two sound cards that agree in all but PIN and PUK: it shows the same on both, and passes on cards that agree.
+-- One call on two sound cards that agree in all but PIN and PUK: it shows the same on both, and passes on cards that agree, since the order of
+-- checks decides the same and no refusal looks at PIN and PUK but for soundness, which both cards have.
 -- Assumes nothing.
 use mathlib.Core.Path.{_≡_, refl, ap, subst}
 use mathlib.Core.Bool.{Bool, true, false, cond}

@@ -2,8 +2,8 @@
 -- compare, and their checks are those that 01 names.
 -- Assumes nothing.
 use mathlib.Core.Path.{_≡_, refl, ap, _∙_, subst}
-use mathlib.Core.Bool.{Bool, true, false, _&&_, not, cond}
-use mathlib.Core.List.{List, [], _∷_}
+use mathlib.Core.Bool.{Bool, true, false}
+use mathlib.Core.List.{List}
 use mathlib.Core.Option.{Option, none, some}
 use Prim.Native.Nat.{ℕ}
 use Rattle.card.specs.declared.Pins.{Pins}
@@ -13,14 +13,13 @@ use Rattle.rules.specs.declared.Command.{Command}
 use Rattle.rules.specs.declared.Command.the-variants as command
 use Rattle.rules.specs.declared.Verdict.{Verdict}
 use Rattle.rules.specs.declared.Verdict.the-variants.{Reads, Fails}
-use Rattle.rules.specs.Words.{triesLeft, conditionsNotMet, wrongData, must, verdict}
-use Rattle.rules.specs.Supplies.{noSupply}
-use Rattle.rules.specs.Rules.{Secret, pin, puk, rightBy}
+use Rattle.rules.specs.Words.{verdict}
+use Rattle.rules.specs.Rules.{Secret, pin, puk}
 use Rattle.rules.specs.Commands.{verifyChecks, isUnblocking, unblockChecks, ruleOf}
 use Rattle.rules.specs.Channel.{Outgoing}
 use Rattle.rules.specs.Steps.{Step, goes, stops, Arrived, arrival, checksOf, supplyOf}
 use Rattle.rules.specs.Comparison.{compared, comparedBy, comparedAt6, comparison}
-use Rattle.two_runs.specs.Comparisons.{comparing, pinComparison, pukComparison, Comparisons}
+use Rattle.two_runs.specs.Comparisons.{pinComparison, pukComparison, Comparisons}
 use Rattle.two_runs.proofs.Order.{by-arrival, pins-at}
 
 -- ---- the two commands that compare
