@@ -1,9 +1,9 @@
 pub mod Erasure
-pub mod Replies
-pub mod Secrets
 pub mod Order
 pub mod Calls
 pub mod TwoRuns
+pub mod Comparisons
+pub mod Over
 pub mod Compared
 pub mod Sealed
 pub mod Meets
