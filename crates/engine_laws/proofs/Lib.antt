@@ -1,4 +1,3 @@
-pub mod Names
 pub mod Sound
 pub mod Refusals
 pub mod Agreement

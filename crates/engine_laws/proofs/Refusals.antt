@@ -8,10 +8,13 @@ use Prim.Native.Nat.{ℕ, _≤_, _<_}
 use native.Mathlib.Omega.{arith}
 use lib.Dec.{ltb}
 use borrow.Author.Tests.{ltb-true, ltb-false, lt-ltb, le-ltb}
+use Rattle.refusals.specs.Refusals.{askRoom, answerRoom}
 use Rattle.card.specs.declared.Card.{Card}
 use Rattle.card.specs.Sound.{isSound}
 use Rattle.rules.specs.Supplies.{suits}
-use Rattle.rules.specs.Engine.{Told, Asked, Answered, askRefused, asked, answerRefused, answered, decide, askRoom, answerRoom, askOut, answerOut}
+use Rattle.rules.specs.Channel.{Outgoing}
+use Rattle.rules.specs.Steps.{decide}
+use Rattle.rules.specs.Engine.{AskOut, AnswerOut, askRefused, asked, answerRefused, answered, askOut, answerOut}
 
 -- ---- the number, from the three tests: sound, room too small, supply has the form
 abbrev number : Bool → Bool → Bool → ℕ
@@ -47,7 +50,7 @@ module _ (c : Card) (cmd s : List ℕ) (room : ℕ) where
   unfolding answerOut
   answer-number = by-tests (isSound c) (ltb room answerRoom) (suits (decide c cmd .supply) s) (decide c cmd .answer s)
     where
-      by-tests : (a b d : Bool) (t : Told)
+      by-tests : (a b d : Bool) (t : Outgoing)
           → cond a (cond b (answerRefused c 2) (cond d (answered t) (answerRefused c 3))) (answerRefused c 1) .refusal ≡ number a b d
       by-tests true true d t = refl
       by-tests true false true t = refl
@@ -59,10 +62,10 @@ module _ (c : Card) (cmd s : List ℕ) (room : ℕ) where
   unfolding answerOut
   answer-refused = by-tests (isSound c) (ltb room answerRoom) (suits (decide c cmd .supply) s) (decide c cmd .answer s)
     where
-      Kept : Answered → Type 0
+      Kept : AnswerOut → Type 0
       Kept o = (o .refusal ≡ 0 → ⊥) → (o .card ≡ c) × (o .bytes ≡ [])
 
-      by-tests : (a b d : Bool) (t : Told)
+      by-tests : (a b d : Bool) (t : Outgoing)
           → Kept (cond a (cond b (answerRefused c 2) (cond d (answered t) (answerRefused c 3))) (answerRefused c 1))
       by-tests true true d t n = (refl, refl)
       by-tests true false true t n = absurd (n refl)
@@ -104,7 +107,7 @@ module _ (c : Card) (cmd : List ℕ) (room : ℕ) where
   unfolding askOut
   ask-number = by-tests (isSound c) (ltb room askRoom) (asked (decide c cmd)) refl
     where
-      by-tests : (a b : Bool) (o : Asked) → o .refusal ≡ 0 → cond a (cond b (askRefused 2) o) (askRefused 1) .refusal ≡ number a b true
+      by-tests : (a b : Bool) (o : AskOut) → o .refusal ≡ 0 → cond a (cond b (askRefused 2) o) (askRefused 1) .refusal ≡ number a b true
       by-tests true true o e = refl
       by-tests true false o e = e
       by-tests false b o e = refl
@@ -114,10 +117,10 @@ module _ (c : Card) (cmd : List ℕ) (room : ℕ) where
   unfolding askOut
   ask-refused = by-tests (isSound c) (ltb room askRoom) (asked (decide c cmd)) refl
     where
-      Blank : Asked → Type 0
+      Blank : AskOut → Type 0
       Blank o = (o .refusal ≡ 0 → ⊥) → (o .kind ≡ 0) × (o .bytes ≡ [])
 
-      by-tests : (a b : Bool) (o : Asked) → o .refusal ≡ 0 → Blank (cond a (cond b (askRefused 2) o) (askRefused 1))
+      by-tests : (a b : Bool) (o : AskOut) → o .refusal ≡ 0 → Blank (cond a (cond b (askRefused 2) o) (askRefused 1))
       by-tests true true o e n = (refl, refl)
       by-tests true false o e n = absurd (n e)
       by-tests false b o e n = (refl, refl)

@@ -1,7 +1,7 @@
 -- The room that ASK and ANSWER ask for is enough: ASK writes at most 255 bytes; ANSWER, where it does not refuse, 2 to 242. Assumes the shape
 -- of the card that is given to ANSWER, and that the command given to ASK is made of bytes.
-use mathlib.Core.Path.{_≡_, refl, ap, subst}
-use mathlib.Core.Bool.{Bool, true, false}
+use mathlib.Core.Path.{_≡_, refl, sym, ap, _∙_, subst}
+use mathlib.Core.Bool.{Bool, true, false, _&&_, not}
 use mathlib.Core.List.{List}
 use mathlib.Core.Option.{Option, none, some}
 use Prim.Native.Nat.{ℕ, _≤_}
@@ -11,49 +11,46 @@ use lib.ListN.{length, take, drop, length-append, length-take}
 use borrow.Author.Tests.{eqb-true, eqb-false}
 use Rattle.octets.specs.Bytes.{Bytes}
 use Rattle.octets.proofs.Lists.{bytes-at}
-use Rattle.message.specs.Message.{commandHead, openField}
+use Rattle.message.specs.Message.{commandHead}
 use Rattle.template.proofs.HeadFacts.{by-test}
+use Rattle.refusals.specs.Refusals.{answerRoom}
 use Rattle.card.specs.declared.Card.{Card}
 use Rattle.card.specs.Sound.{isSound}
 use Rattle.card.specs.Shape.{Shaped}
 use Rattle.rules.specs.declared.Instruction.{Instruction}
-use Rattle.rules.specs.declared.Named.{Named}
-use Rattle.rules.specs.declared.Named.the-variants as named
 use Rattle.rules.specs.declared.Command.{Command}
-use Rattle.rules.specs.Words.{success, word, verdict, Reply, fails}
+use Rattle.rules.specs.declared.Verdict.{Verdict}
+use Rattle.rules.specs.Words.{wrongParameters, word, Reply, fails}
 use Rattle.rules.specs.Supplies.{suits}
-use Rattle.rules.specs.Steps.{afterStep1, lcOf, lcFits, dataOf, headerOf, claOf, insOf, p1Of, p2Of, isInitialised, nameOf, isPlain, inStage, atStake, commandOf}
-use Rattle.rules.specs.Commands.{checksOf, replyOf}
-use Rattle.rules.specs.Engine.{sessionOf, withMac, Told, plainText, plainly, overChannel, Decision, step6, byChoice, step5, byOpening, step4, byName, step3, byForm, step2, decide, answerRoom, Answered, askOut, answerOut}
-use Rattle.rule_laws.proofs.Responses.{response-most}
-use Rattle.engine_laws.specs.CommandData.{openedAs, openedFrom, commandData}
+use Rattle.rules.specs.Rows.{rowOf, isPlain}
+use Rattle.rules.specs.Channel.{sessionOf, Outgoing, plainText, plainly, tell}
+use Rattle.rules.specs.Steps.{Step, goes, stops, step1, lcOf, lcFits, dataOf, headerOf, p1Of, p2Of, Opened, openedBy, Arrived, pastStep1, arrival, checksOf, supplyOf, replyOf, Decision, byVerdict, step6, finish, decide}
+use Rattle.rules.specs.Engine.{AnswerOut, askOut, answerOut}
+use Rattle.rule_laws.proofs.Checks.{by-verdict}
+use Rattle.rule_laws.proofs.Arrival.{At, cardAt, lostAt, arrivedAt, by-step5, by-opened, by-pastStep1}
+use Rattle.rule_laws.proofs.Parts.{closed-shaped, forgotten-shaped}
+use Rattle.rule_laws.proofs.Table.{lawful}
 use Rattle.engine_laws.proofs.Lengths.{sealed-length, sealed-most, opened-most}
-use Rattle.engine_laws.proofs.Sound.{step1-shaped, mac-shaped}
+use Rattle.engine_laws.proofs.Sound.{begun-keeps, step1-shaped, mac-shaped}
 use Rattle.engine_laws.proofs.Agreement.{ask-data, ask-empty}
 
 -- ---- ANSWER: 2 to 242 bytes
-abbrev Sized : Told → Type 0
+abbrev Sized : Outgoing → Type 0
 Sized t = (2 ≤ length (t .bytes)) × (length (t .bytes) ≤ 242)
-
-abbrev Writes : (Reply → Told) → Type 0
-Writes tell = (r : Reply) → length (r .response) ≤ 221 → Sized (tell r)
 
 plain-length : (r : Reply) → length (r .response) ≤ 221 → (2 ≤ length (plainText r)) × (length (plainText r) ≤ 223)
 plain-length r h =
     let l = length-append (r .response) (word (r .status)) in
     (omega arith, omega arith)
 
-plainly-writes : Writes plainly
-plainly-writes r h = let l = plain-length r h in (l .0, omega (arith, l .1))
-
-channel-writes : Writes overChannel
-unfolding overChannel
-channel-writes r h = by-test Sized (eqb (r .card .channel .stage) 2)
+tell-sized : (over : Bool) (r : Reply) → length (r .response) ≤ 221 → Sized (tell over r)
+unfolding tell
+tell-sized over r h = by-test Sized (over && eqb (r .card .channel .stage) 2)
     (λ e. (
       omega (arith, sealed-length (sessionOf (r .card .channel)) (plainText r)),
       sealed-most (sessionOf (r .card .channel)) (plainText r) (plain-length r h .1),
     ))
-    (λ e. plainly-writes r h)
+    (λ e. let l = plain-length r h in (l .0, omega (arith, l .1)))
 
 -- no response data
 nothing : 0 ≤ 221
@@ -66,46 +63,27 @@ word-alone = (omega arith, omega arith)
 abbrev Brief : Decision → Type 0
 Brief d = (s : List ℕ) → Sized (d .answer s)
 
-step6-brief : (tell : Reply → Told) → Writes tell → (lost c : Card) → Shaped c → (d : List ℕ) (k : Command) → Brief (step6 tell lost c d k)
+step6-brief : (i : Instruction) (cmd : List ℕ) (o : Opened) (k : Command) → rowOf i .lists (p1Of cmd) (p2Of cmd) ≡ some k
+    → Shaped (o .card) → Brief (step6 (arrivedAt i cmd o k))
 unfolding step6
-step6-brief tell w lost c h d k = by-test Brief (eqb (verdict (checksOf k c d)) success)
-    (λ e s. w (replyOf k c d s) (response-most k c d s h)) (λ e s. w (fails lost (verdict (checksOf k c d))) nothing)
+step6-brief i cmd o k e h =
+    by-verdict (λ (v : Verdict). Brief (byVerdict (arrivedAt i cmd o k) v)) (supplyOf k) (checksOf k (cardAt i o) (o .data′))
+    (λ t s. tell-sized (not (isPlain i)) (replyOf k (cardAt i o) (o .data′) s)
+    (lawful i (p1Of cmd) (p2Of cmd) k e .short (cardAt i o) (o .data′) s
+    (begun-keeps Shaped closed-shaped forgotten-shaped (rowOf i .loss) (o .card) h)))
+    (λ w s. tell-sized (not (isPlain i)) (fails (lostAt i cmd o) w) nothing)
 
-by-choice-brief : (tell : Reply → Told) → Writes tell → (lost c : Card) → Shaped c → (d : List ℕ) (o : Option Command)
-    → Brief (byChoice tell lost c d o)
-by-choice-brief tell w lost c h d none = λ s. w (fails lost _) nothing
-by-choice-brief tell w lost c h d (some k) = step6-brief tell w lost c h d k
-
-step5-brief : (tell : Reply → Told) → Writes tell → (i : Instruction) (p1 p2 : ℕ) (c : Card) → Shaped c → (d : List ℕ)
-    → Brief (step5 tell i p1 p2 c d)
-unfolding step5
-step5-brief tell w i p1 p2 c h d = by-choice-brief tell w (atStake i p1 c) c h d (commandOf i p1 p2)
-
-by-opening-brief : (i : Instruction) (p1 p2 : ℕ) (c : Card) → Shaped c → (field : List ℕ) (o : Option (List ℕ))
-    → Brief (byOpening i p1 p2 c field o)
-by-opening-brief i p1 p2 c h field none = λ s. word-alone
-by-opening-brief i p1 p2 c h field (some d) =
-    step5-brief overChannel channel-writes i p1 p2 (withMac c (take 16 field)) (mac-shaped c (take 16 field) h) d
-
-by-name-brief : (cmd : List ℕ) (c : Card) → Shaped c → (field : List ℕ) (n : Named) → Brief (byName cmd c field n)
-unfolding step4
-by-name-brief cmd c h field (named.Known i) = by-test Brief (isPlain i)
-    (λ e. step5-brief plainly plainly-writes i (p1Of cmd) (p2Of cmd) c h field)
-    (λ e. by-test Brief (inStage i (c .channel .stage))
-    (λ t. by-opening-brief i (p1Of cmd) (p2Of cmd) c h field (openField (sessionOf (c .channel)) (commandHead (headerOf cmd)) field))
-    (λ t s. word-alone))
-by-name-brief cmd c h field named.WrongClass = λ s. word-alone
-by-name-brief cmd c h field named.Unknown = λ s. word-alone
-
-by-form-brief : (cmd : List ℕ) (c : Card) → Shaped c → (o : Option (List ℕ)) → Brief (byForm cmd c o)
-unfolding step3
-by-form-brief cmd c h none = λ s. word-alone
-by-form-brief cmd c h (some field) = by-name-brief cmd c h field (nameOf (isInitialised c) (claOf cmd) (insOf cmd))
+opened-shaped : (cmd : List ℕ) (c : Card) → Shaped c → (x : At cmd c) → Shaped (x .opened .card)
+opened-shaped cmd c h x = by-opened (λ (o : Opened). Shaped (o .card)) (x .instruction) cmd c (x .field) (λ p. h)
+    (λ p t d e. mac-shaped c (take 16 (x .field)) h) (x .opened) (x .opens)
 
 pub decide-sized : (c : Card) (cmd s : List ℕ) → Shaped c
     → (2 ≤ length (decide c cmd .answer s .bytes)) × (length (decide c cmd .answer s .bytes) ≤ 242)
-unfolding decide step2
-decide-sized c cmd s h = by-form-brief cmd (afterStep1 cmd c) (step1-shaped cmd c h) (dataOf cmd) s
+unfolding decide arrival
+decide-sized c cmd s h = by-pastStep1 (λ (x : Step Arrived). Brief (finish x)) cmd (step1 cmd c) (λ w t. word-alone) (λ t. word-alone)
+    (λ x. by-step5 (λ (y : Step Arrived). Brief (finish y)) (x .instruction) cmd (x .opened)
+    (λ t. tell-sized (not (isPlain (x .instruction))) (fails (lostAt (x .instruction) cmd (x .opened)) wrongParameters) nothing)
+    (λ k e. step6-brief (x .instruction) cmd (x .opened) k e (opened-shaped cmd (step1 cmd c) (step1-shaped cmd c h) x))) s
 
 pub answer-most : (c : Card) (cmd s : List ℕ) (room : ℕ) → Shaped c → length (answerOut c cmd s room .bytes) ≤ 242
 unfolding answerOut
@@ -115,7 +93,7 @@ answer-most c cmd s room h = by-test Most (isSound c)
     (λ t. by-test Most (suits (decide c cmd .supply) s) (λ u. decide-sized c cmd s h .1) (λ u. omega arith)))
     (λ e. omega arith)
   where
-    Most : Answered → Type 0
+    Most : AnswerOut → Type 0
     Most o = length (o .bytes) ≤ 242
 
 -- ---- ASK: at most 255 bytes
@@ -132,27 +110,27 @@ data-within cmd b = by-test Within (ltb (length cmd) 4) (λ e. tt)
     small : length (take (lcOf cmd) (drop 5 cmd)) ≤ 255
     small = simp length-take (omega (arith, bytes-at cmd b 4))
 
-opened-within : (c : Card) (cmd field : List ℕ) → length field ≤ 255 → (n : Named) → Within (openedAs c cmd field n)
-opened-within c cmd field h (named.Known i) = by-test Within (isPlain i) (λ e. h)
-    (λ e. by-opening (openField (sessionOf (c .channel)) (commandHead (headerOf cmd)) field) refl)
-  where
-    by-opening : (o : Option (List ℕ)) → openField (sessionOf (c .channel)) (commandHead (headerOf cmd)) field ≡ o → Within o
-    by-opening none e = tt
-    by-opening (some d) e = omega (arith, opened-most (sessionOf (c .channel)) (commandHead (headerOf cmd)) field d e)
-opened-within c cmd field h named.WrongClass = tt
-opened-within c cmd field h named.Unknown = tt
+-- the data of a command that arrives
+abbrev Few : Step Arrived → Type 0
+Few (goes a) = length (a .data′) ≤ 255
+Few (stops t) = Unit {0}
 
-command-data-within : (c : Card) (cmd : List ℕ) → Bytes cmd → Within (commandData c cmd)
-unfolding commandData
-command-data-within c cmd b = by-form (dataOf cmd) (data-within cmd b)
-  where
-    by-form : (o : Option (List ℕ)) → Within o → Within (openedFrom c cmd o)
-    by-form none h = tt
-    by-form (some field) h = opened-within c cmd field h (nameOf (isInitialised c) (claOf cmd) (insOf cmd))
+at-within : (cmd : List ℕ) (c : Card) → Bytes cmd → (x : At cmd c) → length (x .opened .data′) ≤ 255
+at-within cmd c b x = by-opened (λ (o : Opened). length (o .data′) ≤ 255) (x .instruction) cmd c (x .field)
+    (λ p. subst Within (x .form) (data-within cmd b))
+    (λ p t d e. omega (arith, opened-most (sessionOf (c .channel)) (commandHead (headerOf cmd)) (x .field) d e)) (x .opened) (x .opens)
+
+arrival-few : (c : Card) (cmd : List ℕ) → Bytes cmd → Few (arrival c cmd)
+unfolding arrival
+arrival-few c cmd b = by-pastStep1 Few cmd (step1 cmd c) (λ w. tt) tt
+    (λ x. by-step5 Few (x .instruction) cmd (x .opened) tt (λ k e. at-within cmd (step1 cmd c) b x))
 
 pub ask-most : (c : Card) (cmd : List ℕ) (room : ℕ) → Bytes cmd → isSound c ≡ true → 255 ≤ room → length (askOut c cmd room .bytes) ≤ 255
 ask-most c cmd room b e a = by-kind (eqb (askOut c cmd room .kind) 0) refl
   where
     by-kind : (t : Bool) → eqb (askOut c cmd room .kind) 0 ≡ t → length (askOut c cmd room .bytes) ≤ 255
     by-kind true z = omega (arith, ap length (ask-empty c cmd room e a (eqb-true _ 0 z)))
-    by-kind false z = subst Within (ask-data c cmd room e a (eqb-false _ 0 z)) (command-data-within (afterStep1 cmd c) cmd b)
+    by-kind false z =
+        let r = ask-data c cmd room e a (eqb-false _ 0 z) in
+        let l = subst Few (r .1) (arrival-few c cmd b) in
+        omega (arith, ap length (r .2))
