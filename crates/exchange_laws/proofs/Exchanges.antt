@@ -289,22 +289,24 @@ module _ (c : Card) (t : Turn) (sound : isSound c ≡ true) (w : Typed c) (in1 :
         (law1 .over sealed1 .path (opened c t) (t .data′) (t .supply) (t .databytes) (w .path));
   }
 
--- ---- headers
-header-named : (c : Card) (i : Instruction) (k : Command) (p1 p2 : ℕ) → isSound c ≡ true → c .channel .stage ≡ 2 → isPlain i ≡ false
-    → rowOf i .lists p1 p2 ≡ some k → (n : Names c (0x80 ∷ rowOf i .byte ∷ p1 ∷ p2 ∷ [])) × (n .command ≡ k)
-header-named c i k p1 p2 sound in2 e l =
-    let on : c .initialised ≡ 1 = is-after c sound (λ z. omega (arith, in2)) .flag in (
-      record {
-        instruction = i;
-        command = k;
-        name = ap (λ (m : ℕ). nameOf (not (isZero m)) 0x80 (rowOf i .byte)) on ∙ row-lawful i .known e;
-        sealed = e;
-        stage = ap (λ (m : ℕ). inStage i m) in2 ∙ row-lawful i .stage;
-        listed = l;
-      },
-      refl,
-    )
+-- ---- headers: in stage 2 an instruction over the channel, with a P1 and a P2 that it lists
+module _ (c : Card) (i : Instruction) (k : Command) (p1 p2 : ℕ) (sound : isSound c ≡ true) (in2 : c .channel .stage ≡ 2)
+    (e : isPlain i ≡ false) (l : rowOf i .lists p1 p2 ≡ some k) where
+  pub known : nameOf (isInitialised c) 0x80 (rowOf i .byte) ≡ named.Known i
+  known = ap (λ (m : ℕ). nameOf (not (isZero m)) 0x80 (rowOf i .byte)) (is-after c sound (λ z. omega (arith, in2)) .flag) ∙ row-lawful i
+      .known e
+
+  pub staged : inStage i (c .channel .stage) ≡ true
+  staged = ap (λ (m : ℕ). inStage i m) in2 ∙ row-lawful i .stage
+
+  abbrev pub names : Names c (0x80 ∷ rowOf i .byte ∷ p1 ∷ p2 ∷ [])
+  names = record { instruction = i; command = k; name = known; sealed = e; stage = staged; listed = l }
 
 -- ---- the claim
 pub together : Together
-together = record { opens = λ s t k. seal-opens s t k; named = header-named; answers = λ c t n e w h r. in-stage2 c t n e w h r; authenticates = to-stage2 }
+together = record {
+  opens = λ s t k. seal-opens s t k;
+  named = λ c i k p1 p2 sound in2 e l. (names c i k p1 p2 sound in2 e l, refl);
+  answers = λ c t n sound w in2 right. in-stage2 c t n sound w in2 right;
+  authenticates = to-stage2;
+}
