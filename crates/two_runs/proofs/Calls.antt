@@ -7,6 +7,7 @@ use mathlib.Core.Option.{Option, none}
 use Prim.Native.Nat.{ℕ}
 use lib.Dec.{ltb, eqb}
 use lib.ListN.{length}
+use Rattle.refusals.specs.Refusals.{noRefusal, noRoom, wrongSupply, unsound, askRoom, answerRoom}
 use Rattle.card.specs.declared.Card.{Card}
 use Rattle.card.specs.State.{withSecrets, resetOf}
 use Rattle.card.specs.Sound.{isSound}
@@ -14,15 +15,19 @@ use Rattle.sound.specs.declared.Answer.{Answer}
 use Rattle.sound.specs.Reset.{resetAnswer, done, refused}
 use Rattle.rules.specs.declared.Supply.{Supply}
 use Rattle.rules.specs.Supplies.{suits}
-use Rattle.rules.specs.Engine.{decide, noRefusal, noRoom, wrongSupply, unsound, askRoom, answerRoom, Asked, askRefused, asked, askOut, Answered, answerRefused, answered, withSupply, answerOut}
-use Rattle.two_runs.specs.Comparison.{Comparison, comparison}
-use Rattle.two_runs.specs.Runs.{Call, ask, answer, reset, comparisonAt, comparedAt, seenAt, written, nextAt, Agree, OutAlike}
-use Rattle.two_runs.proofs.Erasure.{cond-same, erase, erase-agree, agree-swap}
-use Rattle.two_runs.proofs.Order.{Same, secretOf, decide-same, compared-same}
+use Rattle.rules.specs.Steps.{decide}
+use Rattle.rules.specs.Engine.{AskOut, askRefused, asked, askOut, AnswerOut, answerRefused, answered, withSupply, answerOut}
+use Rattle.rules.specs.Comparison.{Comparison, comparison}
+use Rattle.rule_laws.specs.Lawful.{erase}
+use Rattle.rule_laws.proofs.Erasure.{cond-same}
+use Rattle.engine_laws.proofs.Refusals.{answer-refused}
+use Rattle.two_runs.specs.Runs.{Call, ask, answer, reset, comparisonAt, secretOf, comparedAt, seenAt, written, nextAt, Agree, OutAlike}
+use Rattle.two_runs.proofs.Erasure.{erase-agree, agree-swap}
+use Rattle.two_runs.proofs.Order.{Same, decide-same, compared-same}
 
 -- ---- what ANSWER gives, without PIN and PUK
-abbrev eraseAnswered : Answered → Answered
-eraseAnswered a = record { refusal = a .refusal; card = erase (a .card); bytes = a .bytes }
+abbrev eraseAnswer : AnswerOut → AnswerOut
+eraseAnswer a = record { refusal = a .refusal; card = erase (a .card); bytes = a .bytes }
 
 -- what a call does on two cards
 pub record StepSame (c d : Card) (k : Call) : Type 0 where
@@ -31,7 +36,7 @@ pub record StepSame (c d : Card) (k : Call) : Type 0 where
 
 -- ---- on a sound card: the room decides, then the supply's form
 module _ (cmd s : List ℕ) where
-  answerBy : Card → Bool → Bool → Answered
+  answerBy : Card → Bool → Bool → AnswerOut
   answerBy c short fits =
       cond short (answerRefused c noRoom) (cond fits (answered (decide c cmd .answer s)) (answerRefused c wrongSupply))
 
@@ -44,7 +49,7 @@ module _ (cmd s : List ℕ) where
       ap
       (λ (b : Bool). cond b (cond (ltb room answerRoom) (answerRefused c noRoom) (withSupply c (decide c cmd) s)) (answerRefused c unsound)) e
 
-  comparedIf : Card → Answered → Option Comparison
+  comparedIf : Card → AnswerOut → Option Comparison
   comparedIf c a = cond (eqb (a .refusal) noRefusal) (comparison c cmd) none
 
 -- RESET powers a sound card up
@@ -61,7 +66,7 @@ module _ (p q : List ℕ) (c : Card) (sound : isSound c ≡ true) (sound′ : is
   unfolding askOut
   ask-same cmd room =
       ap (λ (b : Bool). out b c) sound
-      ∙ cond-same (λ (x : Asked). x) (ltb room askRoom) refl
+      ∙ cond-same (λ (x : AskOut). x) (ltb room askRoom) refl
       (ap₂ (λ (k : Supply) (d : List ℕ). record { refusal = noRefusal; kind = k .kind; bytes = cond (eqb (k .kind) 0) [] d })
       (same .supply) (same .data′))
       ∙ sym (ap (λ (b : Bool). out b other) sound′)
@@ -69,7 +74,7 @@ module _ (p q : List ℕ) (c : Card) (sound : isSound c ≡ true) (sound′ : is
       same : Same (OutAlike (comparison c cmd) (comparison other cmd)) (decide c cmd) (decide other cmd)
       same = decide-same p q c cmd
 
-      out : Bool → Card → Asked
+      out : Bool → Card → AskOut
       out b x = cond b (cond (ltb room askRoom) (askRefused noRoom) (asked (decide x cmd))) (askRefused unsound)
 
   -- ---- ANSWER
@@ -97,22 +102,22 @@ module _ (p q : List ℕ) (c : Card) (sound : isSound c ≡ true) (sound′ : is
 
     answer-by-same : (t fits : Bool)
         → OutAlike (comparedIf cmd s c (answerBy cmd s c t fits)) (comparedIf cmd s other (answerBy cmd s other t fits))
-        → eraseAnswered (answerBy cmd s c t fits) ≡ eraseAnswered (answerBy cmd s other t fits)
+        → eraseAnswer (answerBy cmd s c t fits) ≡ eraseAnswer (answerBy cmd s other t fits)
     unfolding answerBy comparedIf
     answer-by-same true fits h = refl
     answer-by-same false true h = ap answered (decide-same p q c cmd .answer h s)
     answer-by-same false false h = refl
 
     answer-same : OutAlike (comparisonAt c (answer cmd s buf)) (comparisonAt other (answer cmd s buf))
-        → eraseAnswered (answerOut c cmd s (length buf)) ≡ eraseAnswered (answerOut other cmd s (length buf))
+        → eraseAnswer (answerOut c cmd s (length buf)) ≡ eraseAnswer (answerOut other cmd s (length buf))
     unfolding comparisonAt comparedIf
     answer-same h =
-        ap eraseAnswered out-here
+        ap eraseAnswer out-here
         ∙ answer-by-same short (fitsOn cmd s c)
-        (subst (λ (x : Answered). OutAlike (comparedIf cmd s c (answerBy cmd s c short (fitsOn cmd s c))) (comparedIf cmd s other x))
+        (subst (λ (x : AnswerOut). OutAlike (comparedIf cmd s c (answerBy cmd s c short (fitsOn cmd s c))) (comparedIf cmd s other x))
         out-there
-        (subst (λ (x : Answered). OutAlike (comparedIf cmd s c x) (comparedIf cmd s other (answerOut other cmd s (length buf)))) out-here h))
-        ∙ sym (ap eraseAnswered out-there)
+        (subst (λ (x : AnswerOut). OutAlike (comparedIf cmd s c x) (comparedIf cmd s other (answerOut other cmd s (length buf)))) out-here h))
+        ∙ sym (ap eraseAnswer out-there)
 
     compared-at-same : comparedAt c (answer cmd s buf) ≡ comparedAt other (answer cmd s buf)
     unfolding comparisonAt
@@ -124,7 +129,7 @@ module _ (p q : List ℕ) (c : Card) (sound : isSound c ≡ true) (sound′ : is
   call-swap : (k : Call) → OutAlike (comparisonAt c k) (comparisonAt other k) → StepSame c other k
   unfolding seenAt nextAt comparisonAt
   call-swap (ask cmd buf) h = record {
-    seen = ap (λ (o : Asked). record {
+    seen = ap (λ (o : AskOut). record {
       refusal = o .refusal;
       kind = o .kind;
       count = length (o .bytes);
@@ -136,9 +141,9 @@ module _ (p q : List ℕ) (c : Card) (sound : isSound c ≡ true) (sound′ : is
   call-swap (answer cmd s buf) h =
       let e = answer-same cmd s buf h in
       record {
-        seen = cc (ap (λ (o : Answered). o .refusal) e, ap (λ (o : Answered). o .bytes) e, compared-at-same cmd s buf);
+        seen = cc (ap (λ (o : AnswerOut). o .refusal) e, ap (λ (o : AnswerOut). o .bytes) e, compared-at-same cmd s buf);
         next = erase-agree (answerOut c cmd s (length buf) .card) (answerOut other cmd s (length buf) .card)
-            (ap (λ (o : Answered). o .card) e);
+            (ap (λ (o : AnswerOut). o .card) e);
       }
   call-swap reset h = record {
     seen = ap (λ (n : ℕ). record { refusal = n; kind = 0; count = 0; buffer = []; compared = none })
@@ -159,20 +164,9 @@ unfolding nextAt
 ask-passes c cmd buf = refl
 
 pub refused-passes : (c : Card) (k : Call) → (seenAt c k .refusal ≡ noRefusal → ⊥) → nextAt c k ≡ c
-unfolding seenAt nextAt answerOut resetAnswer
+unfolding seenAt nextAt resetAnswer
 refused-passes c (ask cmd buf) n = refl
-refused-passes c (answer cmd s buf) n = go (isSound c) (ltb (length buf) answerRoom) (suits (decide c cmd .supply) s) n
-  where
-    out : Bool → Bool → Bool → Answered
-    out b t f =
-        cond b (cond t (answerRefused c noRoom) (cond f (answered (decide c cmd .answer s)) (answerRefused c wrongSupply)))
-        (answerRefused c unsound)
-
-    go : (b t f : Bool) → (out b t f .refusal ≡ noRefusal → ⊥) → out b t f .card ≡ c
-    go false t f m = refl
-    go true true f m = refl
-    go true false true m = absurd (m refl)
-    go true false false m = refl
+refused-passes c (answer cmd s buf) n = answer-refused c cmd s (length buf) n .0
 refused-passes c reset n = go (isSound c) n
   where
     go : (b : Bool) → (cond b (done (resetOf c)) (refused unsound c) .refusal ≡ noRefusal → ⊥)

@@ -2,35 +2,47 @@
 -- PUK; where one is made, the call is not refused, and its answer is the one that the command's rule has for right or for wrong.
 -- Assumes nothing.
 use mathlib.Core.Path.{_≡_, refl, sym, ap, _∙_, subst}
-use mathlib.Core.Bool.{Bool, true, false, cond, false≢true}
-use mathlib.Core.List.{List}
+use mathlib.Core.Bool.{Bool, true, false, _&&_, _||_, not, cond, false≢true}
+use mathlib.Core.List.{List, [], _∷_}
 use mathlib.Core.Option.{Option, none, some}
 use Prim.Native.Nat.{ℕ, _≤_}
 use native.Mathlib.Omega.{arith}
 use borrow.Author.Tests.{le-ltb}
-use lib.Dec.{ltb, eqb}
-use lib.ListN.{length, take}
+use lib.Dec.{eqb}
+use lib.ListN.{length, take, drop}
+use Rattle.refusals.specs.Refusals.{answerRoom}
 use Rattle.message.specs.Message.{commandHead, openField}
+use Rattle.template.proofs.HeadFacts.{by-test}
 use Rattle.card.specs.declared.Pins.{Pins}
 use Rattle.card.specs.declared.Card.{Card}
-use Rattle.card.specs.Slots.{isZero}
+use Rattle.card.specs.Slots.{allOf}
 use Rattle.card.specs.Sound.{isSound}
+use Rattle.card.proofs.Tests.{both}
 use Rattle.rules.specs.declared.Instruction.{Instruction}
 use Rattle.rules.specs.declared.Instruction.the-variants as ins
 use Rattle.rules.specs.declared.Named.{Named}
 use Rattle.rules.specs.declared.Named.the-variants as named
+use Rattle.rules.specs.declared.Loss.{Loss}
+use Rattle.rules.specs.declared.Loss.the-variants as loss
 use Rattle.rules.specs.declared.Command.{Command}
-use Rattle.rules.specs.declared.Command.the-variants as command
-use Rattle.rules.specs.Words.{Reply}
+use Rattle.rules.specs.declared.Verdict.{Verdict}
+use Rattle.rules.specs.Words.{Check, Hold, Reply}
 use Rattle.rules.specs.Supplies.{noSupply, suits}
-use Rattle.rules.specs.Steps.{afterStep1, dataOf, headerOf, claOf, insOf, p1Of, p2Of, isInitialised, nameOf, isPlain, inStage, atStake, commandOf}
-use Rattle.rules.specs.Engine.{sessionOf, withMac, Told, overChannel, step6, byChoice, step5, step4, step3, step2, decide, answerRoom, answered, answerOut}
-use Rattle.two_runs.specs.Comparison.{on, Secret, pin, puk, Comparison, known, openedData, listed, pastSteps, compares, comparison}
+use Rattle.rules.specs.Rules.{Secret, pin, puk, rightBy}
+use Rattle.rules.specs.Rows.{rowOf, class80, offered, isPlain}
+use Rattle.rules.specs.Commands.{verifyReply, unblockReply, ruleOf}
+use Rattle.rules.specs.Channel.{sessionOf, withMac, Outgoing, tell}
+use Rattle.rules.specs.Steps.{Step, goes, step1, dataOf, headerOf, claOf, insOf, p1Of, p2Of, withByte, byClass, onCard, nameOf, isInitialised, Opened, openedBy, begun, Arrived, arrival, checksOf, supplyOf, replyOf, Decision, step6, finish, decide}
+use Rattle.rules.specs.Engine.{answered, answerOut}
+use Rattle.rules.specs.Comparison.{Comparison, compared, comparedBy, comparedAt6, comparedPast, comparison}
+use Rattle.rule_laws.specs.Lawful.{Lawful}
+use Rattle.rule_laws.proofs.Arrival.{At, cardAt, arrivedAt, by-opened}
+use Rattle.rule_laws.proofs.Checks.{by-verdict, held}
+use Rattle.rule_laws.proofs.Table.{lawful}
 use Rattle.two_runs.specs.Runs.{Call, answer, comparisonAt, Agree}
-use Rattle.two_runs.proofs.Erasure.{step1-pins}
-use Rattle.two_runs.proofs.Secrets.{rightBy, replyBy, made, deciding, form, verify-none, verify-some, unblock-open, unblock-spent, unblock-malformed, unblock-some, at-verify-some, at-unblock-some}
-use Rattle.two_runs.proofs.Order.{comparedBy, comparison-at}
+use Rattle.two_runs.proofs.Order.{by-arrival, pins-at}
 use Rattle.two_runs.proofs.Calls.{StepSame, call-same}
+use Rattle.two_runs.proofs.Comparisons.{commandOf, only-compares}
 
 never : {A B : Type 0} (x : A) → none ≡ some x → B
 never x e = absurd (let z : _≡_ {A = ℕ} 0 1 = cc in omega arith)
@@ -39,196 +51,154 @@ never x e = absurd (let z : _≡_ {A = ℕ} 0 1 = cc in omega arith)
 pub none-made : (c d : Card) (k : Call) → isSound c ≡ true → isSound d ≡ true → Agree c d → comparisonAt c k ≡ none → StepSame c d k
 none-made c d k sc sd a e = call-same c d k sc sd a (λ x y i j. never x (sym e ∙ i))
 
--- ---- step 6
-record At6 (tell : Reply → Told) (lost c : Card) (d : List ℕ) (k : Command) (x : Comparison) : Type 0 where
-  pub right : x .right ≡ rightBy (x .of) (c .pins) d
-  pub decides : step6 tell lost c d k ≡ deciding d (tell (replyBy (x .of) (x .right) c d))
+-- ---- the reply of the command that compares this secret, by how that came out, and a decision that reads no supply
+abbrev pub replyBy : Secret → Bool → Card → List ℕ → Reply
+replyBy pin right c d = verifyReply right c
+replyBy puk right c d = unblockReply right c (drop 12 d)
 
-module _ (tell : Reply → Told) (lost c : Card) (d : List ℕ) (x : Comparison) where
-  -- a comparison that is made is the one that it must be
-  is-made : (s : Secret) (k : Command) → compares (c .pins) k d ≡ some (made s (c .pins) d)
-      → step6 tell lost c d k ≡ deciding d (tell (replyBy s (rightBy s (c .pins) d) c d)) → compares (c .pins) k d ≡ some x
-      → At6 tell lost c d k x
-  is-made s k m r e =
-      let same : made s (c .pins) d ≡ x = cc in
-      subst (λ (y : Comparison). At6 tell lost c d k y) same (record { right = refl; decides = r })
+abbrev pub deciding : List ℕ → Outgoing → Decision
+deciding d t = record { supply = noSupply; data′ = d; answer = λ _. t }
 
-  none-there : {A : Type 0} (o : Option Comparison) → o ≡ none → o ≡ some x → A
-  none-there o n e = never x (sym n ∙ e)
+-- ---- step 6: where the checks hold, the command replies; the one that compares replies by how that came out
+abbrev replying : Arrived → Command → Decision
+replying a k = record { supply = supplyOf k; data′ = a .data′; answer = λ s. tell (a .over) (replyOf k (a .card) (a .data′) s) }
 
-  verify-compares : (b : Bool) → isZero (c .pins .«pin_tries») ≡ b → compares (c .pins) command.Verify d ≡ some x
-      → At6 tell lost c d command.Verify x
-  verify-compares true z e = none-there _ (verify-none (c .pins) d z) e
-  verify-compares false z e = is-made pin command.Verify (verify-some (c .pins) d z) (at-verify-some tell lost c d z) e
+pub step6-replies : (a : Arrived) → Hold (checksOf (a .command) (a .card) (a .data′)) → step6 a ≡ replying a (a .command)
+unfolding step6
+step6-replies a h = rw (held (supplyOf (a .command)) (checksOf (a .command) (a .card) (a .data′)) h)
 
-  unblock-compares : (b t f : Bool) → isZero (c .pins .«pin_tries») ≡ b → isZero (c .pins .«puk_tries») ≡ t → form d ≡ f
-      → compares (c .pins) command.Unblock d ≡ some x → At6 tell lost c d command.Unblock x
-  unblock-compares false t f z y m e = none-there _ (unblock-open (c .pins) d z) e
-  unblock-compares true true f z y m e = none-there _ (unblock-spent (c .pins) d z y) e
-  unblock-compares true false false z y m e = none-there _ (unblock-malformed (c .pins) d z y m) e
-  unblock-compares true false true z y m e =
-      is-made puk command.Unblock (unblock-some (c .pins) d z y m) (at-unblock-some tell lost c d z y m) e
+by-secret : (s : Secret) (a : Arrived)
+    → replying a (commandOf s) ≡ deciding (a .data′) (tell (a .over) (replyBy s (rightBy s (a .card .pins) (a .data′)) (a .card) (a .data′)))
+unfolding ruleOf
+by-secret pin a = refl
+by-secret puk a = refl
 
-  step6-compares : (k : Command) → compares (c .pins) k d ≡ some x → At6 tell lost c d k x
-  unfolding compares
-  step6-compares command.Verify e = verify-compares (isZero (c .pins .«pin_tries»)) refl e
-  step6-compares command.Unblock e =
-      unblock-compares (isZero (c .pins .«pin_tries»)) (isZero (c .pins .«puk_tries»)) (form d) refl refl refl e
-  step6-compares command.Select e = never x e
-  step6-compares command.Init e = never x e
-  step6-compares (command.Open i) e = never x e
-  step6-compares command.Mutual e = never x e
-  step6-compares command.PairFirst e = never x e
-  step6-compares command.PairFinal e = never x e
-  step6-compares (command.Unpair i) e = never x e
-  step6-compares (command.Status which) e = never x e
-  step6-compares (command.Change which) e = never x e
-  step6-compares (command.Load form) e = never x e
-  step6-compares command.Derive e = never x e
-  step6-compares command.Remove e = never x e
-  step6-compares command.SetPinless e = never x e
-  step6-compares command.Sign e = never x e
+-- a comparison that is made is the one of the command's rule, where its checks hold
+record At6 (p : Pins) (a : Arrived) (x : Comparison) : Type 0 where
+  pub right : x .right ≡ rightBy (x .of) p (a .data′)
+  pub compares : ruleOf (a .command) .compares ≡ some (x .of)
+  pub checked : Hold (checksOf (a .command) (a .card) (a .data′))
 
--- ---- step 5: no plain command compares
-module _ (f : Option Command → Option Comparison) where
-  both-none : (b t : Bool) (k : Command) → f none ≡ none → f (some k) ≡ none → f (cond b (cond t (some k) none) none) ≡ none
-  both-none true true k n s = s
-  both-none true false k n s = n
-  both-none false t k n s = n
+module _ (p : Pins) (a : Arrived) (x : Comparison) where
+  compared-is : (o : Option Secret) → ruleOf (a .command) .compares ≡ o → Hold (checksOf (a .command) (a .card) (a .data′))
+      → compared o p (a .data′) ≡ some x → At6 p a x
+  compared-is none i h e = never x e
+  compared-is (some s) i h e =
+      let same : _≡_ {A = Comparison} (record { of = s; right = rightBy s p (a .data′) }) x = cc in
+      subst (At6 p a) same (record { right = refl; compares = i; checked = h })
 
-  all-none : (b t u : Bool) (k l : Command) → f none ≡ none → f (some k) ≡ none → f (some l) ≡ none
-      → f (cond b (cond t (some k) (cond u (some l) none)) none) ≡ none
-  all-none true true u k l n s r = s
-  all-none true false true k l n s r = r
-  all-none true false false k l n s r = n
-  all-none false t u k l n s r = n
+  at6 : comparedAt6 p a ≡ some x → At6 p a x
+  at6 = by-verdict (λ (v : Verdict). comparedBy p a v ≡ some x → At6 p a x) (supplyOf (a .command)) (checksOf (a .command) (a .card) (a .data′))
+      (λ h e. compared-is (ruleOf (a .command) .compares) refl h e) (λ w e. never x e)
 
-module _ (p : Pins) (d : List ℕ) (p1 p2 : ℕ) where
-  abbrev by : Option Command → Option Comparison
-  by o = comparedBy p (on o (λ k. some (record { command = k; data′ = d })))
+-- ---- steps 4 and 5 of a command that is not plain: what it opens to, and the card with its MAC; only OPEN, which is plain, begins by closing
+abbrev keeps : Loss → Bool
+keeps loss.Channel = false
+keeps loss.HalfOpen = true
+keeps loss.Pending = true
+keeps loss.Nothing = true
 
-  plain-none : (i : Instruction) → isPlain i ≡ true → by (commandOf i p1 p2) ≡ none
-  unfolding compares commandOf isPlain
-  plain-none ins.Select e = both-none by (isZero p2) (eqb p1 0x04) command.Select refl refl
-  plain-none ins.Init e = both-none by (isZero p2) (eqb p1 0) command.Init refl refl
-  plain-none ins.Open e = both-none by (isZero p2) (ltb p1 5) (command.Open p1) refl refl
-  plain-none ins.Pair e = all-none by (isZero p2) (eqb p1 0) (eqb p1 1) command.PairFirst command.PairFinal refl refl refl
-  plain-none ins.Mutual e = absurd (false≢true e)
-  plain-none ins.Unpair e = absurd (false≢true e)
-  plain-none ins.Status e = absurd (false≢true e)
-  plain-none ins.Verify e = absurd (false≢true e)
-  plain-none ins.Change e = absurd (false≢true e)
-  plain-none ins.Unblock e = absurd (false≢true e)
-  plain-none ins.Load e = absurd (false≢true e)
-  plain-none ins.Derive e = absurd (false≢true e)
-  plain-none ins.Remove e = absurd (false≢true e)
-  plain-none ins.SetPinless e = absurd (false≢true e)
-  plain-none ins.Sign e = absurd (false≢true e)
+abbrev plainOrKeeps : Instruction → Bool
+plainOrKeeps i = isPlain i || keeps (rowOf i .loss)
 
-module _ (x : Comparison) where
-  step5-compares : (i : Instruction) (cmd : List ℕ) (c : Card) (d : List ℕ) → comparedBy (c .pins) (listed i cmd d) ≡ some x
-      → (x .right ≡ rightBy (x .of) (c .pins) d)
-      × (step5 overChannel i (p1Of cmd) (p2Of cmd) c d ≡ deciding d (overChannel (replyBy (x .of) (x .right) c d)))
-  unfolding step5
-  step5-compares i cmd c d e = go (commandOf i (p1Of cmd) (p2Of cmd)) e
-    where
-      go : (o : Option Command) → comparedBy (c .pins) (on o (λ k. some (record { command = k; data′ = d }))) ≡ some x
-          → (x .right ≡ rightBy (x .of) (c .pins) d)
-          × (byChoice overChannel (atStake i (p1Of cmd) c) c d o ≡ deciding d (overChannel (replyBy (x .of) (x .right) c d)))
-      go none e = never x e
-      go (some k) e =
-          let r = step6-compares overChannel (atStake i (p1Of cmd) c) c d x k e in
-          (r .right, r .decides)
+abbrev Passes : Named → Type 0
+Passes (named.Known i) = plainOrKeeps i ≡ true
+Passes named.WrongClass = Unit {0}
+Passes named.Unknown = Unit {0}
 
-  -- ---- step 4
-  record At4 (i : Instruction) (cmd : List ℕ) (c : Card) (field : List ℕ) : Type 0 where
-    pub data′ : List ℕ
-    pub staged : inStage i (c .channel .stage) ≡ true
-    pub opens : openField (sessionOf (c .channel)) (commandHead (headerOf cmd)) field ≡ some data′
-    pub right : x .right ≡ rightBy (x .of) (c .pins) data′
-    pub decides : step4 i cmd c field ≡ deciding data′ (overChannel (replyBy (x .of) (x .right) (withMac c (take 16 field)) data′))
+all-pass : allOf plainOrKeeps (ins.Select ∷ class80) ≡ true
+unfolding allOf rowOf
+all-pass = refl
 
-  module _ (i : Instruction) (cmd : List ℕ) (c : Card) (field : List ℕ) where
-    abbrev opening : Option (List ℕ)
-    opening = openField (sessionOf (c .channel)) (commandHead (headerOf cmd)) field
+listed-passes : (b : ℕ) (l : List Instruction) → allOf plainOrKeeps l ≡ true → Passes (withByte b l)
+unfolding allOf
+listed-passes b [] e = tt
+listed-passes b (i ∷ more) e =
+    let h = both (plainOrKeeps i) (allOf plainOrKeeps more) e in
+    by-test Passes (eqb b (rowOf i .byte)) (λ _. h .0) (λ _. listed-passes b more (h .1))
 
-    step4-decides : (d : List ℕ) → isPlain i ≡ false → inStage i (c .channel .stage) ≡ true → opening ≡ some d
-        → step4 i cmd c field ≡ step5 overChannel i (p1Of cmd) (p2Of cmd) (withMac c (take 16 field)) d
-    unfolding step4
-    step4-decides d f t o = rw (f, t, o)
+on-card-passes : (t : Bool) (n : Named) → Passes n → Passes (onCard t n)
+on-card-passes t (named.Known i) h = by-test Passes (offered (rowOf i .offer) t) (λ _. h) (λ _. tt)
+on-card-passes t named.WrongClass h = tt
+on-card-passes t named.Unknown h = tt
 
-    step4-by : (plain staged : Bool) (o : Option (List ℕ)) → isPlain i ≡ plain → inStage i (c .channel .stage) ≡ staged → opening ≡ o
-        → comparedBy (c .pins) (on (cond plain (some field) (cond staged o none)) (λ d. listed i cmd d)) ≡ some x → At4 i cmd c field
-    step4-by true staged o f t z e = never x (sym (plain-none (c .pins) field (p1Of cmd) (p2Of cmd) i f) ∙ e)
-    step4-by false true none f t z e = never x e
-    step4-by false false o f t z e = never x e
-    step4-by false true (some d) f t z e =
-        let r = step5-compares i cmd (withMac c (take 16 field)) d e in
-        record { data′ = d; staged = t; opens = z; right = r .0; decides = step4-decides d f t z ∙ r .1 }
+name-passes : (t : Bool) (cla b : ℕ) → Passes (nameOf t cla b)
+unfolding nameOf allOf
+name-passes t cla b =
+    let h = both (plainOrKeeps ins.Select) (allOf plainOrKeeps class80) all-pass in
+    on-card-passes t (byClass cla b)
+    (by-test Passes (eqb cla 0x80) (λ _. listed-passes b class80 (h .1))
+    (λ _. by-test Passes (eqb cla 0 && eqb b (rowOf ins.Select .byte)) (λ _. h .0) (λ _. tt)))
 
-    step4-compares : comparedBy (c .pins) (on (openedData (c .channel) i cmd field) (λ d. listed i cmd d)) ≡ some x → At4 i cmd c field
-    step4-compares e = step4-by (isPlain i) (inStage i (c .channel .stage)) opening refl refl refl e
+kept : (plain : Bool) (l : Loss) (c : Card) → plain ≡ false → (plain || keeps l) ≡ true → begun l c ≡ c
+kept true l c p e = absurd (false≢true (sym p))
+kept false loss.Channel c p e = absurd (false≢true e)
+kept false loss.HalfOpen c p e = refl
+kept false loss.Pending c p e = refl
+kept false loss.Nothing c p e = refl
 
-  -- ---- steps 3 and 2
-  record At2 (cmd : List ℕ) (c : Card) : Type 0 where
-    pub field : List ℕ
-    pub instruction : Instruction
-    pub form : dataOf cmd ≡ some field
-    pub name : nameOf (isInitialised c) (claOf cmd) (insOf cmd) ≡ named.Known instruction
-    pub at : At4 instruction cmd c field
-    pub decides : step2 cmd c ≡ step4 instruction cmd c field
+module _ (c : Card) (cmd : List ℕ) (x : At cmd (step1 cmd c)) (over : isPlain (x .instruction) ≡ false) where
+  opened-over : (openedBy (step1 cmd c) cmd (x .field) ≡ some (x .opened .data′))
+      × (x .opened .card ≡ withMac (step1 cmd c) (take 16 (x .field)))
+  opened-over = by-opened
+      (λ (o : Opened). (openedBy (step1 cmd c) cmd (x .field) ≡ some (o .data′)) × (o .card ≡ withMac (step1 cmd c) (take 16 (x .field))))
+      (x .instruction) cmd (step1 cmd c) (x .field) (λ e. absurd (false≢true (sym over ∙ e))) (λ _ _ d e. (e, refl)) (x .opened) (x .opens)
 
-  module _ (cmd : List ℕ) (c : Card) where
-    step2-decides : (field : List ℕ) (i : Instruction) → dataOf cmd ≡ some field
-        → nameOf (isInitialised c) (claOf cmd) (insOf cmd) ≡ named.Known i
-        → step2 cmd c ≡ step4 i cmd c field
-    unfolding step2 step3
-    step2-decides field i f n = rw (f, n)
-
-    step2-by : (o : Option (List ℕ)) (n : Named) → dataOf cmd ≡ o → nameOf (isInitialised c) (claOf cmd) (insOf cmd) ≡ n
-        → comparedBy (c .pins) (on o (λ field. on (known n) (λ i. on (openedData (c .channel) i cmd field) (λ d. listed i cmd d)))) ≡ some x
-        → At2 cmd c
-    step2-by none n f m e = never x e
-    step2-by (some field) named.WrongClass f m e = never x e
-    step2-by (some field) named.Unknown f m e = never x e
-    step2-by (some field) (named.Known i) f m e = record {
-      field = field;
-      instruction = i;
-      form = f;
-      name = m;
-      at = step4-compares i cmd c field e;
-      decides = step2-decides field i f m;
-    }
-
-    step2-compares : comparedBy (c .pins) (pastSteps c cmd) ≡ some x → At2 cmd c
-    unfolding pastSteps
-    step2-compares e = step2-by (dataOf cmd) (nameOf (isInitialised c) (claOf cmd) (insOf cmd)) refl refl e
+  card-over : cardAt (x .instruction) (x .opened) ≡ withMac (step1 cmd c) (take 16 (x .field))
+  card-over =
+      kept (isPlain (x .instruction)) (rowOf (x .instruction) .loss) (x .opened .card) over
+      (subst Passes (x .name) (name-passes (isInitialised (step1 cmd c)) (claOf cmd) (insOf cmd)))
+      ∙ opened-over .1
 
 -- ---- the whole: the field, what it opens to, whether that is the secret of the card that the call was given, and the answer
 pub record Compared (c : Card) (cmd : List ℕ) (x : Comparison) : Type 0 where
   pub field : List ℕ
   pub data′ : List ℕ
   pub form : dataOf cmd ≡ some field
-  pub opens : openField (sessionOf (afterStep1 cmd c .channel)) (commandHead (headerOf cmd)) field ≡ some data′
+  pub opens : openedBy (step1 cmd c) cmd field ≡ some data′
   pub right : x .right ≡ rightBy (x .of) (c .pins) data′
-  pub told : Told
-  pub tells : told ≡ overChannel (replyBy (x .of) (x .right) (withMac (afterStep1 cmd c) (take 16 field)) data′)
+  pub told : Outgoing
+  pub tells : told ≡ tell true (replyBy (x .of) (x .right) (withMac (step1 cmd c) (take 16 field)) data′)
   pub decides : decide c cmd ≡ record { supply = noSupply; data′ = data′; answer = λ _. told }
 
-pub one-made : (c : Card) (cmd : List ℕ) (x : Comparison) → comparison c cmd ≡ some x → Compared c cmd x
-unfolding decide
-one-made c cmd x e =
-    let r = step2-compares x cmd (afterStep1 cmd c) (sym (comparison-at c cmd) ∙ e) in
-    record {
-      field = r .field;
-      data′ = r .at .data′;
-      form = r .form;
-      opens = r .at .opens;
-      right = r .at .right ∙ ap (λ (p : Pins). rightBy (x .of) p (r .at .data′)) (step1-pins cmd c);
-      told = overChannel (replyBy (x .of) (x .right) (withMac (afterStep1 cmd c) (take 16 (r .field))) (r .at .data′));
-      tells = refl;
-      decides = r .decides ∙ r .at .decides;
-    }
+module _ (c : Card) (cmd : List ℕ) (x : Comparison) where
+  not-plain : (i : Instruction) (k : Command) → Lawful i k → ruleOf k .compares ≡ some (x .of) → (b : Bool) → isPlain i ≡ b → b ≡ false
+  not-plain i k l e true p = never (x .of) (sym (l .plain p) ∙ e)
+  not-plain i k l e false p = refl
+
+  made-at : (y : At cmd (step1 cmd c)) (k : Command) → rowOf (y .instruction) .lists (p1Of cmd) (p2Of cmd) ≡ some k
+      → arrival c cmd ≡ goes (arrivedAt (y .instruction) cmd (y .opened) k)
+      → comparedAt6 (c .pins) (arrivedAt (y .instruction) cmd (y .opened) k) ≡ some x
+      → Compared c cmd x
+  unfolding decide
+  made-at y k l e m =
+      let a : Arrived = arrivedAt (y .instruction) cmd (y .opened) k in
+      let h : At6 (c .pins) a x = at6 (c .pins) a x m in
+      let over : isPlain (y .instruction) ≡ false = not-plain (y .instruction) k (lawful (y .instruction) (p1Of cmd) (p2Of cmd) k l) (h .compares) (isPlain (y .instruction)) refl in
+      let opened : Card = withMac (step1 cmd c) (take 16 (y .field)) in
+      let right : rightBy (x .of) (a .card .pins) (a .data′) ≡ x .right = ap (λ (p : Pins). rightBy (x .of) p (a .data′)) (pins-at c cmd y) ∙ sym (h .right) in
+      record {
+        field = y .field;
+        data′ = y .opened .data′;
+        form = y .form;
+        opens = opened-over c cmd y over .0;
+        right = h .right;
+        told = tell true (replyBy (x .of) (x .right) opened (y .opened .data′));
+        tells = refl;
+        decides =
+            ap finish e
+            ∙ step6-replies a (h .checked)
+            ∙ ap (replying a) (only-compares k (x .of) (h .compares))
+            ∙ by-secret (x .of) a
+            ∙ ap (deciding (y .opened .data′)) (ap (λ (b : Bool). tell (not b) (replyBy (x .of) (rightBy (x .of) (a .card .pins) (a .data′)) (a .card) (a .data′))) over
+            ∙ ap (λ (b : Bool). tell true (replyBy (x .of) b (a .card) (a .data′))) right
+            ∙ ap (λ (z : Card). tell true (replyBy (x .of) (x .right) z (a .data′))) (card-over c cmd y over));
+      }
+
+  pub one-made : comparison c cmd ≡ some x → Compared c cmd x
+  unfolding comparison
+  one-made e = by-arrival (λ (s : Step Arrived). arrival c cmd ≡ s → comparedPast (c .pins) s ≡ some x → Compared c cmd x) c cmd
+      (λ t _ m. never x m) made-at refl e
 
 -- the call is answered so wherever there is room, whatever the supply
 pub one-answers : (c : Card) (cmd s : List ℕ) (room : ℕ) (x : Comparison) → isSound c ≡ true → answerRoom ≤ room → (r : Compared c cmd x)

@@ -12,7 +12,7 @@ use Rattle.card.specs.declared.Card.{Card}
 use Rattle.card.specs.State.{zeros, noKeys, withSecrets}
 use Rattle.card.specs.Slots.{allOf, someOf}
 use Rattle.card.specs.Sound.{isSound}
-use Rattle.two_runs.specs.Comparison.{pin}
+use Rattle.rules.specs.Rules.{pin}
 use Rattle.two_runs.specs.Runs.{Agree, Premise}
 use Rattle.two_runs.proofs.Sealed.{InStage2}
 use Rattle.two_runs.proofs.Meets.{secrets-agree, Met, by, other-in2, wrong-meets, right-meets}

@@ -1,9 +1,8 @@
 pub mod Erasure
-pub mod Replies
-pub mod Secrets
 pub mod Order
 pub mod Calls
 pub mod TwoRuns
+pub mod Comparisons
 pub mod Compared
 pub mod Sealed
 pub mod Meets

@@ -14,6 +14,7 @@ use lib.Dec.{leb}
 use lib.ListN.{length}
 use Rattle.octets.specs.Bytes.{Bytes}
 use Rattle.octets.proofs.Lists.{same-refl}
+use Rattle.refusals.specs.Refusals.{answerRoom}
 use Rattle.card.specs.declared.Card.{Card}
 use Rattle.card.specs.State.{withSecrets}
 use Rattle.card.specs.Slots.{allOf, isZero}
@@ -21,11 +22,11 @@ use Rattle.card.specs.Sound.{isSound, isDigit}
 use Rattle.card.proofs.Tests.{both}
 use Rattle.card.proofs.Rules.{pins-rules, parts-rules, sound-cases}
 use Rattle.card.proofs.SoundFacts.{secrets-sound}
-use Rattle.rules.specs.Engine.{answerRoom}
-use Rattle.two_runs.specs.Comparison.{Secret, pin, puk, Comparison}
+use Rattle.rules.specs.Rules.{Secret, pin, puk, rightBy}
+use Rattle.rules.specs.Commands.{isUnblocking}
+use Rattle.rules.specs.Comparison.{Comparison}
 use Rattle.two_runs.specs.Runs.{Call, answer, comparisonAt, Agree, OutAlike, Alike, Premise}
 use Rattle.two_runs.proofs.Erasure.{erase-agree}
-use Rattle.two_runs.proofs.Secrets.{rightBy, form}
 use Rattle.two_runs.proofs.Sealed.{InStage2, sealedFor, verify-at, unblock-at}
 
 -- ---- any digits may stand for PIN and PUK
@@ -105,7 +106,7 @@ module _ (c : Card) (in2 : InStage2 c) (p q : List ℕ) (pin-digits : allOf isDi
         j
 
     -- UNBLOCK past its data check: twelve bytes that are right under both PUKs or wrong under both
-    pub unblock-meets : isZero (c .pins .«pin_tries») ≡ true → isZero (c .pins .«puk_tries») ≡ false → form d ≡ true
+    pub unblock-meets : isZero (c .pins .«pin_tries») ≡ true → isZero (c .pins .«puk_tries») ≡ false → isUnblocking d ≡ true
         → (right : Bool) → rightBy puk (c .pins) d ≡ right → rightBy puk (other .pins) d ≡ right
         → Met c other (answer (sealedFor c 0x22 d) supply buf) (by puk right)
     unblock-meets z y f right i j =

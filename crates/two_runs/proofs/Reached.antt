@@ -16,6 +16,7 @@ use Rattle.aes.specs.Aes.{invAes256}
 use Rattle.cbc.specs.Mode.{cbcDecrypt}
 use Rattle.padding.specs.Padding.{paddedBytes, unpad}
 use Rattle.padding.proofs.Laws.{unpad-pad}
+use Rattle.refusals.specs.Refusals.{answerRoom}
 use Rattle.message.specs.declared.Session.{Session}
 use Rattle.message.specs.Message.{Keyed, lc, commandHead, responseHead, ciphertext, fieldMac, sealField, openField}
 use Rattle.message.specs.Terminal.{sealedCommand}
@@ -34,17 +35,20 @@ use Rattle.rules.specs.declared.Instruction.the-variants as ins
 use Rattle.rules.specs.declared.Named.the-variants as named
 use Rattle.rules.specs.declared.Command.{Command}
 use Rattle.rules.specs.declared.Command.the-variants as command
-use Rattle.rules.specs.Words.{verdict, success, word, Reply, succeeds}
+use Rattle.rules.specs.Words.{Hold, success, word, Reply, succeeds}
 use Rattle.rules.specs.Supplies.{initSupply, suits}
-use Rattle.rules.specs.Steps.{afterStep1, dataOf, headerOf, claOf, insOf, p1Of, p2Of, isInitialised, nameOf, isPlain, inStage, atStake, commandOf}
-use Rattle.rules.specs.Commands.{mutualChecks, mutualReply, verifyChecks, verifyBy, verifyReply, loadChecks, loadReply, keyWith, openChecks, openReply, pairFinalChecks, pairInto, pairFinalReply, pendingWith, pairFirstChecks, pairFirstReply, withSlot, filledWith, initChecks, initContent, initWith, initReply, initialisedWith, checksOf, supplyOf, replyOf}
-use Rattle.rules.specs.Engine.{sessionOf, withMac, Told, plainly, overChannel, decide, step2, byForm, step3, step4, step5, step6, answerRoom, Answered, answered, answerOut}
+use Rattle.rules.specs.Rows.{rowOf, isPlain}
+use Rattle.rules.specs.Commands.{mutualChecks, mutualReply, verifyChecks, verifyReply, loadChecks, loadReply, keyWith, openChecks, openReply, pairFinalChecks, pairInto, pairFinalReply, pendingWith, pairFirstChecks, pairFirstReply, withSlot, filledWith, initChecks, initContent, initWith, initReply, initialisedWith, ruleOf}
+use Rattle.rules.specs.Channel.{sessionOf, withMac, Outgoing, plainly, tell}
+use Rattle.rules.specs.Steps.{step1, dataOf, claOf, insOf, p1Of, p2Of, isInitialised, nameOf, inStage, openedBy, begun, failed, byForm, step4, step5, pastStep1, arrival, checksOf, supplyOf, replyOf, step6, finish, decide}
+use Rattle.rules.specs.Engine.{AnswerOut, answered, answerOut}
+use Rattle.rule_laws.proofs.Arrival.{arrivedAt}
 use Rattle.two_runs.specs.Runs.{Call, answer, nextAt, endOf}
-use Rattle.two_runs.proofs.Secrets.{step6-replies}
-use Rattle.two_runs.proofs.Sealed.{data-filled, header-is, sealed-data}
+use Rattle.two_runs.proofs.Compared.{step6-replies}
+use Rattle.two_runs.proofs.Sealed.{data-filled, header-is, sealed-data, sealed-arrives}
 
 -- ---- ANSWER where the order of checks comes to this decision, and the supply suits
-pub answers : (c : Card) (cmd s : List ℕ) (room : ℕ) (u : Supply) (d : List ℕ) (f : List ℕ → Told) → isSound c ≡ true → answerRoom ≤ room
+pub answers : (c : Card) (cmd s : List ℕ) (room : ℕ) (u : Supply) (d : List ℕ) (f : List ℕ → Outgoing) → isSound c ≡ true → answerRoom ≤ room
     → decide c cmd ≡ record { supply = u; data′ = d; answer = f } → suits u s ≡ true → answerOut c cmd s room ≡ answered (f s)
 unfolding answerOut
 answers c cmd s room u d f e l m z = rw (e, le-ltb room answerRoom l, m, z)
@@ -108,13 +112,9 @@ init-replies : initReply fresh initData (1 ∷ zeros 32) ≡ record { status = s
 unfolding initReply initWith allOf
 init-replies = ap (λ (o : Option (List ℕ)). initWith fresh o) init-opens
 
-init-checks : verdict (checksOf command.Init fresh initData) ≡ success
-unfolding checksOf initChecks
-init-checks = rw init-long
-
 init-decides : decide fresh initCommand ≡ record { supply = initSupply; data′ = initData; answer = λ s. plainly (initReply fresh initData s) }
-unfolding decide step2 step3 step4 step5 afterStep1 nameOf isPlain atStake commandOf supplyOf replyOf
-init-decides = ap (λ (o : Option (List ℕ)). byForm initCommand fresh o) init-form ∙ step6-replies plainly fresh fresh initData command.Init init-checks
+unfolding decide arrival step1 pastStep1 nameOf rowOf step4 step5 step6 ruleOf initChecks tell
+init-decides = rw (init-form, init-long)
 
 fresh-is-sound : isSound fresh ≡ true
 unfolding isSound allOf
@@ -123,7 +123,7 @@ fresh-is-sound = refl
 pub init-reaches : nextAt fresh initCall ≡ initialisedCard
 unfolding nextAt suits
 init-reaches =
-    ap (λ (a : Answered). a .card)
+    ap (λ (a : AnswerOut). a .card)
     (answers fresh initCommand (1 ∷ zeros 32) 258 initSupply initData (λ s. plainly (initReply fresh initData s)) fresh-is-sound (omega arith)
     init-decides refl)
     ∙ ap (λ (r : Reply). r .card) init-replies
@@ -175,15 +175,15 @@ abbrev stage1Card : Card
 stage1Card = withChannel pairedCard (record { stage = 1; «enc_key» = zeros 32; «mac_key» = zeros 32; iv = zeros 16 })
 
 pair-first-next : nextAt initialisedCard pairFirstCall ≡ pendingCard
-unfolding nextAt answerOut isSound allOf someOf decide afterStep1 step2 dataOf step3 nameOf step4 isPlain step5 commandOf atStake step6 checksOf pairFirstChecks supplyOf suits replyOf pairFirstReply
+unfolding nextAt answerOut isSound allOf someOf decide arrival step1 pastStep1 dataOf nameOf rowOf step4 step5 step6 ruleOf pairFirstChecks suits pairFirstReply tell
 pair-first-next = refl
 
 pair-final-next : nextAt pendingCard pairFinalCall ≡ pairedCard
-unfolding nextAt answerOut isSound allOf someOf decide afterStep1 step2 dataOf step3 nameOf step4 isPlain step5 commandOf atStake step6 checksOf pairFinalChecks supplyOf suits replyOf pairFinalReply pairInto firstFree
+unfolding nextAt answerOut isSound allOf someOf decide arrival step1 pastStep1 dataOf nameOf rowOf step4 step5 step6 ruleOf pairFinalChecks suits pairFinalReply pairInto firstFree tell
 pair-final-next = refl
 
 open-next : nextAt pairedCard openCall ≡ stage1Card
-unfolding nextAt answerOut isSound allOf someOf decide afterStep1 step2 dataOf step3 nameOf step4 isPlain step5 commandOf atStake step6 checksOf openChecks supplyOf suits replyOf openReply
+unfolding nextAt answerOut isSound allOf someOf decide arrival step1 pastStep1 dataOf nameOf rowOf step4 step5 step6 ruleOf openChecks suits openReply tell
 open-next = refl
 
 pub stage1-reached : Reachable stage1Card
@@ -192,17 +192,6 @@ stage1-reached =
     openCall open-next
 
 -- ---- sealed commands
--- the whole order of checks on a command that opens to d, in the stage that it goes in
-decide-sealed : (c x : Card) (cmd field d : List ℕ) (i : Instruction) (k : Command) → afterStep1 cmd c ≡ x → dataOf cmd ≡ some field
-    → nameOf (isInitialised x) (claOf cmd) (insOf cmd) ≡ named.Known i → isPlain i ≡ false → inStage i (x .channel .stage) ≡ true
-    → openField (sessionOf (x .channel)) (commandHead (headerOf cmd)) field ≡ some d → commandOf i (p1Of cmd) (p2Of cmd) ≡ some k
-    → verdict (checksOf k (withMac x (take 16 field)) d) ≡ success
-    → decide c cmd ≡ record { supply = supplyOf k; data′ = d; answer = λ s. overChannel (replyOf k (withMac x (take 16 field)) d s) }
-unfolding decide step2 step3 step4 step5
-decide-sealed c x cmd field d i k a f n p t o l v =
-    ap (λ (y : Card). step2 cmd y) a
-    ∙ rw (f, n, p, t, o, l) (step6-replies overChannel (atStake i (p1Of cmd) (withMac x (take 16 field))) (withMac x (take 16 field)) d k v)
-
 -- the paired card in stage n with this IV; its session has keys of zeros
 abbrev pub inChannel : ℕ → List ℕ → ℕ → Keys → Card
 inChannel n iv verified keys = record {
@@ -232,10 +221,10 @@ session-keyed iv h = record { enc = under-keyed .enc; mac = under-keyed .mac; iv
 -- one sealed command, from a card in stage n to one in stage 2: 80 b p1 00 with the data d and the supply u
 module _ (n verified : ℕ) (keys : Keys) (b p1 : ℕ) (b-byte : b < 256) (p1-byte : p1 < 256) (d u : List ℕ) (bytes : Bytes d) (fits : length d ≤ 223)
     (i : Instruction) (k : Command) (name : nameOf true 0x80 b ≡ named.Known i) (plain : isPlain i ≡ false) (staged : inStage i n ≡ true)
-    (listed : commandOf i p1 0 ≡ some k) (suited : suits (supplyOf k) u ≡ true)
+    (listed : rowOf i .lists p1 0 ≡ some k) (kept : (x : Card) → begun (rowOf i .loss) x ≡ x) (suited : suits (supplyOf k) u ≡ true)
     (sound : (iv : List ℕ) → isSound (inChannel n iv verified keys) ≡ true)
-    (step1 : (iv more : List ℕ) → afterStep1 (0x80 ∷ b ∷ more) (inChannel n iv verified keys) ≡ inChannel n iv verified keys)
-    (checks : (iv : List ℕ) → verdict (checksOf k (inChannel n iv verified keys) d) ≡ success)
+    (first : (iv more : List ℕ) → step1 (0x80 ∷ b ∷ more) (inChannel n iv verified keys) ≡ inChannel n iv verified keys)
+    (checks : (iv : List ℕ) → Hold (checksOf k (inChannel n iv verified keys) d))
     (verified′ : ℕ) (keys′ : Keys) (response : List ℕ) (answer-bytes : Bytes response) (answer-fits : length response ≤ 221)
     (replies : (iv : List ℕ) → replyOf k (inChannel n iv verified keys) d u ≡ succeeds (inChannel 2 iv verified′ keys′) response) where
   module _ (iv : List ℕ) (block : Block iv) where
@@ -257,12 +246,16 @@ module _ (n verified : ℕ) (keys : Keys) (b p1 : ℕ) (b-byte : b < 256) (p1-by
     keyed : Keyed s
     keyed = session-keyed iv block
 
-    decides : decide c cmd
-        ≡ record { supply = supplyOf k; data′ = d; answer = λ y. overChannel (replyOf k (inChannel n (take 16 field) verified keys) d y) }
+    abbrev opened : Card
+    opened = inChannel n (take 16 field) verified keys
+
+    decides : decide c cmd ≡ record { supply = supplyOf k; data′ = d; answer = λ y. tell true (replyOf k opened d y) }
+    unfolding decide
     decides =
-        decide-sealed c c cmd field d i k (step1 iv (p1 ∷ 0 ∷ lc (length (ciphertext s d)) ∷ field))
+        ap finish (sealed-arrives c c cmd field d i k (first iv (p1 ∷ 0 ∷ lc (length (ciphertext s d)) ∷ field))
         (sealed-data s keyed b p1 b-byte p1-byte d bytes fits) name plain staged
-        (command-opens s keyed header d (header-is b p1 b-byte p1-byte) bytes fits) listed (checks (take 16 field))
+        (command-opens s keyed header d (header-is b p1 b-byte p1-byte) bytes fits) listed)
+        ∙ rw (kept opened, plain) (step6-replies (record { command = k; data′ = d; card = opened; lost = failed (rowOf i .loss) p1 opened; over = true }) (checks (take 16 field)))
 
     opened-keyed : Keyed (sessionWith (take 16 field))
     opened-keyed =
@@ -281,17 +274,17 @@ module _ (n verified : ℕ) (keys : Keys) (b p1 : ℕ) (b-byte : b < 256) (p1-by
         (bytes-append response (word success) answer-bytes (omega arith, (omega arith, tt)))
         (omega (arith, length-append response (word success), answer-fits)) .iv
 
-    told : overChannel (succeeds (inChannel 2 (take 16 field) verified′ keys′) response) .card ≡ inChannel 2 mac verified′ keys′
-    unfolding overChannel
+    told : tell true (succeeds (inChannel 2 (take 16 field) verified′ keys′) response) .card ≡ inChannel 2 mac verified′ keys′
+    unfolding tell
     told = refl
 
     next : nextAt c (answer cmd u (zeros 258)) ≡ inChannel 2 mac verified′ keys′
     unfolding nextAt
     next =
-        ap (λ (a : Answered). a .card)
-        (answers c cmd u 258 (supplyOf k) d (λ y. overChannel (replyOf k (inChannel n (take 16 field) verified keys) d y)) (sound iv) (omega arith)
+        ap (λ (a : AnswerOut). a .card)
+        (answers c cmd u 258 (supplyOf k) d (λ y. tell true (replyOf k (inChannel n (take 16 field) verified keys) d y)) (sound iv) (omega arith)
         decides suited)
-        ∙ ap (λ (r : Reply). overChannel r .card) (replies (take 16 field))
+        ∙ ap (λ (r : Reply). tell true r .card) (replies (take 16 field))
         ∙ told
 
   sealed-step : Reaching n verified keys → Reaching 2 verified′ keys′
@@ -303,19 +296,19 @@ module _ (n verified : ℕ) (keys : Keys) (b p1 : ℕ) (b-byte : b < 256) (p1-by
 
 -- ---- MUTUAL: stage 2
 pub stage2-reached : Reaching 2 0 noKeys
-unfolding nameOf isPlain inStage commandOf supplyOf suits isSound allOf someOf afterStep1 checksOf mutualChecks replyOf mutualReply
+unfolding nameOf rowOf ruleOf suits isSound allOf someOf step1 mutualChecks mutualReply
 stage2-reached =
     sealed-step 1 0 noKeys 0x11 0 (omega arith) (omega arith) (zeros 32) (zeros 32) (bytes-replicate 32 0 (omega arith)) (omega arith) ins.Mutual
-    command.Mutual refl refl refl refl refl (λ iv. refl) (λ iv more. refl) (λ iv. refl) 0 noKeys (zeros 32) (bytes-replicate 32 0 (omega arith))
+    command.Mutual refl refl refl refl (λ x. refl) refl (λ iv. refl) (λ iv more. refl) (λ iv. (refl, (refl, tt))) 0 noKeys (zeros 32) (bytes-replicate 32 0 (omega arith))
     (omega arith) (λ iv. refl)
     (record { iv = zeros 16; block = under-keyed .iv; reached = stage1-reached })
 
 -- VERIFY with the right PIN
 pub verified-reached : Reaching 2 1 noKeys
-unfolding nameOf isPlain inStage commandOf supplyOf suits isSound allOf someOf afterStep1 checksOf verifyChecks replyOf verifyReply verifyBy
+unfolding nameOf rowOf ruleOf suits isSound allOf someOf step1 verifyChecks verifyReply
 verified-reached =
     sealed-step 2 0 noKeys 0x20 0 (omega arith) (omega arith) (replicate 6 0x30) [] (bytes-replicate 6 0x30 (omega arith)) (omega arith) ins.Verify
-    command.Verify refl refl refl refl refl (λ iv. refl) (λ iv more. refl) (λ iv. refl) 1 noKeys [] tt (omega arith) (λ iv. refl) stage2-reached
+    command.Verify refl refl refl refl (λ x. refl) refl (λ iv. refl) (λ iv more. refl) (λ iv. (refl, tt)) 1 noKeys [] tt (omega arith) (λ iv. refl) stage2-reached
 
 -- ---- LOAD: a keypair template with a private key of zeros, kind 1; a seed of zeros, kind 2
 abbrev keypairData : List ℕ
@@ -325,17 +318,17 @@ keypair-bytes : Bytes keypairData
 keypair-bytes = (omega arith, (omega arith, (omega arith, (omega arith, bytes-replicate 32 0 (omega arith)))))
 
 pub kind1-reached : Reaching 2 1 (keyWith 1 (zeros 32))
-unfolding nameOf isPlain inStage commandOf supplyOf suits isSound allOf someOf afterStep1 checksOf loadChecks replyOf loadReply
+unfolding nameOf rowOf ruleOf suits isSound allOf someOf step1 loadChecks loadReply
 kind1-reached =
     sealed-step 2 1 noKeys 0xD0 1 (omega arith) (omega arith) keypairData (1 ∷ zeros 32) keypair-bytes (omega arith) ins.Load
-    (command.Load key.Keypair) refl refl refl refl refl (λ iv. refl) (λ iv more. refl) (λ iv. refl) 1 (keyWith 1 (zeros 32)) (zeros 32)
+    (command.Load key.Keypair) refl refl refl refl (λ x. refl) refl (λ iv. refl) (λ iv more. refl) (λ iv. (refl, (refl, tt))) 1 (keyWith 1 (zeros 32)) (zeros 32)
     (bytes-replicate 32 0 (omega arith)) (omega arith) (λ iv. refl) verified-reached
 
 pub kind2-reached : Reaching 2 1 (keyWith 2 (zeros 32))
-unfolding nameOf isPlain inStage commandOf supplyOf suits isSound allOf someOf afterStep1 checksOf loadChecks replyOf loadReply
+unfolding nameOf rowOf ruleOf suits isSound allOf someOf step1 loadChecks loadReply
 kind2-reached =
     sealed-step 2 1 noKeys 0xD0 3 (omega arith) (omega arith) (zeros 64) (1 ∷ zeros 32) (bytes-replicate 64 0 (omega arith)) (omega arith) ins.Load
-    (command.Load key.Seed) refl refl refl refl refl (λ iv. refl) (λ iv more. refl) (λ iv. refl) 1 (keyWith 2 (zeros 32)) (zeros 32)
+    (command.Load key.Seed) refl refl refl refl (λ x. refl) refl (λ iv. refl) (λ iv more. refl) (λ iv. (refl, (refl, tt))) 1 (keyWith 2 (zeros 32)) (zeros 32)
     (bytes-replicate 32 0 (omega arith)) (omega arith) (λ iv. refl) verified-reached
 
 -- each of these cards is sound, whatever its IV

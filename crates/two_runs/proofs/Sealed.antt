@@ -4,19 +4,22 @@
 use mathlib.Core.Path.{_≡_, refl, ap, _∙_}
 use mathlib.Core.Bool.{Bool, true, false, _&&_, not, cond}
 use mathlib.Core.List.{List, [], _∷_}
-use mathlib.Core.Option.{Option, some}
+use mathlib.Core.Option.{some}
 use Prim.Native.Nat.{ℕ, _+_, _≤_, _<_}
 use native.Mathlib.Omega.{arith}
 use borrow.Author.Tests.{le-ltb, lt-leb, eq-eqb, ne-eqb}
 use lib.Dec.{eqb}
-use lib.ListN.{length}
+use lib.ListN.{length, take}
 use lib.Seq.{take-length}
 use Rattle.octets.specs.Bytes.{Bytes}
+use Rattle.refusals.specs.Refusals.{answerRoom}
 use Rattle.message.specs.declared.Session.{Session}
-use Rattle.message.specs.Message.{Keyed, lc, commandHead, ciphertext, sealField, openField}
+use Rattle.message.specs.Message.{Keyed, lc, commandHead, ciphertext, sealField}
 use Rattle.message.specs.Terminal.{sealedCommand}
 use Rattle.message.proofs.Trips.{Header, lc-counts, command-opens}
+use Rattle.card.specs.declared.Pins.{Pins}
 use Rattle.card.specs.declared.Card.{Card}
+use Rattle.card.specs.State.{closed, forgotten}
 use Rattle.card.specs.Slots.{isZero}
 use Rattle.card.specs.Sound.{isSound}
 use Rattle.rules.specs.declared.Instruction.{Instruction}
@@ -24,11 +27,16 @@ use Rattle.rules.specs.declared.Instruction.the-variants as ins
 use Rattle.rules.specs.declared.Named.the-variants as named
 use Rattle.rules.specs.declared.Command.{Command}
 use Rattle.rules.specs.declared.Command.the-variants as command
-use Rattle.rules.specs.Steps.{closed, forgotten, begins, kept, afterStep1, dataOf, headerOf, claOf, insOf, p1Of, p2Of, isInitialised, nameOf, isPlain, inStage, commandOf}
-use Rattle.rules.specs.Engine.{sessionOf, answerRoom}
-use Rattle.two_runs.specs.Comparison.{on, Past, pin, puk, pastSteps, pastStep5, compares, comparison}
+use Rattle.rules.specs.Rules.{Secret, pin, puk, rightBy}
+use Rattle.rules.specs.Rows.{rowOf, isPlain}
+use Rattle.rules.specs.Commands.{isUnblocking}
+use Rattle.rules.specs.Channel.{sessionOf, withMac}
+use Rattle.rules.specs.Steps.{goes, begins, forgetting, step1, dataOf, claOf, insOf, p1Of, p2Of, isInitialised, nameOf, inStage, openedBy, Opened, step4, step5, pastStep1, arrival}
+use Rattle.rules.specs.Comparison.{Comparison, comparison}
+use Rattle.rule_laws.proofs.Arrival.{arrivedAt}
+use Rattle.two_runs.specs.Comparisons.{pinComparison, pukComparison}
 use Rattle.two_runs.specs.Runs.{answer, comparisonAt}
-use Rattle.two_runs.proofs.Secrets.{made, form, verify-some, unblock-some}
+use Rattle.two_runs.proofs.Comparisons.{comparisons}
 use Rattle.two_runs.proofs.Compared.{one-at}
 
 -- ---- a command whose data fill it: Lc and then as many bytes
@@ -43,27 +51,23 @@ data-filled a b p1 p2 f h =
       take-length f,
     )
 
--- ---- steps 2 to 5 on a sealed command
-past-by : (c : Card) (cmd field d : List ℕ) (i : Instruction) (k : Command) → dataOf cmd ≡ some field
-    → nameOf (isInitialised c) (claOf cmd) (insOf cmd) ≡ named.Known i → isPlain i ≡ false → inStage i (c .channel .stage) ≡ true
-    → openField (sessionOf (c .channel)) (commandHead (headerOf cmd)) field ≡ some d → commandOf i (p1Of cmd) (p2Of cmd) ≡ some k
-    → pastSteps c cmd ≡ some (record { command = k; data′ = d })
-unfolding pastSteps
-past-by c cmd field d i k f n p s o l = rw (f, n, p, s, o, l)
+-- ---- steps 1 to 5 on a command that opens to d, in a stage that it goes in, where step 1 leaves the card x
+pub sealed-arrives : (c x : Card) (cmd field d : List ℕ) (i : Instruction) (k : Command) → step1 cmd c ≡ x → dataOf cmd ≡ some field
+    → nameOf (isInitialised x) (claOf cmd) (insOf cmd) ≡ named.Known i → isPlain i ≡ false → inStage i (x .channel .stage) ≡ true
+    → openedBy x cmd field ≡ some d → rowOf i .lists (p1Of cmd) (p2Of cmd) ≡ some k
+    → arrival c cmd ≡ goes (arrivedAt i cmd (record { card = withMac x (take 16 field); data′ = d }) k)
+unfolding arrival pastStep1 step4 step5
+sealed-arrives c x cmd field d i k a f n p t o l = ap (pastStep1 cmd) a ∙ rw (f, n, p, t, o, l)
 
--- in stage 2 step 1 touches nothing that they look at
-pub step1-stage2 : (c : Card) (cmd : List ℕ) → c .channel .stage ≡ 2 → afterStep1 cmd c ≡ kept cmd c
-unfolding afterStep1
+-- in stage 2 step 1 forgets a pending pairing at most
+pub step1-stage2 : (c : Card) (cmd : List ℕ) → c .channel .stage ≡ 2 → step1 cmd c ≡ forgetting cmd c
+unfolding step1
 step1-stage2 c cmd e =
-    ap (λ (b : Bool). kept cmd (cond b (closed c) c)) (ap (λ (n : ℕ). eqb n 1 && not (begins 0x11 cmd)) e)
+    ap (λ (b : Bool). forgetting cmd (cond b (closed c) c)) (ap (λ (n : ℕ). eqb n 1 && not (begins 0x11 cmd)) e)
 
-past-stage2 : (c : Card) (cmd : List ℕ) → c .channel .stage ≡ 2 → pastStep5 c cmd ≡ pastSteps c cmd
-unfolding pastStep5 pastSteps
-past-stage2 c cmd e = ap (λ (x : Card). pastSteps x cmd) (step1-stage2 c cmd e) ∙ go (begins 0x12 cmd)
-  where
-    go : (b : Bool) → pastSteps (cond b c (forgotten c)) cmd ≡ pastSteps c cmd
-    go true = refl
-    go false = refl
+-- a comparison of this secret with these data, by the card's PIN and PUK
+abbrev pub made : Secret → Pins → List ℕ → Comparison
+made s p d = record { of = s; right = rightBy s p d }
 
 -- ---- a card in stage 2
 pub record InStage2 (c : Card) : Type 0 where
@@ -85,15 +89,16 @@ record Names (b : ℕ) (i : Instruction) (k : Command) : Type 0 where
   pub name : nameOf true 0x80 b ≡ named.Known i
   pub plain : isPlain i ≡ false
   pub staged : inStage i 2 ≡ true
-  pub listed : commandOf i 0 0 ≡ some k
+  pub listed : rowOf i .lists 0 0 ≡ some k
+  pub forgets : (c : Card) → forgetting (headerWith b) c ≡ forgotten c
 
 verify-named : Names 0x20 ins.Verify command.Verify
-unfolding nameOf isPlain inStage commandOf
-verify-named = record { byte = omega arith; name = refl; plain = refl; staged = refl; listed = refl }
+unfolding nameOf rowOf
+verify-named = record { byte = omega arith; name = refl; plain = refl; staged = refl; listed = refl; forgets = λ c. refl }
 
 unblock-named : Names 0x22 ins.Unblock command.Unblock
-unfolding nameOf isPlain inStage commandOf
-unblock-named = record { byte = omega arith; name = refl; plain = refl; staged = refl; listed = refl }
+unfolding nameOf rowOf
+unblock-named = record { byte = omega arith; name = refl; plain = refl; staged = refl; listed = refl; forgets = λ c. refl }
 
 pub header-is : (b p1 : ℕ) → b < 256 → p1 < 256 → Header (0x80 ∷ b ∷ p1 ∷ 0 ∷ [])
 header-is b p1 l m = record { long = refl; bytes = (omega arith, (l, (m, (omega arith, tt)))) }
@@ -121,37 +126,36 @@ module _ (c : Card) (in2 : InStage2 c) (d : List ℕ) (bytes : Bytes d) (fits : 
     sealed-form : dataOf (sealedFor c b d) ≡ some field
     sealed-form = sealed-data s (in2 .keyed) b 0 (names .byte) (omega arith) d bytes fits
 
-    sealed-past : pastStep5 c (sealedFor c b d) ≡ some (record { command = k; data′ = d })
-    sealed-past =
-        past-stage2 c (sealedFor c b d) (in2 .stage)
-        ∙ past-by c (sealedFor c b d) field d i k sealed-form
+    sealed-at : arrival c (sealedFor c b d)
+        ≡ goes (arrivedAt i (sealedFor c b d) (record { card = withMac (forgotten c) (take 16 field); data′ = d }) k)
+    sealed-at =
+        sealed-arrives c (forgotten c) (sealedFor c b d) field d i k (step1-stage2 c (sealedFor c b d) (in2 .stage) ∙ names .forgets c) sealed-form
         (ap (λ (n : ℕ). nameOf (not (isZero n)) 0x80 b) (in2 .initialised) ∙ names .name)
         (names .plain)
         (ap (λ (n : ℕ). inStage i n) (in2 .stage) ∙ names .staged)
         (command-opens s (in2 .keyed) (headerWith b) d (header-is b 0 (names .byte) (omega arith)) bytes fits)
         (names .listed)
 
-    sealed-compares : comparison c (sealedFor c b d) ≡ compares (c .pins) k d
-    unfolding comparison
-    sealed-compares = ap (λ (o : Option Past). on o (λ x. compares (c .pins) (x .command) (x .data′))) sealed-past
-
   -- ---- VERIFY compares its data with the card's PIN where tries are left
   pub verify-form : dataOf (sealedFor c 0x20 d) ≡ some (sealField s (commandHead (headerWith 0x20)) d)
   verify-form = sealed-form 0x20 ins.Verify command.Verify verify-named
 
   pub verify-compares : isZero (c .pins .«pin_tries») ≡ false → comparison c (sealedFor c 0x20 d) ≡ some (made pin (c .pins) d)
-  verify-compares z = sealed-compares 0x20 ins.Verify command.Verify verify-named ∙ verify-some (c .pins) d z
+  unfolding pinComparison
+  verify-compares z = comparisons c (sealedFor c 0x20 d) .verify _ (sealed-at 0x20 ins.Verify command.Verify verify-named) refl ∙ rw z
 
   -- UNBLOCK compares its first 12 bytes with the card's PUK where no PIN tries are left, PUK tries are, and the form is right
-  pub unblock-compares : isZero (c .pins .«pin_tries») ≡ true → isZero (c .pins .«puk_tries») ≡ false → form d ≡ true
+  pub unblock-compares : isZero (c .pins .«pin_tries») ≡ true → isZero (c .pins .«puk_tries») ≡ false → isUnblocking d ≡ true
       → comparison c (sealedFor c 0x22 d) ≡ some (made puk (c .pins) d)
-  unblock-compares z y f = sealed-compares 0x22 ins.Unblock command.Unblock unblock-named ∙ unblock-some (c .pins) d z y f
+  unfolding pukComparison
+  unblock-compares z y f =
+      comparisons c (sealedFor c 0x22 d) .unblock _ (sealed-at 0x22 ins.Unblock command.Unblock unblock-named) refl ∙ rw (z, y, f)
 
   module _ (supply buf : List ℕ) (room : answerRoom ≤ length buf) where
     pub verify-at : isZero (c .pins .«pin_tries») ≡ false
         → comparisonAt c (answer (sealedFor c 0x20 d) supply buf) ≡ some (made pin (c .pins) d)
     verify-at z = one-at c (sealedFor c 0x20 d) supply buf (made pin (c .pins) d) (in2 .sound) room (verify-compares z)
 
-    pub unblock-at : isZero (c .pins .«pin_tries») ≡ true → isZero (c .pins .«puk_tries») ≡ false → form d ≡ true
+    pub unblock-at : isZero (c .pins .«pin_tries») ≡ true → isZero (c .pins .«puk_tries») ≡ false → isUnblocking d ≡ true
         → comparisonAt c (answer (sealedFor c 0x22 d) supply buf) ≡ some (made puk (c .pins) d)
     unblock-at z y f = one-at c (sealedFor c 0x22 d) supply buf (made puk (c .pins) d) (in2 .sound) room (unblock-compares z y f)

@@ -18,21 +18,21 @@ use Rattle.message.specs.Terminal.{sealedCommand}
 use Rattle.message.proofs.Trips.{command-sessions, command-keyed, response-keyed}
 use Rattle.card.specs.declared.Channel.{Channel}
 use Rattle.card.specs.declared.Card.{Card}
-use Rattle.card.specs.State.{zeros}
+use Rattle.card.specs.State.{zeros, forgotten}
 use Rattle.card.specs.Slots.{isZero}
 use Rattle.card.specs.Sound.{isSound}
 use Rattle.card.proofs.Rules.{pins-rules, parts-rules, sound-cases}
 use Rattle.rules.specs.Words.{triesLeft, word}
-use Rattle.rules.specs.Steps.{forgotten, afterStep1}
-use Rattle.rules.specs.Commands.{verifyBy}
-use Rattle.rules.specs.Engine.{sessionOf, withMac, plainly, sealed, overChannel, Answered, answered}
+use Rattle.rules.specs.Rules.{pin}
+use Rattle.rules.specs.Commands.{verifyReply}
+use Rattle.rules.specs.Channel.{sessionOf, withMac, plainly, sealed, tell}
+use Rattle.rules.specs.Steps.{step1}
+use Rattle.rules.specs.Engine.{AnswerOut, answered}
 use Rattle.engine_laws.proofs.Sound.{answer-sound}
-use Rattle.two_runs.specs.Comparison.{pin}
 use Rattle.two_runs.specs.Runs.{Call, answer, comparisonAt, nextAt, Agree, OutAlike, Alike, Premise}
 use Rattle.two_runs.proofs.Calls.{StepSame, call-same}
-use Rattle.two_runs.proofs.Secrets.{made}
 use Rattle.two_runs.proofs.Compared.{Compared, one-made, one-answers}
-use Rattle.two_runs.proofs.Sealed.{step1-stage2, InStage2, headerWith, sealedFor, header-is, verify-form, verify-compares, verify-at}
+use Rattle.two_runs.proofs.Sealed.{made, step1-stage2, InStage2, headerWith, sealedFor, header-is, verify-form, verify-compares, verify-at}
 use Rattle.two_runs.proofs.Meets.{outcomes, by}
 
 -- ---- the calls: ANSWER with no supply and a buffer of 258 bytes
@@ -98,24 +98,24 @@ module _ (c : Card) (in2 : InStage2 c) (e : List ℕ) (bytes : Bytes e) (fits : 
       let f : some (r .field) ≡ some field = sym (r .form) ∙ verify-form c in2 e bytes fits in
       cc
 
-  told-is : r .told ≡ overChannel (verifyBy false opened)
+  told-is : r .told ≡ tell true (verifyReply false opened)
   told-is =
       r .tells
-      ∙ ap (λ (b : Bool). overChannel (verifyBy b (withMac (afterStep1 cmd c) (take 16 (r .field))))) wrong
-      ∙ ap (λ (x : Card). overChannel (verifyBy false (withMac x (take 16 (r .field))))) (step1-stage2 c cmd (in2 .stage))
-      ∙ ap (λ (x : List ℕ). overChannel (verifyBy false (withMac (forgotten c) (take 16 x)))) field-is
+      ∙ ap (λ (b : Bool). tell true (verifyReply b (withMac (step1 cmd c) (take 16 (r .field))))) wrong
+      ∙ ap (λ (x : Card). tell true (verifyReply false (withMac x (take 16 (r .field))))) (step1-stage2 c cmd (in2 .stage))
+      ∙ ap (λ (x : List ℕ). tell true (verifyReply false (withMac (forgotten c) (take 16 x)))) field-is
 
   opened-keyed : Keyed (sessionOf (opened .channel))
   opened-keyed =
       subst (λ (x : Session). Keyed x) (sym (command-sessions s (in2 .keyed) (headerWith 0x20) e (header-is 0x20 0 (omega arith) (omega arith)) bytes fits))
       (command-keyed s (in2 .keyed) (headerWith 0x20) e (header-is 0x20 0 (omega arith) (omega arith)) bytes fits)
 
-  sealed-is : overChannel (verifyBy false opened) ≡ sealed (verifyBy false opened)
-  unfolding overChannel verifyBy
-  sealed-is = ap (λ (n : ℕ). cond (eqb n 2) (sealed (verifyBy false opened)) (plainly (verifyBy false opened))) (in2 .stage)
+  sealed-is : tell true (verifyReply false opened) ≡ sealed (verifyReply false opened)
+  unfolding tell verifyReply
+  sealed-is = ap (λ (n : ℕ). cond (eqb n 2) (sealed (verifyReply false opened)) (plainly (verifyReply false opened))) (in2 .stage)
 
-  sealed-leaves : Leaves c (sealed (verifyBy false opened) .card)
-  unfolding verifyBy
+  sealed-leaves : Leaves c (sealed (verifyReply false opened) .card)
+  unfolding verifyReply
   sealed-leaves = record {
     initialised = in2 .initialised;
     stage = in2 .stage;
@@ -128,7 +128,7 @@ module _ (c : Card) (in2 : InStage2 c) (e : List ℕ) (bytes : Bytes e) (fits : 
   wrong-leaves : Leaves c (nextAt c (verifyCall c e))
   unfolding nextAt
   wrong-leaves =
-      subst (λ (a : Answered). Leaves c (a .card))
+      subst (λ (a : AnswerOut). Leaves c (a .card))
       (sym (one-answers c cmd [] 258 (made pin (c .pins) e) (in2 .sound) (omega arith) r ∙ ap answered (told-is ∙ sealed-is)))
       sealed-leaves
 

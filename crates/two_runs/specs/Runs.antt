@@ -7,11 +7,13 @@ use mathlib.Core.List.{List, [], _∷_, _++_}
 use mathlib.Core.Option.{Option, none, some}
 use lib.Dec.{eqb}
 use lib.ListN.{length, drop}
+use Rattle.refusals.specs.Refusals.{noRefusal}
 use Rattle.card.specs.declared.Card.{Card}
 use Rattle.card.specs.Sound.{isSound}
 use Rattle.sound.specs.Reset.{resetAnswer}
-use Rattle.rules.specs.Engine.{noRefusal, askOut, answerOut}
-use Rattle.two_runs.specs.Comparison.{on, Secret, Comparison, comparison}
+use Rattle.rules.specs.Rules.{Secret}
+use Rattle.rules.specs.Engine.{askOut, answerOut}
+use Rattle.rules.specs.Comparison.{Comparison, comparison}
 
 -- ---- a call: ASK brings its command and its buffer, ANSWER its command, its supply and its buffer, RESET nothing
 pub data Call : Type 0 where
@@ -26,8 +28,12 @@ comparisonAt c (answer cmd s buf) = cond (eqb (answerOut c cmd s (length buf) .r
 comparisonAt c reset = none
 
 -- which of PIN and PUK is compared, if any
+abbrev pub secretOf : Option Comparison → Option Secret
+secretOf none = none
+secretOf (some x) = some (x .of)
+
 abbrev pub comparedAt : Card → Call → Option Secret
-comparedAt c k = on (comparisonAt c k) (λ x. some (x .of))
+comparedAt c k = secretOf (comparisonAt c k)
 
 -- ---- what a call shows: the refusal's number or 0, the kind, the count, the whole buffer, and what it compared. ANSWER and RESET report no
 -- kind, here 0; RESET has no buffer
