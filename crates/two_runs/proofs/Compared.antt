@@ -1,47 +1,40 @@
 -- What a comparison has to do with the answer: where none is made, the answer and the next card but for PIN and PUK do not depend on PIN and
--- PUK; where one is made, the call is not refused, and its answer is the one that the command's rule has for right or for wrong.
+-- PUK; where one is made, the call is not refused, and its answer is the one that the command's rule has for right or for wrong, since the
+-- comparison is read off that rule where its checks hold.
 -- Assumes nothing.
 use mathlib.Core.Path.{_≡_, refl, sym, ap, _∙_, subst}
-use mathlib.Core.Bool.{Bool, true, false, _&&_, _||_, not, cond, false≢true}
-use mathlib.Core.List.{List, [], _∷_}
+use mathlib.Core.Bool.{Bool, true, false}
+use mathlib.Core.List.{List}
 use mathlib.Core.Option.{Option, none, some}
 use Prim.Native.Nat.{ℕ, _≤_}
 use native.Mathlib.Omega.{arith}
 use borrow.Author.Tests.{le-ltb}
-use lib.Dec.{eqb}
 use lib.ListN.{length, take, drop}
 use Rattle.refusals.specs.Refusals.{answerRoom}
-use Rattle.message.specs.Message.{commandHead, openField}
-use Rattle.template.proofs.HeadFacts.{by-test}
 use Rattle.card.specs.declared.Pins.{Pins}
 use Rattle.card.specs.declared.Card.{Card}
-use Rattle.card.specs.Slots.{allOf}
 use Rattle.card.specs.Sound.{isSound}
-use Rattle.card.proofs.Tests.{both}
 use Rattle.rules.specs.declared.Instruction.{Instruction}
-use Rattle.rules.specs.declared.Instruction.the-variants as ins
-use Rattle.rules.specs.declared.Named.{Named}
-use Rattle.rules.specs.declared.Named.the-variants as named
-use Rattle.rules.specs.declared.Loss.{Loss}
-use Rattle.rules.specs.declared.Loss.the-variants as loss
 use Rattle.rules.specs.declared.Command.{Command}
 use Rattle.rules.specs.declared.Verdict.{Verdict}
-use Rattle.rules.specs.Words.{Check, Hold, Reply}
+use Rattle.rules.specs.Words.{Hold, Reply}
 use Rattle.rules.specs.Supplies.{noSupply, suits}
 use Rattle.rules.specs.Rules.{Secret, pin, puk, rightBy}
-use Rattle.rules.specs.Rows.{rowOf, class80, offered, isPlain}
+use Rattle.rules.specs.Rows.{rowOf, isPlain}
 use Rattle.rules.specs.Commands.{verifyReply, unblockReply, ruleOf}
-use Rattle.rules.specs.Channel.{sessionOf, withMac, Outgoing, tell}
-use Rattle.rules.specs.Steps.{Step, goes, step1, dataOf, headerOf, claOf, insOf, p1Of, p2Of, withByte, byClass, onCard, nameOf, isInitialised, Opened, openedBy, begun, Arrived, arrival, checksOf, supplyOf, replyOf, Decision, step6, finish, decide}
+use Rattle.rules.specs.Channel.{withMac, Outgoing, tell}
+use Rattle.rules.specs.Steps.{Step, goes, step1, dataOf, p1Of, p2Of, openedBy, Arrived, arrival, checksOf, supplyOf, replyOf, Decision, step6, finish, decide}
 use Rattle.rules.specs.Engine.{answered, answerOut}
 use Rattle.rules.specs.Comparison.{Comparison, compared, comparedBy, comparedAt6, comparedPast, comparison}
 use Rattle.rule_laws.specs.Lawful.{Lawful}
-use Rattle.rule_laws.proofs.Arrival.{At, cardAt, arrivedAt, by-opened}
+use Rattle.rule_laws.proofs.Arrival.{At, arrivedAt}
 use Rattle.rule_laws.proofs.Checks.{by-verdict, held}
 use Rattle.rule_laws.proofs.Table.{lawful}
 use Rattle.two_runs.specs.Runs.{Call, answer, comparisonAt, Agree}
-use Rattle.two_runs.proofs.Order.{by-arrival, pins-at}
+use Rattle.two_runs.proofs.Erasure.{step1-pins}
+use Rattle.two_runs.proofs.Order.{by-arrival}
 use Rattle.two_runs.proofs.Calls.{StepSame, call-same}
+use Rattle.two_runs.proofs.Over.{opened-over, card-over}
 use Rattle.two_runs.proofs.Comparisons.{commandOf, only-compares}
 
 never : {A B : Type 0} (x : A) → none ≡ some x → B
@@ -60,7 +53,7 @@ abbrev pub deciding : List ℕ → Outgoing → Decision
 deciding d t = record { supply = noSupply; data′ = d; answer = λ _. t }
 
 -- ---- step 6: where the checks hold, the command replies; the one that compares replies by how that came out
-abbrev replying : Arrived → Command → Decision
+abbrev pub replying : Arrived → Command → Decision
 replying a k = record { supply = supplyOf k; data′ = a .data′; answer = λ s. tell (a .over) (replyOf k (a .card) (a .data′) s) }
 
 pub step6-replies : (a : Arrived) → Hold (checksOf (a .command) (a .card) (a .data′)) → step6 a ≡ replying a (a .command)
@@ -91,65 +84,6 @@ module _ (p : Pins) (a : Arrived) (x : Comparison) where
   at6 = by-verdict (λ (v : Verdict). comparedBy p a v ≡ some x → At6 p a x) (supplyOf (a .command)) (checksOf (a .command) (a .card) (a .data′))
       (λ h e. compared-is (ruleOf (a .command) .compares) refl h e) (λ w e. never x e)
 
--- ---- steps 4 and 5 of a command that is not plain: what it opens to, and the card with its MAC; only OPEN, which is plain, begins by closing
-abbrev keeps : Loss → Bool
-keeps loss.Channel = false
-keeps loss.HalfOpen = true
-keeps loss.Pending = true
-keeps loss.Nothing = true
-
-abbrev plainOrKeeps : Instruction → Bool
-plainOrKeeps i = isPlain i || keeps (rowOf i .loss)
-
-abbrev Passes : Named → Type 0
-Passes (named.Known i) = plainOrKeeps i ≡ true
-Passes named.WrongClass = Unit {0}
-Passes named.Unknown = Unit {0}
-
-all-pass : allOf plainOrKeeps (ins.Select ∷ class80) ≡ true
-unfolding allOf rowOf
-all-pass = refl
-
-listed-passes : (b : ℕ) (l : List Instruction) → allOf plainOrKeeps l ≡ true → Passes (withByte b l)
-unfolding allOf
-listed-passes b [] e = tt
-listed-passes b (i ∷ more) e =
-    let h = both (plainOrKeeps i) (allOf plainOrKeeps more) e in
-    by-test Passes (eqb b (rowOf i .byte)) (λ _. h .0) (λ _. listed-passes b more (h .1))
-
-on-card-passes : (t : Bool) (n : Named) → Passes n → Passes (onCard t n)
-on-card-passes t (named.Known i) h = by-test Passes (offered (rowOf i .offer) t) (λ _. h) (λ _. tt)
-on-card-passes t named.WrongClass h = tt
-on-card-passes t named.Unknown h = tt
-
-name-passes : (t : Bool) (cla b : ℕ) → Passes (nameOf t cla b)
-unfolding nameOf allOf
-name-passes t cla b =
-    let h = both (plainOrKeeps ins.Select) (allOf plainOrKeeps class80) all-pass in
-    on-card-passes t (byClass cla b)
-    (by-test Passes (eqb cla 0x80) (λ _. listed-passes b class80 (h .1))
-    (λ _. by-test Passes (eqb cla 0 && eqb b (rowOf ins.Select .byte)) (λ _. h .0) (λ _. tt)))
-
-kept : (plain : Bool) (l : Loss) (c : Card) → plain ≡ false → (plain || keeps l) ≡ true → begun l c ≡ c
-kept true l c p e = absurd (false≢true (sym p))
-kept false loss.Channel c p e = absurd (false≢true e)
-kept false loss.HalfOpen c p e = refl
-kept false loss.Pending c p e = refl
-kept false loss.Nothing c p e = refl
-
-module _ (c : Card) (cmd : List ℕ) (x : At cmd (step1 cmd c)) (over : isPlain (x .instruction) ≡ false) where
-  opened-over : (openedBy (step1 cmd c) cmd (x .field) ≡ some (x .opened .data′))
-      × (x .opened .card ≡ withMac (step1 cmd c) (take 16 (x .field)))
-  opened-over = by-opened
-      (λ (o : Opened). (openedBy (step1 cmd c) cmd (x .field) ≡ some (o .data′)) × (o .card ≡ withMac (step1 cmd c) (take 16 (x .field))))
-      (x .instruction) cmd (step1 cmd c) (x .field) (λ e. absurd (false≢true (sym over ∙ e))) (λ _ _ d e. (e, refl)) (x .opened) (x .opens)
-
-  card-over : cardAt (x .instruction) (x .opened) ≡ withMac (step1 cmd c) (take 16 (x .field))
-  card-over =
-      kept (isPlain (x .instruction)) (rowOf (x .instruction) .loss) (x .opened .card) over
-      (subst Passes (x .name) (name-passes (isInitialised (step1 cmd c)) (claOf cmd) (insOf cmd)))
-      ∙ opened-over .1
-
 -- ---- the whole: the field, what it opens to, whether that is the secret of the card that the call was given, and the answer
 pub record Compared (c : Card) (cmd : List ℕ) (x : Comparison) : Type 0 where
   pub field : List ℕ
@@ -176,7 +110,7 @@ module _ (c : Card) (cmd : List ℕ) (x : Comparison) where
       let h : At6 (c .pins) a x = at6 (c .pins) a x m in
       let over : isPlain (y .instruction) ≡ false = not-plain (y .instruction) k (lawful (y .instruction) (p1Of cmd) (p2Of cmd) k l) (h .compares) (isPlain (y .instruction)) refl in
       let opened : Card = withMac (step1 cmd c) (take 16 (y .field)) in
-      let right : rightBy (x .of) (a .card .pins) (a .data′) ≡ x .right = ap (λ (p : Pins). rightBy (x .of) p (a .data′)) (pins-at c cmd y) ∙ sym (h .right) in
+      let pins : step1 cmd c .pins ≡ c .pins = step1-pins cmd c in
       record {
         field = y .field;
         data′ = y .opened .data′;
@@ -190,9 +124,7 @@ module _ (c : Card) (cmd : List ℕ) (x : Comparison) where
             ∙ step6-replies a (h .checked)
             ∙ ap (replying a) (only-compares k (x .of) (h .compares))
             ∙ by-secret (x .of) a
-            ∙ ap (deciding (y .opened .data′)) (ap (λ (b : Bool). tell (not b) (replyBy (x .of) (rightBy (x .of) (a .card .pins) (a .data′)) (a .card) (a .data′))) over
-            ∙ ap (λ (b : Bool). tell true (replyBy (x .of) b (a .card) (a .data′))) right
-            ∙ ap (λ (z : Card). tell true (replyBy (x .of) (x .right) z (a .data′))) (card-over c cmd y over));
+            ∙ ap (deciding (a .data′)) (rw (over, card-over c cmd y over, pins, ← h .right));
       }
 
   pub one-made : comparison c cmd ≡ some x → Compared c cmd x

@@ -1,13 +1,11 @@
 -- What 01 says of comparisons is what the rulebook's `comparison` reads off the rules: VERIFY and UNBLOCK are the two commands whose rules
 -- compare, and their checks are those that 01 names.
 -- Assumes nothing.
-use mathlib.Core.Path.{_≡_, refl, sym, ap, _∙_, subst}
-use mathlib.Core.Bool.{Bool, true, false, _&&_, not, cond}
-use mathlib.Core.List.{List, [], _∷_}
+use mathlib.Core.Path.{_≡_, refl, ap, _∙_, subst}
+use mathlib.Core.Bool.{Bool, true, false}
+use mathlib.Core.List.{List}
 use mathlib.Core.Option.{Option, none, some}
 use Prim.Native.Nat.{ℕ}
-use native.Mathlib.Omega.{arith}
-use lib.ListN.{drop}
 use Rattle.card.specs.declared.Pins.{Pins}
 use Rattle.card.specs.declared.Card.{Card}
 use Rattle.card.specs.Slots.{isZero}
@@ -15,14 +13,13 @@ use Rattle.rules.specs.declared.Command.{Command}
 use Rattle.rules.specs.declared.Command.the-variants as command
 use Rattle.rules.specs.declared.Verdict.{Verdict}
 use Rattle.rules.specs.declared.Verdict.the-variants.{Reads, Fails}
-use Rattle.rules.specs.Words.{triesLeft, conditionsNotMet, wrongData, Check, must, verdict, Reply}
-use Rattle.rules.specs.Supplies.{noSupply}
-use Rattle.rules.specs.Rules.{Secret, pin, puk, rightBy}
-use Rattle.rules.specs.Commands.{verifyChecks, verifyReply, isUnblocking, unblockChecks, unblockReply, ruleOf}
+use Rattle.rules.specs.Words.{verdict}
+use Rattle.rules.specs.Rules.{Secret, pin, puk}
+use Rattle.rules.specs.Commands.{verifyChecks, isUnblocking, unblockChecks, ruleOf}
 use Rattle.rules.specs.Channel.{Outgoing}
 use Rattle.rules.specs.Steps.{Step, goes, stops, Arrived, arrival, checksOf, supplyOf}
-use Rattle.rules.specs.Comparison.{Comparison, compared, comparedBy, comparedAt6, comparison}
-use Rattle.two_runs.specs.Comparisons.{comparing, pinComparison, pukComparison, Comparisons}
+use Rattle.rules.specs.Comparison.{compared, comparedBy, comparedAt6, comparison}
+use Rattle.two_runs.specs.Comparisons.{pinComparison, pukComparison, Comparisons}
 use Rattle.two_runs.proofs.Order.{by-arrival, pins-at}
 
 -- ---- the two commands that compare
@@ -83,26 +80,23 @@ module _ (a : Arrived) where
 
   verify-at6 : a .command ≡ command.Verify → comparedAt6 p a ≡ pinComparison p (a .data′)
   unfolding ruleOf verifyChecks pinComparison
-  verify-at6 e = ap (λ (k : Command). comparedAt6 p (at k)) e ∙ go (isZero (p .«pin_tries»))
+  verify-at6 e = ap (λ (k : Command). comparedAt6 p (at k)) e ∙ go (isZero (p .«pin_tries»)) refl
     where
-      go : (b : Bool) → comparedBy p (at command.Verify) (verdict noSupply (must (not b) (triesLeft 0) ∷ []))
-          ≡ cond b none (some (comparing pin (rightBy pin p (a .data′))))
-      go true = refl
-      go false = refl
+      go : (b : Bool) → isZero (p .«pin_tries») ≡ b → comparedAt6 p (at command.Verify) ≡ pinComparison p (a .data′)
+      go true z = rw z
+      go false z = rw z
 
   unblock-at6 : a .command ≡ command.Unblock → comparedAt6 p a ≡ pukComparison p (a .data′)
   unfolding ruleOf unblockChecks pukComparison
-  unblock-at6 e =
-      ap (λ (k : Command). comparedAt6 p (at k)) e ∙ go (isZero (p .«pin_tries»)) (isZero (p .«puk_tries»)) (isUnblocking (a .data′))
+  unblock-at6 e = ap (λ (k : Command). comparedAt6 p (at k)) e
+      ∙ go (isZero (p .«pin_tries»)) (isZero (p .«puk_tries»)) (isUnblocking (a .data′)) refl refl refl
     where
-      go : (b t f : Bool)
-          → comparedBy p (at command.Unblock)
-          (verdict noSupply (must b conditionsNotMet ∷ must (not t) (triesLeft 0) ∷ must f wrongData ∷ []))
-          ≡ cond (b && not t && f) (some (comparing puk (rightBy puk p (a .data′)))) none
-      go false t f = refl
-      go true true f = refl
-      go true false false = refl
-      go true false true = refl
+      go : (b t f : Bool) → isZero (p .«pin_tries») ≡ b → isZero (p .«puk_tries») ≡ t → isUnblocking (a .data′) ≡ f
+          → comparedAt6 p (at command.Unblock) ≡ pukComparison p (a .data′)
+      go false t f z y e = rw z
+      go true true f z y e = rw (z, y)
+      go true false false z y e = rw (z, y, e)
+      go true false true z y e = rw (z, y, e)
 
 -- ---- the whole
 module _ (c : Card) (cmd : List ℕ) where

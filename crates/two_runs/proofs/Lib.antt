@@ -3,6 +3,7 @@ pub mod Order
 pub mod Calls
 pub mod TwoRuns
 pub mod Comparisons
+pub mod Over
 pub mod Compared
 pub mod Sealed
 pub mod Meets

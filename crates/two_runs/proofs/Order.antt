@@ -20,13 +20,13 @@ use Rattle.rules.specs.declared.Loss.the-variants as loss
 use Rattle.rules.specs.declared.Command.{Command}
 use Rattle.rules.specs.declared.Verdict.{Verdict}
 use Rattle.rules.specs.declared.Verdict.the-variants.{Reads, Fails}
-use Rattle.rules.specs.Words.{wrongParameters, conditionsNotMet, Check, verdict, Reply, fails}
+use Rattle.rules.specs.Words.{wrongParameters, conditionsNotMet, verdict, Reply, fails}
 use Rattle.rules.specs.Rules.{Secret, outcomeOf}
 use Rattle.rules.specs.Rows.{rowOf, isPlain}
 use Rattle.rules.specs.Commands.{ruleOf}
 use Rattle.rules.specs.Channel.{withMac, Outgoing, plainly, sealed, tell}
-use Rattle.rules.specs.Steps.{Step, goes, stops, then, stopsWith, step1, dataOf, byForm, claOf, insOf, p1Of, p2Of, nameOf, isInitialised, byName, Opened, byOpening, inStage, openedBy, step4, begun, failed, Arrived, byChoice, step5, pastStep1, arrival, checksOf, supplyOf, replyOf, Decision, ends, byVerdict, step6, finish, decide}
-use Rattle.rules.specs.Comparison.{Comparison, compared, comparedBy, comparedAt6, comparedPast, comparison}
+use Rattle.rules.specs.Steps.{Step, goes, stops, then, stopsWith, step1, dataOf, byForm, claOf, insOf, p1Of, p2Of, nameOf, isInitialised, byName, Opened, byOpening, inStage, openedBy, step4, begun, failed, Arrived, byChoice, step5, pastStep1, arrival, checksOf, supplyOf, replyOf, Decision, byVerdict, step6, finish, decide}
+use Rattle.rules.specs.Comparison.{Comparison, compared, comparedBy, comparedPast, comparison}
 use Rattle.rule_laws.specs.Lawful.{eraseReply, eraseOut, Lawful}
 use Rattle.rule_laws.proofs.Arrival.{At, cardAt, arrivedAt, by-step5, by-opened, by-pastStep1}
 use Rattle.rule_laws.proofs.Erasure.{cond-map, told-same}
@@ -149,58 +149,51 @@ module _ (p q : List ℕ) where
   unfolding arrival
   arrival-swap c cmd = ap (pastStep1 cmd) (step1-swap cmd c p q) ∙ past-swap cmd (step1 cmd c)
 
-  -- ---- step 6, at a command that is lawful
+  -- ---- what is the same on both cards, by the PIN and the PUK of each: what is decided, and which secret is compared
+  abbrev Both : Decision → Decision → Option Comparison → Option Comparison → Type 0
+  Both x y m n = Same (OutAlike m n) x y × (secretOf m ≡ secretOf n)
+
+  abbrev BothPast : Pins → Pins → Step Arrived → Type 0
+  BothPast o o′ x = Both (finish x) (finish (swapStep x)) (comparedPast o x) (comparedPast o′ (swapStep x))
+
+  -- step 6, at a command that is lawful
   module _ (a : Arrived) (i : Instruction) (l : Lawful i (a .command)) where
-    verdict-decides : (v : Verdict)
-        → Same (OutAlike (comparedBy (a .card .pins) a v) (comparedBy (swap (a .card) .pins) (swapAt a) v)) (byVerdict a v) (byVerdict (swapAt a) v)
-    verdict-decides (Reads k) = record {
-      supply = refl;
-      data′ = refl;
-      answer = λ h s. told-same (a .over) (replyOf (a .command) (a .card) (a .data′) s) (replyOf (a .command) (swap (a .card)) (a .data′) s)
-          (l .replyblind p q (outcomeOf (ruleOf (a .command) .compares) (a .card .pins) (a .data′)) (a .card) (a .data′) s
-          ∙ ap (λ (b : Bool). eraseReply (ruleOf (a .command) .reply b (swap (a .card)) (a .data′) s))
-          (outcome-same (ruleOf (a .command) .compares) (a .card .pins) (swap (a .card) .pins) (a .data′) h));
-    }
-    verdict-decides (Fails w) = record {
-      supply = refl;
-      data′ = refl;
-      answer = λ _ s. told-same (a .over) (fails (a .lost) w) (fails (swap (a .lost)) w) refl;
-    }
+    verdict-both : (v : Verdict)
+        → Both (byVerdict a v) (byVerdict (swapAt a) v) (comparedBy (a .card .pins) a v) (comparedBy (swap (a .card) .pins) (swapAt a) v)
+    verdict-both (Reads k) = (
+      record {
+        supply = refl;
+        data′ = refl;
+        answer = λ h s. told-same (a .over) (replyOf (a .command) (a .card) (a .data′) s) (replyOf (a .command) (swap (a .card)) (a .data′) s)
+            (l .replyblind p q (outcomeOf (ruleOf (a .command) .compares) (a .card .pins) (a .data′)) (a .card) (a .data′) s
+            ∙ ap (λ (b : Bool). eraseReply (ruleOf (a .command) .reply b (swap (a .card)) (a .data′) s))
+            (outcome-same (ruleOf (a .command) .compares) (a .card .pins) (swap (a .card) .pins) (a .data′) h));
+      },
+      secret-same (ruleOf (a .command) .compares) (a .card .pins) (swap (a .card) .pins) (a .data′),
+    )
+    verdict-both (Fails w) = (
+      record { supply = refl; data′ = refl; answer = λ _ s. told-same (a .over) (fails (a .lost) w) (fails (swap (a .lost)) w) refl },
+      refl,
+    )
 
-    -- with the PIN and the PUK of the card there
-    pub step6-same : Same (OutAlike (comparedAt6 (a .card .pins) a) (comparedAt6 (swap (a .card) .pins) (swapAt a))) (step6 a) (step6 (swapAt a))
+    step6-both : BothPast (a .card .pins) (swap (a .card) .pins) (goes a)
     unfolding step6
-    step6-same = rw (← l .checksblind p q (a .card) (a .data′))
-        (verdict-decides (verdict (supplyOf (a .command)) (checksOf (a .command) (a .card) (a .data′))))
-
-    verdict-secret : (v : Verdict) → secretOf (comparedBy (a .card .pins) a v) ≡ secretOf (comparedBy (swap (a .card) .pins) (swapAt a) v)
-    verdict-secret (Reads k) = secret-same (ruleOf (a .command) .compares) (a .card .pins) (swap (a .card) .pins) (a .data′)
-    verdict-secret (Fails w) = refl
-
-    pub secret-at6 : secretOf (comparedAt6 (a .card .pins) a) ≡ secretOf (comparedAt6 (swap (a .card) .pins) (swapAt a))
-    secret-at6 = rw (← l .checksblind p q (a .card) (a .data′))
-        (verdict-secret (verdict (supplyOf (a .command)) (checksOf (a .command) (a .card) (a .data′))))
+    step6-both = rw (← l .checksblind p q (a .card) (a .data′))
+        (verdict-both (verdict (supplyOf (a .command)) (checksOf (a .command) (a .card) (a .data′))))
 
   -- ---- the whole order of checks
   module _ (c : Card) (cmd : List ℕ) where
-    abbrev Steps : Step Arrived → Type 0
-    Steps x =
-        Same (OutAlike (comparedPast (c .pins) x) (comparedPast (swap c .pins) (swapStep x))) (finish x) (finish (swapStep x))
-        × (secretOf (comparedPast (c .pins) x) ≡ secretOf (comparedPast (swap c .pins) (swapStep x)))
-
-    steps-same : Steps (arrival c cmd)
-    steps-same = by-arrival Steps c cmd
+    steps-both : BothPast (c .pins) (swap c .pins) (arrival c cmd)
+    steps-both = by-arrival (BothPast (c .pins) (swap c .pins)) c cmd
         (λ t. (record { supply = refl; data′ = refl; answer = λ _ _. refl }, refl))
-        (λ x k e.
-        let a : Arrived = arrivedAt (x .instruction) cmd (x .opened) k in
-        let l : Lawful (x .instruction) k = lawful (x .instruction) (p1Of cmd) (p2Of cmd) k e in
-        rw (← pins-at c cmd x) (step6-same a (x .instruction) l, secret-at6 a (x .instruction) l))
+        (λ x k e. rw (← pins-at c cmd x)
+        (step6-both (arrivedAt (x .instruction) cmd (x .opened) k) (x .instruction) (lawful (x .instruction) (p1Of cmd) (p2Of cmd) k e)))
 
     pub decide-same : Same (OutAlike (comparison c cmd) (comparison (swap c) cmd)) (decide c cmd) (decide (swap c) cmd)
     unfolding decide comparison
-    decide-same = rw (arrival-swap c cmd) (steps-same .0)
+    decide-same = rw (arrival-swap c cmd) (steps-both .0)
 
     -- both make a comparison of the same secret, or neither does
     pub compared-same : secretOf (comparison c cmd) ≡ secretOf (comparison (swap c) cmd)
     unfolding comparison
-    compared-same = rw (arrival-swap c cmd) (steps-same .1)
+    compared-same = rw (arrival-swap c cmd) (steps-both .1)

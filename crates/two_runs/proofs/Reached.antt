@@ -1,5 +1,6 @@
 -- Lists of calls that reach what a run can start from: INIT on FRESH reaches an initialised sound card; PAIR, OPEN and MUTUAL then reach the
--- stages 1 and 2; VERIFY and LOAD reach the key kinds 1 and 2. Nothing of AES is computed.
+-- stages 1 and 2; VERIFY and LOAD reach the key kinds 1 and 2. Plain commands are computed, sealed ones open by the law of sealed messages;
+-- nothing of AES is computed.
 -- Assumes nothing.
 use mathlib.Core.Path.{_≡_, refl, sym, ap, _∙_, subst}
 use mathlib.Core.Bool.{true, false}
@@ -18,7 +19,7 @@ use Rattle.padding.specs.Padding.{paddedBytes, unpad}
 use Rattle.padding.proofs.Laws.{unpad-pad}
 use Rattle.refusals.specs.Refusals.{answerRoom}
 use Rattle.message.specs.declared.Session.{Session}
-use Rattle.message.specs.Message.{Keyed, lc, commandHead, responseHead, ciphertext, fieldMac, sealField, openField}
+use Rattle.message.specs.Message.{Keyed, lc, commandHead, responseHead, ciphertext, fieldMac, sealField}
 use Rattle.message.specs.Terminal.{sealedCommand}
 use Rattle.message.proofs.Fields.{length-ciphertext, decrypted}
 use Rattle.message.proofs.Trips.{command-opens, command-sessions, command-keyed, response-keyed}
@@ -39,11 +40,11 @@ use Rattle.rules.specs.Words.{Hold, success, word, Reply, succeeds}
 use Rattle.rules.specs.Supplies.{initSupply, suits}
 use Rattle.rules.specs.Rows.{rowOf, isPlain}
 use Rattle.rules.specs.Commands.{mutualChecks, mutualReply, verifyChecks, verifyReply, loadChecks, loadReply, keyWith, openChecks, openReply, pairFinalChecks, pairInto, pairFinalReply, pendingWith, pairFirstChecks, pairFirstReply, withSlot, filledWith, initChecks, initContent, initWith, initReply, initialisedWith, ruleOf}
-use Rattle.rules.specs.Channel.{sessionOf, withMac, Outgoing, plainly, tell}
-use Rattle.rules.specs.Steps.{step1, dataOf, claOf, insOf, p1Of, p2Of, isInitialised, nameOf, inStage, openedBy, begun, failed, byForm, step4, step5, pastStep1, arrival, checksOf, supplyOf, replyOf, step6, finish, decide}
+use Rattle.rules.specs.Channel.{Outgoing, plainly, tell}
+use Rattle.rules.specs.Steps.{step1, dataOf, nameOf, inStage, failed, step4, step5, pastStep1, arrival, checksOf, supplyOf, replyOf, step6, finish, decide}
 use Rattle.rules.specs.Engine.{AnswerOut, answered, answerOut}
-use Rattle.rule_laws.proofs.Arrival.{arrivedAt}
 use Rattle.two_runs.specs.Runs.{Call, answer, nextAt, endOf}
+use Rattle.two_runs.proofs.Over.{kept-over}
 use Rattle.two_runs.proofs.Compared.{step6-replies}
 use Rattle.two_runs.proofs.Sealed.{data-filled, header-is, sealed-data, sealed-arrives}
 
@@ -221,7 +222,7 @@ session-keyed iv h = record { enc = under-keyed .enc; mac = under-keyed .mac; iv
 -- one sealed command, from a card in stage n to one in stage 2: 80 b p1 00 with the data d and the supply u
 module _ (n verified : ℕ) (keys : Keys) (b p1 : ℕ) (b-byte : b < 256) (p1-byte : p1 < 256) (d u : List ℕ) (bytes : Bytes d) (fits : length d ≤ 223)
     (i : Instruction) (k : Command) (name : nameOf true 0x80 b ≡ named.Known i) (plain : isPlain i ≡ false) (staged : inStage i n ≡ true)
-    (listed : rowOf i .lists p1 0 ≡ some k) (kept : (x : Card) → begun (rowOf i .loss) x ≡ x) (suited : suits (supplyOf k) u ≡ true)
+    (listed : rowOf i .lists p1 0 ≡ some k) (suited : suits (supplyOf k) u ≡ true)
     (sound : (iv : List ℕ) → isSound (inChannel n iv verified keys) ≡ true)
     (first : (iv more : List ℕ) → step1 (0x80 ∷ b ∷ more) (inChannel n iv verified keys) ≡ inChannel n iv verified keys)
     (checks : (iv : List ℕ) → Hold (checksOf k (inChannel n iv verified keys) d))
@@ -255,7 +256,7 @@ module _ (n verified : ℕ) (keys : Keys) (b p1 : ℕ) (b-byte : b < 256) (p1-by
         ap finish (sealed-arrives c c cmd field d i k (first iv (p1 ∷ 0 ∷ lc (length (ciphertext s d)) ∷ field))
         (sealed-data s keyed b p1 b-byte p1-byte d bytes fits) name plain staged
         (command-opens s keyed header d (header-is b p1 b-byte p1-byte) bytes fits) listed)
-        ∙ rw (kept opened, plain) (step6-replies (record { command = k; data′ = d; card = opened; lost = failed (rowOf i .loss) p1 opened; over = true }) (checks (take 16 field)))
+        ∙ rw (kept-over i opened plain, plain) (step6-replies (record { command = k; data′ = d; card = opened; lost = failed (rowOf i .loss) p1 opened; over = true }) (checks (take 16 field)))
 
     opened-keyed : Keyed (sessionWith (take 16 field))
     opened-keyed =
@@ -299,7 +300,7 @@ pub stage2-reached : Reaching 2 0 noKeys
 unfolding nameOf rowOf ruleOf suits isSound allOf someOf step1 mutualChecks mutualReply
 stage2-reached =
     sealed-step 1 0 noKeys 0x11 0 (omega arith) (omega arith) (zeros 32) (zeros 32) (bytes-replicate 32 0 (omega arith)) (omega arith) ins.Mutual
-    command.Mutual refl refl refl refl (λ x. refl) refl (λ iv. refl) (λ iv more. refl) (λ iv. (refl, (refl, tt))) 0 noKeys (zeros 32) (bytes-replicate 32 0 (omega arith))
+    command.Mutual refl refl refl refl refl (λ iv. refl) (λ iv more. refl) (λ iv. (refl, (refl, tt))) 0 noKeys (zeros 32) (bytes-replicate 32 0 (omega arith))
     (omega arith) (λ iv. refl)
     (record { iv = zeros 16; block = under-keyed .iv; reached = stage1-reached })
 
@@ -308,7 +309,7 @@ pub verified-reached : Reaching 2 1 noKeys
 unfolding nameOf rowOf ruleOf suits isSound allOf someOf step1 verifyChecks verifyReply
 verified-reached =
     sealed-step 2 0 noKeys 0x20 0 (omega arith) (omega arith) (replicate 6 0x30) [] (bytes-replicate 6 0x30 (omega arith)) (omega arith) ins.Verify
-    command.Verify refl refl refl refl (λ x. refl) refl (λ iv. refl) (λ iv more. refl) (λ iv. (refl, tt)) 1 noKeys [] tt (omega arith) (λ iv. refl) stage2-reached
+    command.Verify refl refl refl refl refl (λ iv. refl) (λ iv more. refl) (λ iv. (refl, tt)) 1 noKeys [] tt (omega arith) (λ iv. refl) stage2-reached
 
 -- ---- LOAD: a keypair template with a private key of zeros, kind 1; a seed of zeros, kind 2
 abbrev keypairData : List ℕ
@@ -321,14 +322,14 @@ pub kind1-reached : Reaching 2 1 (keyWith 1 (zeros 32))
 unfolding nameOf rowOf ruleOf suits isSound allOf someOf step1 loadChecks loadReply
 kind1-reached =
     sealed-step 2 1 noKeys 0xD0 1 (omega arith) (omega arith) keypairData (1 ∷ zeros 32) keypair-bytes (omega arith) ins.Load
-    (command.Load key.Keypair) refl refl refl refl (λ x. refl) refl (λ iv. refl) (λ iv more. refl) (λ iv. (refl, (refl, tt))) 1 (keyWith 1 (zeros 32)) (zeros 32)
+    (command.Load key.Keypair) refl refl refl refl refl (λ iv. refl) (λ iv more. refl) (λ iv. (refl, (refl, tt))) 1 (keyWith 1 (zeros 32)) (zeros 32)
     (bytes-replicate 32 0 (omega arith)) (omega arith) (λ iv. refl) verified-reached
 
 pub kind2-reached : Reaching 2 1 (keyWith 2 (zeros 32))
 unfolding nameOf rowOf ruleOf suits isSound allOf someOf step1 loadChecks loadReply
 kind2-reached =
     sealed-step 2 1 noKeys 0xD0 3 (omega arith) (omega arith) (zeros 64) (1 ∷ zeros 32) (bytes-replicate 64 0 (omega arith)) (omega arith) ins.Load
-    (command.Load key.Seed) refl refl refl refl (λ x. refl) refl (λ iv. refl) (λ iv more. refl) (λ iv. (refl, (refl, tt))) 1 (keyWith 2 (zeros 32)) (zeros 32)
+    (command.Load key.Seed) refl refl refl refl refl (λ iv. refl) (λ iv more. refl) (λ iv. (refl, (refl, tt))) 1 (keyWith 2 (zeros 32)) (zeros 32)
     (bytes-replicate 32 0 (omega arith)) (omega arith) (λ iv. refl) verified-reached
 
 -- each of these cards is sound, whatever its IV

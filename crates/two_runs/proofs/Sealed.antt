@@ -31,7 +31,7 @@ use Rattle.rules.specs.Rules.{Secret, pin, puk, rightBy}
 use Rattle.rules.specs.Rows.{rowOf, isPlain}
 use Rattle.rules.specs.Commands.{isUnblocking}
 use Rattle.rules.specs.Channel.{sessionOf, withMac}
-use Rattle.rules.specs.Steps.{goes, begins, forgetting, step1, dataOf, claOf, insOf, p1Of, p2Of, isInitialised, nameOf, inStage, openedBy, Opened, step4, step5, pastStep1, arrival}
+use Rattle.rules.specs.Steps.{goes, begins, forgetting, step1, dataOf, claOf, insOf, p1Of, p2Of, isInitialised, nameOf, inStage, openedBy, step4, step5, pastStep1, arrival}
 use Rattle.rules.specs.Comparison.{Comparison, comparison}
 use Rattle.rule_laws.proofs.Arrival.{arrivedAt}
 use Rattle.two_runs.specs.Comparisons.{pinComparison, pukComparison}

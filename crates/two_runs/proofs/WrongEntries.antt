@@ -1,5 +1,5 @@
 -- A list of wrong entries, as many as PIN tries are left, each sealed for the card as it then is, under two different PINs: both runs compare
--- at every call, and the premise of the two runs is met.
+-- at every call, and the premise of the two runs is met, since a wrong entry leaves the PIN, the stage and one try less.
 -- Assumes nothing.
 use mathlib.Core.Path.{_≡_, refl, sym, ap, _∙_, subst}
 use mathlib.Core.Bool.{Bool, true, false, cond}
