@@ -28,7 +28,7 @@ columns m s = state (λ r c. m (at s r c) (at s ((r + 1) % 4) c) (at s ((r + 2) 
 
 -- 5.1.3: the matrix of MixColumns has the first row 02 03 01 01
 unfoldable pub mixRow : ℕ → ℕ → ℕ → ℕ → ℕ
-mixRow a b c d = 2 • a ⊕ 3 • b ⊕ c ⊕ d
+mixRow a b c d = 0x02 • a ⊕ 0x03 • b ⊕ c ⊕ d
 
 unfoldable pub mixColumns : List ℕ → List ℕ
 mixColumns s = columns mixRow s

@@ -14,7 +14,7 @@ invSubBytes s = map invSubByte s
 
 -- 5.3.3: the inverse of MixColumns' matrix has the first row 0e 0b 0d 09
 unfoldable pub invMixRow : ℕ → ℕ → ℕ → ℕ → ℕ
-invMixRow a b c d = 14 • a ⊕ 11 • b ⊕ 13 • c ⊕ 9 • d
+invMixRow a b c d = 0x0e • a ⊕ 0x0b • b ⊕ 0x0d • c ⊕ 0x09 • d
 
 unfoldable pub invMixColumns : List ℕ → List ℕ
 invMixColumns s = columns invMixRow s

@@ -20,10 +20,10 @@ pub application-length : (uid key : List ℕ) (free : ℕ) (keyUid : List ℕ)
 application-length uid key free keyUid =
     omega (
       arith,
-      five (field 143 uid) (field 128 key) (field 2 (2 ∷ 0 ∷ [])) (field 2 (free ∷ [])) (field 142 keyUid),
-      field-length 143 uid,
-      field-length 128 key,
-      field-length 142 keyUid,
+      five (field 0x8F uid) (field 0x80 key) (field 0x02 (2 ∷ 0 ∷ [])) (field 0x02 (free ∷ [])) (field 0x8E keyUid),
+      field-length 0x8F uid,
+      field-length 0x80 key,
+      field-length 0x8E keyUid,
     )
 
 module _ (uid key keyUid : ℕ) (u : uid ≤ 16) (k : key ≤ 65) (j : keyUid ≤ 32) where
@@ -46,11 +46,11 @@ application-bytes-key = refl
 pub integer-length : (n : List ℕ) → length n ≤ 32 → length (derInteger n) ≤ 35
 integer-length n h =
     let l = der-length n in
-    omega (arith, l .1, short-field 2 (derContent n) (omega (arith, l .1)))
+    omega (arith, l .1, short-field 0x02 (derContent n) (omega (arith, l .1)))
 
 pub pair-length : (r s : List ℕ) → length (pair r s) ≡ fieldBytes (length (derContent r)) + fieldBytes (length (derContent s))
 pair-length r s =
-    length-append (derInteger r) (derInteger s) ∙ ap₂ _+_ (field-length 2 (derContent r)) (field-length 2 (derContent s))
+    length-append (derInteger r) (derInteger s) ∙ ap₂ _+_ (field-length 0x02 (derContent r)) (field-length 0x02 (derContent s))
 
 pub pair-length-le : (r s : List ℕ) → length r ≤ 32 → length s ≤ 32 → length (pair r s) ≤ 70
 pair-length-le r s p q = omega (arith, length-append (derInteger r) (derInteger s), integer-length r p, integer-length s q)
@@ -60,24 +60,24 @@ pub signature-bytes-le : (key both : ℕ) → key ≤ 65 → both ≤ 70 → fie
 signature-bytes-le key both k b = omega (arith, field-bytes-short key (omega arith), field-bytes-short both (omega arith))
 
 pub signature-inner : (key r s : List ℕ)
-    → length (field 128 key ++ field 48 (pair r s)) ≡ fieldBytes (length key) + fieldBytes (length (pair r s))
+    → length (field 0x80 key ++ field 0x30 (pair r s)) ≡ fieldBytes (length key) + fieldBytes (length (pair r s))
 signature-inner key r s =
-    length-append (field 128 key) (field 48 (pair r s)) ∙ ap₂ _+_ (field-length 128 key) (field-length 48 (pair r s))
+    length-append (field 0x80 key) (field 0x30 (pair r s)) ∙ ap₂ _+_ (field-length 0x80 key) (field-length 0x30 (pair r s))
 
 -- the parts of the sequence of r and s, and those of SIGN's answer, as they are written one behind the other
 pub pair-parts : (r s : List ℕ) (n : ℕ) → n ≡ length (pair r s)
-    → fieldHead 48 n ++ derInteger r ++ derInteger s ≡ field 48 (pair r s)
-pair-parts r s n e = append-assoc (fieldHead 48 n) (derInteger r) (derInteger s) ∙ ap (λ (k : ℕ). fieldHead 48 k ++ pair r s) e
+    → fieldHead 0x30 n ++ derInteger r ++ derInteger s ≡ field 0x30 (pair r s)
+pair-parts r s n e = append-assoc (fieldHead 0x30 n) (derInteger r) (derInteger s) ∙ ap (λ (k : ℕ). fieldHead 0x30 k ++ pair r s) e
 
 pub signature-parts : (key r s : List ℕ) (n : ℕ) → n ≡ fieldBytes (length key) + fieldBytes (length (pair r s))
-    → fieldHead 160 n ++ field 128 key ++ field 48 (pair r s) ≡ signature key r s
+    → fieldHead 0xA0 n ++ field 0x80 key ++ field 0x30 (pair r s) ≡ signature key r s
 signature-parts key r s n e =
-    append-assoc (fieldHead 160 n) (field 128 key) (field 48 (pair r s))
-    ∙ ap (λ (k : ℕ). fieldHead 160 k ++ (field 128 key ++ field 48 (pair r s))) (e ∙ sym (signature-inner key r s))
+    append-assoc (fieldHead 0xA0 n) (field 0x80 key) (field 0x30 (pair r s))
+    ∙ ap (λ (k : ℕ). fieldHead 0xA0 k ++ (field 0x80 key ++ field 0x30 (pair r s))) (e ∙ sym (signature-inner key r s))
 
 -- no answer to SIGN is longer than 142 bytes
 pub signature-length-le : (key r s : List ℕ) → length key ≤ 65 → length r ≤ 32 → length s ≤ 32 → length (signature key r s) ≤ 142
 signature-length-le key r s k p q =
-    let inner = field 128 key ++ field 48 (pair r s) in
+    let inner = field 0x80 key ++ field 0x30 (pair r s) in
     let small = signature-bytes-le (length key) (length (pair r s)) k (pair-length-le r s p q) in
-    omega (arith, field-length 160 inner, field-bytes-le (length inner), signature-inner key r s, small)
+    omega (arith, field-length 0xA0 inner, field-bytes-le (length inner), signature-inner key r s, small)

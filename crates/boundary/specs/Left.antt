@@ -7,25 +7,25 @@ use Rattle.sound.specs.declared.Answer.{Answer}
 use Rattle.responses.specs.declared.Answered.{Answered}
 use Rattle.terminal.specs.declared.Outcome.{Outcome}
 use Rattle.record_write.specs.declared.Written.{Written}
-use Rattle.walk.specs.Walk.{Report}
-use Rattle.boundary.specs.declared.Told.{Told}
+use Rattle.walk.specs.Walk.{WalkOut}
+use Rattle.boundary.specs.declared.Counted.{Counted}
 
 -- RESET and READ tell the refusal's number
 abbrev pub answerOf : ℕ → Card → Answer
 answerOf n c = record { refusal = n; card = c }
 
 -- ANSWER tells the refusal's number and the count
-abbrev pub answeredOf : Told → Card → Answered
+abbrev pub answeredOf : Counted → Card → Answered
 answeredOf r c = record { refusal = r .refusal; count = r .count; card = c }
 
 -- SEAL and UNSEAL too
-abbrev pub outcomeOf : Told → Session → Outcome
+abbrev pub outcomeOf : Counted → Session → Outcome
 outcomeOf r s = record { refusal = r .refusal; count = r .count; session = s }
 
 -- WRITE too
-abbrev pub writtenOf : Told → Written
+abbrev pub writtenOf : Counted → Written
 writtenOf r = record { refusal = r .refusal; count = r .count }
 
 -- WALK too
-abbrev pub walkTold : Told → Report
-walkTold r = record { refusal = r .refusal; count = r .count }
+abbrev pub walkOutOf : Counted → WalkOut
+walkOutOf r = record { refusal = r .refusal; count = r .count }

@@ -6,7 +6,7 @@ ghost use mathlib.Core.Bool.{cond};
 ghost use lib.ListN.{length};
 ghost use Rattle.card.specs.State.{freshOf};
 ghost use Rattle.card.specs.Sound.{isSound};
-ghost use Rattle.record_write.specs.Wrote.{Wrote};
+ghost use Rattle.record_write.specs.Wrote.{WroteRecord};
 ghost use Rattle.message.specs.Terminal.{sealOut};
 ghost use Rattle.terminal.specs.Did.{Did};
 ghost use Rattle.boundary.specs.Left.{writtenOf};
@@ -16,7 +16,7 @@ use terminal::Outcome;
 
 // What an operation reports: the refusal's number, or 0 for none, and how many bytes it wrote from the buffer's start (WALK: fields).
 #[repr(C)]
-pub struct Told {
+pub struct Counted {
     pub refusal: u8,
     pub count: usize,
 }
@@ -36,13 +36,13 @@ pub fn sound_number(card: Card) -> u8
 }
 
 // WRITE by value.
-pub fn written(card: Card, buf: &mut [u8]) -> Told
-    ensures { λ r. ⌜ Wrote card (writtenOf r) (now (buf .entry)) (now (buf .exit)) ⌝ }
+pub fn written(card: Card, buf: &mut [u8]) -> Counted
+    ensures { λ r. ⌜ WroteRecord card (writtenOf r) (now (buf .entry)) (now (buf .exit)) ⌝ }
 {
     let told = record_write::write(card, buf);
     let refusal = told.refusal;
     let count = told.count;
-    Told { refusal, count }
+    Counted { refusal, count }
 }
 
 // SEAL by value, of a header by value.

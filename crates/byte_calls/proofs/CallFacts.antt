@@ -14,19 +14,19 @@ use Rattle.rules.specs.Engine as rules
 use Rattle.responses.specs.declared.Answered as responses
 use Rattle.responses.specs.Did.{AnswerDid}
 use Rattle.card_bytes.specs.Flat.{cardFlat, sessionFlat}
-use Rattle.byte_calls.specs.declared.Answered.{Answered}
+use Rattle.byte_calls.specs.declared.CardAnswered.{CardAnswered}
 use Rattle.byte_calls.specs.Calls.{answerFlat, CardDid, SessionDid}
 
 pub answer-flat : {a o : Answer} {card : List ℕ} → a ≡ o → card ≡ cardFlat (a .card)
-    → _≡_ {A = Answered} (record { refusal = a .refusal; count = 0; card = card }) (answerFlat o)
-answer-flat {a} p q = ap {B = Answered} (λ (x : List ℕ). record { refusal = a .refusal; count = 0; card = x }) q ∙ ap answerFlat p
+    → _≡_ {A = CardAnswered} (record { refusal = a .refusal; count = 0; card = card }) (answerFlat o)
+answer-flat {a} p q = ap {B = CardAnswered} (λ (x : List ℕ). record { refusal = a .refusal; count = 0; card = x }) q ∙ ap answerFlat p
 
 pub card-did : {o : rules.Answered} {a : responses.Answered} {card before after : List ℕ} → AnswerDid o a before after → card ≡ cardFlat (a .card)
     → CardDid o (record { refusal = a .refusal; count = a .count; card = card }) before after
 card-did {o} {a} d q = record {
   told =
-      ap {B = Answered} (λ (x : List ℕ). record { refusal = a .refusal; count = a .count; card = x }) q
-      ∙ ap {B = Answered} (λ (b : responses.Answered). record { refusal = b .refusal; count = b .count; card = cardFlat (b .card) }) (d .told);
+      ap {B = CardAnswered} (λ (x : List ℕ). record { refusal = a .refusal; count = a .count; card = x }) q
+      ∙ ap {B = CardAnswered} (λ (b : responses.Answered). record { refusal = b .refusal; count = b .count; card = cardFlat (b .card) }) (d .told);
   left = d .left;
 }
 

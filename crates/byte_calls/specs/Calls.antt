@@ -10,23 +10,23 @@ use Rattle.record_write.specs.declared.Written.{Written}
 use Rattle.rules.specs.Engine as rules
 use Rattle.responses.specs.Did.{over}
 use Rattle.card_bytes.specs.Flat.{cardFlat, sessionFlat}
-use Rattle.byte_calls.specs.declared.Answered.{Answered}
+use Rattle.byte_calls.specs.declared.CardAnswered.{CardAnswered}
 use Rattle.byte_calls.specs.declared.Sealed.{Sealed}
-use Rattle.byte_calls.specs.declared.Told.{Told}
+use Rattle.byte_calls.specs.declared.CountAnswered.{CountAnswered}
 
 -- RESET and READ write no bytes
-abbrev pub answerFlat : Answer → Answered
+abbrev pub answerFlat : Answer → CardAnswered
 answerFlat a = record { refusal = a .refusal; count = 0; card = cardFlat (a .card) }
 
 -- WRITE: what is told, as the operation over a card tells it
-abbrev pub writtenOf : Told → Written
+abbrev pub writtenOf : CountAnswered → Written
 writtenOf r = record { refusal = r .refusal; count = r .count }
 
 -- ANSWER: refusal, count, next card, and every byte of the buffer
-abbrev pub reportFlat : rules.Answered → Answered
+abbrev pub reportFlat : rules.Answered → CardAnswered
 reportFlat o = record { refusal = o .refusal; count = length (o .bytes); card = cardFlat (o .card) }
 
-pub record CardDid (o : rules.Answered) (r : Answered) (before after : List ℕ) : Type 0 where
+pub record CardDid (o : rules.Answered) (r : CardAnswered) (before after : List ℕ) : Type 0 where
   pub told : r ≡ reportFlat o
   pub left : after ≡ over (o .bytes) before
 

@@ -9,7 +9,7 @@ ghost use Rattle.card.specs.Sound.{isSound};
 ghost use Rattle.message.specs.Terminal.{sealOut, unsealOut};
 ghost use Rattle.sound.specs.Reset.{resetAnswer};
 ghost use Rattle.record.specs.Answers.{readAnswer};
-ghost use Rattle.record_write.specs.Wrote.{Wrote};
+ghost use Rattle.record_write.specs.Wrote.{WroteRecord};
 ghost use Rattle.walk.specs.Walk.{WALK};
 ghost use Rattle.rules.specs.Engine.{askOut, answerOut};
 ghost use Rattle.responses.specs.Did.{AskDid};
@@ -22,7 +22,7 @@ use card_bytes::SESSION_BYTES;
 use responses::Asked;
 
 // What ANSWER gives, and RESET and READ with a count of 0: the refusal's number or 0, the bytes written, the next card.
-pub struct Answered {
+pub struct CardAnswered {
     pub refusal: u8,
     pub count: usize,
     pub card: [u8; CARD_BYTES],
@@ -36,7 +36,7 @@ pub struct Sealed {
 }
 
 // What WRITE gives, and WALK, whose count is of fields.
-pub struct Told {
+pub struct CountAnswered {
     pub refusal: u8,
     pub count: usize,
 }
@@ -58,13 +58,13 @@ pub fn sound(bytes: [u8; CARD_BYTES]) -> bool
     sound::sound(found)
 }
 
-pub fn reset(bytes: [u8; CARD_BYTES]) -> Answered
+pub fn reset(bytes: [u8; CARD_BYTES]) -> CardAnswered
     ensures { λ r. ⌜ r ≡ answerFlat (resetAnswer (cardAt bytes)) ⌝ }
 {
     let found = card_bytes::card_of(bytes);
     let r = sound::reset(found);
     let card = card_bytes::record_of(r.card);
-    Answered {
+    CardAnswered {
         refusal: r.refusal,
         count: 0,
         card,
@@ -78,37 +78,37 @@ pub fn ask(bytes: [u8; CARD_BYTES], cmd: &[u8], buf: &mut [u8]) -> Asked
     engine::ask(found, cmd, buf)
 }
 
-pub fn answer(bytes: [u8; CARD_BYTES], cmd: &[u8], supply: &[u8], buf: &mut [u8]) -> Answered
+pub fn answer(bytes: [u8; CARD_BYTES], cmd: &[u8], supply: &[u8], buf: &mut [u8]) -> CardAnswered
     ensures { λ r. ⌜ CardDid (answerOut (cardAt bytes) (now (cmd .entry)) (now (supply .entry)) (length (now (buf .entry)))) r
         (now (buf .entry)) (now (buf .exit)) ⌝ }
 {
     let found = card_bytes::card_of(bytes);
     let r = engine::answer(found, cmd, supply, buf);
     let next = card_bytes::record_of(r.card);
-    Answered {
+    CardAnswered {
         refusal: r.refusal,
         count: r.count,
         card: next,
     }
 }
 
-pub fn write(bytes: [u8; CARD_BYTES], buf: &mut [u8]) -> Told
-    ensures { λ r. ⌜ Wrote (cardAt bytes) (writtenOf r) (now (buf .entry)) (now (buf .exit)) ⌝ }
+pub fn write(bytes: [u8; CARD_BYTES], buf: &mut [u8]) -> CountAnswered
+    ensures { λ r. ⌜ WroteRecord (cardAt bytes) (writtenOf r) (now (buf .entry)) (now (buf .exit)) ⌝ }
 {
     let found = card_bytes::card_of(bytes);
     let r = record_write::write(found, buf);
-    Told {
+    CountAnswered {
         refusal: r.refusal,
         count: r.count,
     }
 }
 
-pub fn read(stored: &[u8]) -> Answered
+pub fn read(stored: &[u8]) -> CardAnswered
     ensures { λ r. ⌜ r ≡ answerFlat (readAnswer (now (stored .entry))) ⌝ }
 {
     let r = record_read::read(stored);
     let card = card_bytes::record_of(r.card);
-    Answered {
+    CardAnswered {
         refusal: r.refusal,
         count: 0,
         card,
@@ -150,11 +150,11 @@ pub fn unseal(session: [u8; SESSION_BYTES], response: &[u8], buf: &mut [u8]) -> 
     }
 }
 
-pub fn walk(input: &[u8]) -> Told
+pub fn walk(input: &[u8]) -> CountAnswered
     ensures { λ r. ⌜ (r .refusal ≡ WALK (now (input .entry)) .refusal) × (r .count ≡ WALK (now (input .entry)) .count) ⌝ }
 {
     let w = walk::walk(input);
     let refusal = walk::refusal(w);
     let count = walk::count(w);
-    Told { refusal, count }
+    CountAnswered { refusal, count }
 }

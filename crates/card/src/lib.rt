@@ -33,15 +33,6 @@ pub const KEY_SINGLE: u8 = 1;
 
 pub const KEY_EXTENDED: u8 = 2;
 
-// What the card answers for a refused call: the numbers of 01, Operations and numbered refusals.
-pub const REFUSAL_NONE: u8 = 0;
-
-pub const REFUSAL_UNSOUND: u8 = 1;
-
-pub const REFUSAL_ROOM: u8 = 2;
-
-pub const REFUSAL_NOT_RECORD: u8 = 8;
-
 // A byte as a number of the machine's width.
 pub fn wide(b: u8) -> usize
     ensures { λ r. ⌜ r ≡ b ⌝ }

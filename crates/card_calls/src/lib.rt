@@ -62,7 +62,7 @@ pub fn read(d: Desk, line: &[u8]) -> Desk {
 }
 
 pub fn write(d: Desk, line: &[u8]) -> Desk {
-    let room = args::room(line, 1, record::ROOM_BYTES);
+    let room = args::room(line, 1, refusals::WRITE_ROOM_BYTES);
     if !room.ok {
         return d;
     }

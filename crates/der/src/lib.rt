@@ -18,7 +18,7 @@ use template_write::put_head;
 // Writes a DER integer from byte `at` on, of a number without leading zeros, and gives the place behind it.
 fn put_digits(buf: &mut [u8], at: usize, digits: &[u8]) -> usize
     requires { ⌜ (length (now digits) < 255) × (at + 4 + length (now digits) ≤ length (now buf)) ⌝ }
-    ensures { λ r. ⌜ Wrote (field 2 (withSign (now (digits .entry)))) at r (now (buf .entry)) (now (buf .exit)) ⌝ }
+    ensures { λ r. ⌜ Wrote (field 0x02 (withSign (now (digits .entry)))) at r (now (buf .entry)) (now (buf .exit)) ⌝ }
 {
     if !needs_zero(digits) {
         return put_field(buf, at, TAG_INTEGER, digits);

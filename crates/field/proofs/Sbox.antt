@@ -1,14 +1,34 @@
--- The two tables are the rules of FIPS 197 at every entry, and each undoes the other. Each fact is one test that the checker computes over
--- all 256 entries, carried to each entry by a law.
+-- The two tables have 256 entries, are the rules of FIPS 197 at every entry, and each undoes the other; and the inverse of the field is one.
+-- Each fact is one test that the checker computes over all 256 entries, carried to each entry by a law.
 -- Assumes nothing.
 use mathlib.Core.Path.{_≡_, refl, sym, ap, _∙_, subst}
 use mathlib.Core.List.{List}
-use Prim.Native.Nat.{ℕ, _<_}
+use Prim.Native.Nat.{ℕ, zero, suc, _<_}
+use native.Mathlib.Omega.{arith}
 use lib.Dec.{T, ltb, ltb→lt}
 use lib.ListN.{getD, length}
 use Rattle.octets.proofs.Table.{each-below, agree-below}
 use Rattle.field.specs.Field.{xTimes, _•_, inverse, affine, invAffine, subByte, invSubByte}
 use Rattle.field.specs.Tables.{sbox, invSbox}
+
+-- ---- inverse: the product of a byte with it is 1, but for 0, whose inverse is 0
+pub product-inverse : (b : ℕ) → 0 < b → b < 256 → b • inverse b ≡ 1
+unfolding inverse _•_ xTimes
+product-inverse zero p h = absurd (omega arith)
+product-inverse (suc k) p h = agree-below (λ k. suc k • inverse (suc k)) (λ _. 1) 255 tt k (omega arith)
+
+pub inverse-zero : inverse 0 ≡ 0
+unfolding inverse _•_ xTimes
+inverse-zero = refl
+
+-- ---- the number of entries
+pub sbox-length : length sbox ≡ 256
+unfolding sbox
+sbox-length = refl
+
+pub inv-sbox-length : length invSbox ≡ 256
+unfolding invSbox
+inv-sbox-length = refl
 
 -- ---- the entries are the rules
 pub sbox-rule : (b : ℕ) → b < 256 → getD sbox b 0 ≡ subByte b

@@ -1,5 +1,5 @@
 -- The finite field GF(2^8) of FIPS 197, section 4, and the rules of the S-box and of its inverse, sections 5.1.1 and 5.3.2.
--- A byte is a number below 256. Constants are decimal: 27 is 1b, 99 is 63.
+-- A byte is a number below 256.
 use Prim.Native.Nat.{ℕ, zero, suc, _+_, _*_, _/_, _%_, _^_}
 use lib.Bits.{bitXor}
 
@@ -11,7 +11,7 @@ a ⊕ b = bitXor a b
 
 -- 4.2: XTIMES, the product of x and b: a shift to the left, and 1b added where the bit that falls out is set
 unfoldable pub xTimes : ℕ → ℕ
-xTimes b = (b * 2 % 256) ⊕ (b / 128 % 2 * 27)
+xTimes b = (b * 2 % 256) ⊕ (b / 128 % 2 * 0x1b)
 
 -- 4.2: the product of c and b: the sum of b times x^i over the bits i of c that are set. `terms n` has the n lowest bits of c
 abbrev pub terms : ℕ → ℕ → ℕ → ℕ
@@ -40,11 +40,11 @@ fromBits (suc n) f = f zero + 2 * fromBits n (λ i. f (suc i))
 -- 5.1.1: the affine transformation, bit by bit, with the constant 63
 unfoldable pub affine : ℕ → ℕ
 affine b =
-    fromBits 8 (λ i. (bit b i + bit b ((i + 4) % 8) + bit b ((i + 5) % 8) + bit b ((i + 6) % 8) + bit b ((i + 7) % 8) + bit 99 i) % 2)
+    fromBits 8 (λ i. (bit b i + bit b ((i + 4) % 8) + bit b ((i + 5) % 8) + bit b ((i + 6) % 8) + bit b ((i + 7) % 8) + bit 0x63 i) % 2)
 
 -- 5.3.2: its inverse, with the constant 05
 unfoldable pub invAffine : ℕ → ℕ
-invAffine b = fromBits 8 (λ i. (bit b ((i + 2) % 8) + bit b ((i + 5) % 8) + bit b ((i + 7) % 8) + bit 5 i) % 2)
+invAffine b = fromBits 8 (λ i. (bit b ((i + 2) % 8) + bit b ((i + 5) % 8) + bit b ((i + 7) % 8) + bit 0x05 i) % 2)
 
 -- 5.1.1: SBOX
 unfoldable pub subByte : ℕ → ℕ

@@ -6,17 +6,17 @@ ghost use lib.ListN.{length};
 ghost use Rattle.sound.specs.Reset.{resetAnswer};
 ghost use Rattle.rules.specs.Engine.{askOut, answerOut};
 ghost use Rattle.responses.specs.Did.{AskDid, AnswerDid};
-ghost use Rattle.record_write.specs.Wrote.{Wrote};
+ghost use Rattle.record_write.specs.Wrote.{WroteRecord};
 ghost use Rattle.lent.specs.Left.{reportOf};
 ghost use Rattle.lent_reads.specs.Left.{writtenOf};
 use card::Card;
-use lent_reads::Report;
+use lent_reads::LentAnswer;
 use responses::Asked;
 use sound::Answer;
 
 // What ANSWER or WRITE told, and the record after the call.
 pub struct Reported {
-    pub told: Report,
+    pub told: LentAnswer,
     pub card: Card,
 }
 
@@ -54,7 +54,7 @@ pub fn ask_held(card: Card, cmd: &[u8], buf: &mut [u8]) -> Heard
 
 // WRITE of a record that is lent to be read.
 pub fn write_held(card: Card, buf: &mut [u8]) -> Reported
-    ensures { λ r. ⌜ Wrote card (writtenOf (r .told)) (now (buf .entry)) (now (buf .exit)) × (r .card ≡ card) ⌝ }
+    ensures { λ r. ⌜ WroteRecord card (writtenOf (r .told)) (now (buf .entry)) (now (buf .exit)) × (r .card ≡ card) ⌝ }
 {
     let told = lent_reads::write_lent(&card, buf);
     Reported { told, card }

@@ -1,5 +1,5 @@
 -- The keypair templates that LOAD takes (01, Commands, LOAD): A1 holding 80 (65, optional), 81 (32), and 82 (32) exactly for P1 02.
--- Every length is a number of bytes. Tags are decimal: 161 is hex A1, 128 to 130 are hex 80 to 82.
+-- Every length is a number of bytes.
 use mathlib.Core.Bool.{Bool, true, false, _&&_, _||_}
 use mathlib.Core.List.{List, [], _∷_}
 use Prim.Native.Nat.{ℕ, _+_}
@@ -20,13 +20,13 @@ exactly [] s = eqb (length s) 0
 exactly (f ∷ layout) s = beginsWith (f .tag) (f .bytes) s && exactly layout (drop (fieldBytes (f .bytes)) s)
 
 abbrev pub publicKey : Place
-publicKey = record { tag = 128; bytes = 65 }
+publicKey = record { tag = 0x80; bytes = 65 }
 
 abbrev pub privateKey : Place
-privateKey = record { tag = 129; bytes = 32 }
+privateKey = record { tag = 0x81; bytes = 32 }
 
 abbrev pub chainCode : Place
-chainCode = record { tag = 130; bytes = 32 }
+chainCode = record { tag = 0x82; bytes = 32 }
 
 -- the chain code is there exactly for P1 02
 abbrev pub chainFields : Bool → List Place
@@ -43,7 +43,7 @@ keypairFields chain s = exactly (publicKey ∷ privateFields chain) s || exactly
 -- a template whose head is h: tag A1, nothing behind its value, and the fields inside
 abbrev pub keypairWith : Bool → List ℕ → Head → Bool
 keypairWith chain s Unreadable = false
-keypairWith chain s (Of h n) = eqb (tagOf s) 161 && eqb (h + n) (length s) && keypairFields chain (drop h s)
+keypairWith chain s (Of h n) = eqb (tagOf s) 0xA1 && eqb (h + n) (length s) && keypairFields chain (drop h s)
 
 abbrev pub keypair : Bool → List ℕ → Bool
 keypair chain s = keypairWith chain s (readHead s)

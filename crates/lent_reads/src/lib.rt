@@ -5,14 +5,14 @@ ghost use mathlib.Core.Path.{_≡_};
 ghost use lib.ListN.{length};
 ghost use Rattle.rules.specs.Engine.{askOut};
 ghost use Rattle.responses.specs.Did.{AskDid};
-ghost use Rattle.record_write.specs.Wrote.{Wrote};
+ghost use Rattle.record_write.specs.Wrote.{WroteRecord};
 ghost use Rattle.lent_reads.specs.Left.{writtenOf};
 use card::Card;
 use responses::Asked;
 
 // What ANSWER and WRITE report: the refusal's number, or 0 for none, and how many bytes it wrote from the buffer's start.
 #[repr(C)]
-pub struct Report {
+pub struct LentAnswer {
     pub refusal: u8,
     pub count: usize,
 }
@@ -27,12 +27,12 @@ pub fn ask_lent(card: &Card, cmd: &[u8], buf: &mut [u8]) -> Asked
 }
 
 // WRITE of a record that is only read.
-pub fn write_lent(card: &Card, buf: &mut [u8]) -> Report
-    ensures { λ r. ⌜ Wrote (now (card .entry)) (writtenOf r) (now (buf .entry)) (now (buf .exit)) × (now (card .exit) ≡ now (card .entry)) ⌝ }
+pub fn write_lent(card: &Card, buf: &mut [u8]) -> LentAnswer
+    ensures { λ r. ⌜ WroteRecord (now (card .entry)) (writtenOf r) (now (buf .entry)) (now (buf .exit)) × (now (card .exit) ≡ now (card .entry)) ⌝ }
 {
     let found = *card;
     let told = record_write::write(found, buf);
-    Report {
+    LentAnswer {
         refusal: told.refusal,
         count: told.count,
     }

@@ -11,6 +11,7 @@ use borrow.Author.Tests.{le-leb, leb-true, eq-eqb, eqb-true}
 use lib.Dec.{leb, eqb}
 use lib.ListN.{length, take, drop, length-append, length-drop, take-append-drop}
 use lib.Seq.{take-at, drop-at}
+use Rattle.refusals.specs.Refusals.{dataMost}
 use Rattle.octets.specs.Bytes.{Bytes, Block, sameBytes}
 use Rattle.octets.proofs.Lists.{bytes-append, bytes-drop, same-refl, same-eq}
 use Rattle.aes.specs.Aes.{aes256, invAes256, Permutes}
@@ -113,7 +114,7 @@ module _ (s : Session) (k : Keyed s) where
     unfolding sealField
     drop-field = drop-at (fieldMac s head d) (ciphertext s d) 16 (field-mac-block .long)
 
-    pub open-seal : length d ≤ 223 → openField s head (sealField s head d) ≡ some d
+    pub open-seal : length d ≤ dataMost → openField s head (sealField s head d) ≡ some d
     unfolding openField
     open-seal short =
         let f : List ℕ = sealField s head d in
@@ -166,7 +167,7 @@ module _ (s : Session) (k : Keyed s) where
         sym (take-append-drop 16 f)
         ∙ ap₂ (λ (x y : List ℕ). x ++ y) (sym genuine ∙ ap₂ (λ (m : ℕ) (y : List ℕ). macOf s (head m) y) (sym (length-drop 16 f) ∙ ap length rest-is) rest-is) rest-is
 
-    pub opened-short : length d ≤ 223
+    pub opened-short : length d ≤ dataMost
     opened-short =
         let l : length (pad d) ≡ length (drop 16 f) = ap length (sym plain-is)
         ∙ length-cbc-decrypt (aes256 (s .«enc_key»)) (invAes256 (s .«enc_key»)) enc (s .iv) (drop 16 f) (k .iv) (bytes-drop 16 f hf) rest-whole in

@@ -12,13 +12,14 @@ use borrow.Author.Tests.{le-ltb}
 use lib.Dec.{ltb}
 use lib.ListN.{length, take, drop, replicate, length-append}
 use lib.Seq.{take-at, drop-at}
+use Rattle.refusals.specs.Refusals.{noRefusal, noRoom, notGenuine, sealRoom, unsealRoom, dataMost}
 use Rattle.octets.specs.Bytes.{Bytes, Block, sameBytes}
 use Rattle.octets.proofs.Lists.{bytes-append, bytes-replicate, same-refl}
 use Rattle.padding.specs.Padding.{paddedBytes}
 use Rattle.padding.proofs.Laws.{padded-next}
 use Rattle.message.specs.declared.Session.{Session}
 use Rattle.message.specs.Message.{Keyed, withIv, lc, lr, commandHead, responseHead, ciphertext, fieldMac, sealField, openField}
-use Rattle.message.specs.Terminal.{Out, refused, sealedCommand, sealOut, plainSuccess, sealedResponse, fieldOf, unsealed, unsealOut}
+use Rattle.message.specs.Terminal.{Out, refused, sealedCommand, sealOut, plainSuccess, sealedResponse, sealedField, unsealed, unsealOut}
 use Rattle.message.proofs.Fields.{length-ciphertext, field-mac-block, length-field, bytes-field, take-field, drop-field, open-seal}
 
 -- the header of a command: 4 bytes
@@ -42,11 +43,11 @@ pub keyed-after : (s : Session) (mac : List ℕ) → Keyed s → Block mac → K
 keyed-after s mac k h = record { enc = k .enc; mac = k .mac; iv = h }
 
 module _ (s : Session) (k : Keyed s) where
-  short : (d : List ℕ) → Bytes d → length d ≤ 223 → length (ciphertext s d) ≤ 224
+  short : (d : List ℕ) → Bytes d → length d ≤ dataMost → length (ciphertext s d) ≤ 224
   short d hd l = omega (arith, length-ciphertext s k d hd, padded-next (length d) 224 refl (omega arith))
 
   -- ---- a command
-  module _ (header d : List ℕ) (hh : Header header) (hd : Bytes d) (fits : length d ≤ 223) where
+  module _ (header d : List ℕ) (hh : Header header) (hd : Bytes d) (fits : length d ≤ dataMost) where
     abbrev command-head : ℕ → List ℕ
     command-head = commandHead header
 
@@ -54,10 +55,10 @@ module _ (s : Session) (k : Keyed s) where
     head-block = command-head-block header (length (ciphertext s d)) hh (short d hd fits)
 
     -- SEAL is not refused where there is room, and its output is the header, Lc and the field
-    pub seal-gives : (room : ℕ) → 261 ≤ room
-        → sealOut s header d room ≡ record { refusal = 0; session = withIv s (fieldMac s command-head d); bytes = sealedCommand s header d }
+    pub seal-gives : (room : ℕ) → sealRoom ≤ room
+        → sealOut s header d room ≡ record { refusal = noRefusal; session = withIv s (fieldMac s command-head d); bytes = sealedCommand s header d }
     unfolding sealOut
-    seal-gives room r = rw (le-ltb room 261 r, le-ltb 223 (length d) fits)
+    seal-gives room r = rw (le-ltb room sealRoom r, le-ltb dataMost (length d) fits)
 
     -- Lc is the field's length
     pub lc-counts : lc (length (ciphertext s d)) ≡ length (sealField s command-head d)
@@ -85,7 +86,7 @@ module _ (s : Session) (k : Keyed s) where
     command-keyed = keyed-after s (fieldMac s command-head d) k (field-mac-block s k command-head d hd head-block)
 
   -- ---- a response
-  module _ (p : List ℕ) (hp : Bytes p) (fits : length p ≤ 223) where
+  module _ (p : List ℕ) (hp : Bytes p) (fits : length p ≤ dataMost) where
     response-block : Block (responseHead (length (ciphertext s p)))
     response-block = response-head-block (length (ciphertext s p)) (short p hp fits)
 
@@ -96,7 +97,7 @@ module _ (s : Session) (k : Keyed s) where
     unfolding sealedResponse
     length-response = omega (arith, length-append field plainSuccess)
 
-    pub response-field : fieldOf (sealedResponse s p) ≡ field
+    pub response-field : sealedField (sealedResponse s p) ≡ field
     unfolding sealedResponse
     response-field = take-at field plainSuccess (length (sealedResponse s p) - 2) (sym length-response)
 
@@ -108,32 +109,32 @@ module _ (s : Session) (k : Keyed s) where
     response-keyed = keyed-after s (fieldMac s responseHead p) k (field-mac-block s k responseHead p hp response-block)
 
     -- UNSEAL gives the same bytes, and the session that the card holds after sealing
-    pub unseal-seals : (room : ℕ) → 223 ≤ room → 2 ≤ length p
-        → unsealOut s (sealedResponse s p) room ≡ record { refusal = 0; session = withIv s (fieldMac s responseHead p); bytes = p }
+    pub unseal-seals : (room : ℕ) → unsealRoom ≤ room → 2 ≤ length p
+        → unsealOut s (sealedResponse s p) room ≡ record { refusal = noRefusal; session = withIv s (fieldMac s responseHead p); bytes = p }
     unfolding unsealOut
     unseal-seals room r two =
         let response : List ℕ = sealedResponse s p in
-        ap (λ (b : Bool). cond b (refused s 2) (checked response)) (le-ltb room 223 r)
-        ∙ ap (λ (b : Bool). cond b (unsealed s (fieldOf response) (openField s responseHead (fieldOf response))) (refused s 7))
+        ap (λ (b : Bool). cond b (refused s noRoom) (checked response)) (le-ltb room unsealRoom r)
+        ∙ ap (λ (b : Bool). cond b (unsealed s (sealedField response) (openField s responseHead (sealedField response))) (refused s notGenuine))
         (ap (λ (y : List ℕ). sameBytes y plainSuccess) response-end ∙ same-refl plainSuccess)
         ∙ ap (λ (f : List ℕ). unsealed s f (openField s responseHead f)) response-field
         ∙ ap (unsealed s field) (open-seal s k responseHead p hp response-block fits)
-        ∙ ap (λ (b : Bool). cond b (refused s 7) (given (take 16 field))) (le-ltb (length p) 2 two)
+        ∙ ap (λ (b : Bool). cond b (refused s notGenuine) (given (take 16 field))) (le-ltb (length p) 2 two)
         ∙ ap given (take-field s k responseHead p hp response-block)
       where
         checked : List ℕ → Out
         checked response =
             cond (sameBytes (drop (length response - 2) response) plainSuccess)
-            (unsealed s (fieldOf response) (openField s responseHead (fieldOf response))) (refused s 7)
+            (unsealed s (sealedField response) (openField s responseHead (sealedField response))) (refused s notGenuine)
 
         given : List ℕ → Out
-        given mac = record { refusal = 0; session = withIv s mac; bytes = p }
+        given mac = record { refusal = noRefusal; session = withIv s mac; bytes = p }
 
 -- ---- a whole exchange: a command sealed and opened, its answer sealed and unsealed
 pub record Exchanged (s : Session) (header d p : List ℕ) (sent : Out) (card : Session) (got : Out) : Type 0 where
-  pub taken : sent .refusal ≡ 0
+  pub taken : sent .refusal ≡ noRefusal
   pub opens : openField s (commandHead header) (drop 5 (sent .bytes)) ≡ some d
-  pub accepted : got .refusal ≡ 0
+  pub accepted : got .refusal ≡ noRefusal
   pub answer : got .bytes ≡ p
   pub same : got .session ≡ withIv card (fieldMac card responseHead p)
 
@@ -141,8 +142,8 @@ pub record Exchanged (s : Session) (header d p : List ℕ) (sent : Out) (card : 
 abbrev pub cardAfter : Session → List ℕ → Session
 cardAfter s command = withIv s (take 16 (drop 5 command))
 
-pub exchange : (s : Session) → Keyed s → (header d p : List ℕ) → Header header → Bytes d → length d ≤ 223 → Bytes p → 2 ≤ length p → length p ≤ 223
-    → (room room′ : ℕ) → 261 ≤ room → 223 ≤ room′
+pub exchange : (s : Session) → Keyed s → (header d p : List ℕ) → Header header → Bytes d → length d ≤ dataMost → Bytes p → 2 ≤ length p → length p ≤ dataMost
+    → (room room′ : ℕ) → sealRoom ≤ room → unsealRoom ≤ room′
     → Exchanged s header d p (sealOut s header d room) (cardAfter s (sealOut s header d room .bytes))
     (unsealOut (sealOut s header d room .session) (sealedResponse (cardAfter s (sealOut s header d room .bytes)) p) room′)
 exchange s k header d p hh hd ld hp two lp room room′ r r′ =
@@ -158,5 +159,5 @@ exchange s k header d p hh hd ld hp two lp room room′ r r′ =
     next : Session
     next = withIv s (fieldMac s (commandHead header) d)
 
-    gives : unsealOut next (sealedResponse next p) room′ ≡ record { refusal = 0; session = withIv next (fieldMac next responseHead p); bytes = p }
+    gives : unsealOut next (sealedResponse next p) room′ ≡ record { refusal = noRefusal; session = withIv next (fieldMac next responseHead p); bytes = p }
     gives = unseal-seals next (command-keyed s k header d hh hd ld) p hp lp room′ r′ two

@@ -6,6 +6,7 @@ use mathlib.Core.List.{List, [], _∷_, _++_}
 use mathlib.Core.Option.{Option, none, some}
 use lib.Dec.{leb, eqb}
 use lib.ListN.{length, take, drop, replicate}
+use Rattle.refusals.specs.Refusals.{noRefusal, notGenuine}
 use Rattle.octets.specs.Bytes.{Bytes, Block, sameBytes}
 use Rattle.aes.specs.Aes.{aes256, invAes256, Key}
 use Rattle.cbc.specs.Mode.{cbcEncrypt, cbcDecrypt, cbcMac}
@@ -72,3 +73,25 @@ openField s head field = provided (fieldForm (length field)) (opened s (head (le
 abbrev pub openingOf : Option (List ℕ) → Opening
 openingOf (some data′) = opening.Bytes (length data′)
 openingOf none = opening.Refused
+
+-- an opening in 01's terms: the opened data; and where there is none, what each end gives in its place, the card the status word 6982 (01, Order
+-- of checks, step 4) and UNSEAL its refusal 7
+pub record OpeningOut : Type 0 where
+  pub bytes : List ℕ
+  pub word : Option ℕ
+  pub refusal : ℕ
+
+abbrev pub openedTo : List ℕ → OpeningOut
+openedTo data′ = record { bytes = data′; word = none; refusal = noRefusal }
+
+abbrev pub notOpened : OpeningOut
+notOpened = record { bytes = []; word = some 0x6982; refusal = notGenuine }
+
+abbrev pub fieldOut : Option (List ℕ) → OpeningOut
+fieldOut (some data′) = openedTo data′
+fieldOut none = notOpened
+
+-- what each of the code's answers says in those terms, with the data at the start of the buffer `plain`
+abbrev pub openingOut : List ℕ → Opening → OpeningOut
+openingOut plain (opening.Bytes n) = openedTo (take n plain)
+openingOut plain opening.Refused = notOpened

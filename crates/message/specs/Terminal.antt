@@ -6,25 +6,16 @@ use mathlib.Core.Option.{Option, none, some}
 use mathlib.Core.Path.{_≡_}
 use lib.Dec.{ltb, leb, eqb}
 use lib.ListN.{length, take, drop}
+use Rattle.refusals.specs.Refusals.{noRefusal, noRoom, dataLong, notGenuine, sealRoom, unsealRoom, dataMost}
 use Rattle.octets.specs.Bytes.{sameBytes}
 use Rattle.message.specs.declared.Session.{Session}
 use Rattle.message.specs.Message.{withIv, lc, commandHead, responseHead, ciphertext, fieldMac, sealField, openField}
 
--- what an operation gives: a refusal's number or 0, the next session, and the bytes written from the buffer's start
+-- what an operation gives: the number of a refusal or of none, the next session, and the bytes written from the buffer's start
 pub record Out : Type 0 where
   pub refusal : ℕ
   pub session : Session
   pub bytes : List ℕ
-
--- the refusals' numbers: the buffer too small, the data too long, the response not genuine
-abbrev pub noRoom : ℕ
-noRoom = 2
-
-abbrev pub tooLong : ℕ
-tooLong = 6
-
-abbrev pub notGenuine : ℕ
-notGenuine = 7
 
 -- a refusal gives back the session and writes nothing
 abbrev pub refused : Session → ℕ → Out
@@ -36,28 +27,28 @@ sealedCommand s header data′ = header ++ (lc (length (ciphertext s data′)) �
 
 unfoldable pub sealOut : Session → List ℕ → List ℕ → ℕ → Out
 sealOut s header data′ room =
-    cond (ltb room 261) (refused s noRoom)
-    (cond (ltb 223 (length data′)) (refused s tooLong)
-    (record { refusal = 0; session = withIv s (fieldMac s (commandHead header) data′); bytes = sealedCommand s header data′ }))
+    cond (ltb room sealRoom) (refused s noRoom)
+    (cond (ltb dataMost (length data′)) (refused s dataLong)
+    (record { refusal = noRefusal; session = withIv s (fieldMac s (commandHead header) data′); bytes = sealedCommand s header data′ }))
 
 -- a response in stage 2: the field of data and status word, then 9000 in the clear
 abbrev pub plainSuccess : List ℕ
-plainSuccess = 144 ∷ 0 ∷ []
+plainSuccess = 0x90 ∷ 0x00 ∷ []
 
 unfoldable pub sealedResponse : Session → List ℕ → List ℕ
 sealedResponse s plain = sealField s responseHead plain ++ plainSuccess
 
 -- UNSEAL: genuine is a response that ends in 9000 and whose field opens to two bytes or more
-abbrev pub fieldOf : List ℕ → List ℕ
-fieldOf response = take (length response - 2) response
+abbrev pub sealedField : List ℕ → List ℕ
+sealedField response = take (length response - 2) response
 
 abbrev pub unsealed : Session → List ℕ → Option (List ℕ) → Out
 unsealed s field none = refused s notGenuine
 unsealed s field (some plain) =
-    cond (ltb (length plain) 2) (refused s notGenuine) (record { refusal = 0; session = withIv s (take 16 field); bytes = plain })
+    cond (ltb (length plain) 2) (refused s notGenuine) (record { refusal = noRefusal; session = withIv s (take 16 field); bytes = plain })
 
 unfoldable pub unsealOut : Session → List ℕ → ℕ → Out
 unsealOut s response room =
-    cond (ltb room 223) (refused s noRoom)
-    (cond (sameBytes (drop (length response - 2) response) plainSuccess) (unsealed s (fieldOf response) (openField s responseHead (fieldOf response)))
+    cond (ltb room unsealRoom) (refused s noRoom)
+    (cond (sameBytes (drop (length response - 2) response) plainSuccess) (unsealed s (sealedField response) (openField s responseHead (sealedField response)))
     (refused s notGenuine))

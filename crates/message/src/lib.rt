@@ -7,8 +7,6 @@ ghost use Rattle.message.specs.Message.{withIv};
 // Lengths, in bytes.
 pub const MAC_BYTES: usize = 16;
 
-pub const DATA_MAX_BYTES: usize = 223;
-
 pub const FIELD_MIN_BYTES: usize = 32;
 
 pub const FIELD_MAX_BYTES: usize = 240;
@@ -36,7 +34,8 @@ impl Session {
     }
 }
 
-// What opening a field finds: how many bytes of data it holds, or that it does not open.
+// What opening a field finds: how many bytes of data it holds, or that it does not open, which is 6982 at the card and refusal 7 at the
+// terminal. `openingOut` of specs/Message.antt states each case.
 pub enum Opening {
     Bytes(usize),
     Refused,

@@ -14,7 +14,7 @@ paddedBytes n = n + (16 - n % 16)
 
 -- 80, then as many 00 as reach the end of a block
 unfoldable pub pad : List ℕ → List ℕ
-pad xs = xs ++ (128 ∷ replicate (15 - length xs % 16) 0)
+pad xs = xs ++ (0x80 ∷ replicate (15 - length xs % 16) 0x00)
 
 -- unpadding takes exactly what padding adds, which is 1 to 16 bytes: the bytes whose padding ys is, or none. `unpadFrom n` looks for 1 to n
 -- bytes of padding

@@ -8,7 +8,7 @@ use native.Mathlib.Omega.{arith}
 use lib.ListN.{length, take, getD}
 use lib.Seq.{take-suc}
 use Rattle.card.specs.declared.Slot.{Slot}
-use Rattle.record.specs.Fields.{Field, field, encode, encodeAll, slotsBytes}
+use Rattle.record.specs.Fields.{Field, recordField, encode, encodeAll, slotsBytes}
 
 -- ---- encodeAll
 pub encode-append : (fs gs : List Field) → encodeAll (fs ++ gs) ≡ encodeAll fs ++ encodeAll gs
@@ -18,11 +18,11 @@ encode-append (f ∷ fs) gs =
     ap (λ (x : List ℕ). encode (f .tag) (f .content) ++ x) (encode-append fs gs)
     ∙ sym (append-assoc (encode (f .tag) (f .content)) (encodeAll fs) (encodeAll gs))
 
-pub encode-one : (t : ℕ) (x : List ℕ) → encodeAll (field t x ∷ []) ≡ encode t x
+pub encode-one : (t : ℕ) (x : List ℕ) → encodeAll (recordField t x ∷ []) ≡ encode t x
 unfolding encodeAll
 encode-one t x = append-nil (encode t x)
 
-pub length-encode-one : (t : ℕ) (x : List ℕ) → length (encodeAll (field t x ∷ [])) ≡ 3 + length x
+pub length-encode-one : (t : ℕ) (x : List ℕ) → length (encodeAll (recordField t x ∷ [])) ≡ 3 + length x
 length-encode-one t x = ap length (encode-one t x) ∙ omega arith
 
 -- ---- slotsBytes

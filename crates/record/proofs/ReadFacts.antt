@@ -22,10 +22,11 @@ use Rattle.card.proofs.Tests.{both}
 use Rattle.card.proofs.Rules.{sound-cases}
 use Rattle.card.proofs.SoundFacts.{fresh-sound, reset-sound, path-lengths}
 use Rattle.sound.specs.declared.Answer.{Answer}
-use Rattle.sound.specs.Reset.{noRefusal, unsound, done, refused}
+use Rattle.refusals.specs.Refusals.{noRefusal, unsound, noRoom, notRecord, writeRoom}
+use Rattle.sound.specs.Reset.{done, refused}
 use Rattle.record.specs.Fields.{Field, encode, encodeAll, identityFields, ownerFields, fields, recordOf}
 use Rattle.record.specs.Parse.{cardOf}
-use Rattle.record.specs.Answers.{writeRoom, tooSmall, notRecord, writeRefusal, writeBytes, isRecordOf, readAnswer}
+use Rattle.record.specs.Answers.{writeRefusal, writeBytes, isRecordOf, readAnswer}
 use Rattle.record.proofs.ParseFacts.{slots-long}
 use Rattle.record.proofs.RecordFacts.{card-record}
 
@@ -43,12 +44,12 @@ pub read-write : (c : Card) (room : ℕ) → Shaped c → writeRefusal c room �
 unfolding writeRefusal writeBytes
 read-write c room w e = by-sound (isSound c) refl e
   where
-    by-room : isSound c ≡ true → (b : Bool) → cond b tooSmall noRefusal ≡ noRefusal
+    by-room : isSound c ≡ true → (b : Bool) → cond b noRoom noRefusal ≡ noRefusal
         → readAnswer (cond b [] (recordOf c)) ≡ done (resetOf c)
     by-room s true h = absurd (omega arith)
     by-room s false h = read-record c w s
 
-    by-sound : (b : Bool) → isSound c ≡ b → cond b (cond (ltb room writeRoom) tooSmall noRefusal) unsound ≡ noRefusal
+    by-sound : (b : Bool) → isSound c ≡ b → cond b (cond (ltb room writeRoom) noRoom noRefusal) unsound ≡ noRefusal
         → readAnswer (cond b (cond (ltb room writeRoom) [] (recordOf c)) []) ≡ done (resetOf c)
     by-sound true s h = by-room s (ltb room writeRoom) h
     by-sound false s h = absurd (omega arith)
@@ -142,7 +143,7 @@ module _ (c : Card) (w : Shaped c) where
   path-length : (p : Path) → p .len ≤ 40 → length (p .bytes) ≡ 40 → length (pathBytes p) ≤ 40
   path-length p h l = omega (arith, length-take-le (p .len) (p .bytes) (omega arith))
 
-  pub length-after : c .initialised ≡ 1 → isSound c ≡ true → (336 ≤ length (recordOf c)) × (length (recordOf c) ≤ 448)
+  pub length-after : c .initialised ≡ 1 → isSound c ≡ true → (336 ≤ length (recordOf c)) × (length (recordOf c) ≤ writeRoom)
   unfolding recordOf fields
   length-after i e =
       let l = ap (λ (n : ℕ). length (encodeAll (identityFields (c .initialised) (c .identity) ++ cond (isZero n) [] (ownerFields c)))) i
@@ -164,5 +165,5 @@ module _ (c : Card) (w : Shaped c) where
       )
 
   -- 91 bytes before INIT, 336 to 448 after it
-  pub record-length : isSound c ≡ true → (length (recordOf c) ≡ 91) ⊎ ((336 ≤ length (recordOf c)) × (length (recordOf c) ≤ 448))
+  pub record-length : isSound c ≡ true → (length (recordOf c) ≡ 91) ⊎ ((336 ≤ length (recordOf c)) × (length (recordOf c) ≤ writeRoom))
   record-length e = ⊎-elim (λ b. inl (length-before (b .flag))) (λ a. inr (length-after (a .flag) e)) (sound-cases c e)

@@ -3,28 +3,19 @@ use Prim.Native.Nat.{ℕ}
 use mathlib.Core.Bool.{Bool, cond, _&&_}
 use mathlib.Core.List.{List, []}
 use lib.Dec.{ltb}
+use Rattle.refusals.specs.Refusals.{noRefusal, unsound, noRoom, notRecord, writeRoom}
 use Rattle.octets.specs.Bytes.{sameBytes}
 use Rattle.card.specs.declared.Card.{Card}
 use Rattle.card.specs.State.{freshOf, zeros}
 use Rattle.card.specs.Sound.{isSound}
-use Rattle.sound.specs.Reset.{noRefusal, unsound, refused, done}
+use Rattle.sound.specs.Reset.{refused, done}
 use Rattle.sound.specs.declared.Answer.{Answer}
 use Rattle.record.specs.Fields.{recordOf}
 use Rattle.record.specs.Parse.{cardOf}
 
--- the room that WRITE asks for, in bytes, and the refusals' numbers
-abbrev pub writeRoom : ℕ
-writeRoom = 448
-
-abbrev pub tooSmall : ℕ
-tooSmall = 2
-
-abbrev pub notRecord : ℕ
-notRecord = 8
-
 -- ---- WRITE of a card into a buffer of `room` bytes: the refusal's number or 0, and the bytes written
 unfoldable pub writeRefusal : Card → ℕ → ℕ
-writeRefusal c room = cond (isSound c) (cond (ltb room writeRoom) tooSmall noRefusal) unsound
+writeRefusal c room = cond (isSound c) (cond (ltb room writeRoom) noRoom noRefusal) unsound
 
 unfoldable pub writeBytes : Card → ℕ → List ℕ
 writeBytes c room = cond (isSound c) (cond (ltb room writeRoom) [] (recordOf c)) []

@@ -18,8 +18,8 @@ pub record Field : Type 0 where
   pub tag : ℕ
   pub content : List ℕ
 
-abbrev pub field : ℕ → List ℕ → Field
-field t x = record { tag = t; content = x }
+abbrev pub recordField : ℕ → List ℕ → Field
+recordField t x = record { tag = t; content = x }
 
 -- a field's bytes: the tag, the content's length in two bytes, the high byte first, and the content
 abbrev pub encode : ℕ → List ℕ → List ℕ
@@ -38,26 +38,26 @@ slotsBytes (s ∷ more) = (s .filled ∷ s .key) ++ slotsBytes more
 -- ---- the table: 01's fields in 01's order
 abbrev pub identityFields : ℕ → Identity → List Field
 identityFields initialised i =
-    field 0x10 (initialised ∷ [])
-    ∷ field 0x11 (i .uid)
-    ∷ field 0x12 (i .«public_key»)
+    recordField 0x10 (initialised ∷ [])
+    ∷ recordField 0x11 (i .uid)
+    ∷ recordField 0x12 (i .«public_key»)
     ∷ []
 
 abbrev pub secretFields : Pins → Pairing → List Field
 secretFields p q =
-    field 0x20 (p .pin)
-    ∷ field 0x21 (p .puk)
-    ∷ field 0x22 (q .secret)
-    ∷ field 0x23 (p .«pin_tries» ∷ p .«puk_tries» ∷ [])
-    ∷ field 0x24 (slotsBytes (q .slots))
+    recordField 0x20 (p .pin)
+    ∷ recordField 0x21 (p .puk)
+    ∷ recordField 0x22 (q .secret)
+    ∷ recordField 0x23 (p .«pin_tries» ∷ p .«puk_tries» ∷ [])
+    ∷ recordField 0x24 (slotsBytes (q .slots))
     ∷ []
 
 abbrev pub keyFields : Keys → List Field
 keyFields k =
-    field 0x30 (k .kind ∷ [])
-    ∷ field 0x31 (keyUid k)
-    ∷ field 0x32 (pathBytes (k .current))
-    ∷ field 0x33 (pathBytes (k .pinless))
+    recordField 0x30 (k .kind ∷ [])
+    ∷ recordField 0x31 (keyUid k)
+    ∷ recordField 0x32 (pathBytes (k .current))
+    ∷ recordField 0x33 (pathBytes (k .pinless))
     ∷ []
 
 -- the fields past the identity stand in the record of an initialised card alone

@@ -9,5 +9,3 @@ pub const HEAD_BYTES: usize = 3;
 pub const SLOT_BYTES: usize = 33;
 // All the slots' content.
 pub const SLOTS_BYTES: usize = SLOT_BYTES * Card::SLOTS;
-// The room that WRITE asks for: the longest record.
-pub const ROOM_BYTES: usize = 448;

@@ -5,7 +5,6 @@ ghost use mathlib.Core.Path.{_≡_};
 ghost use Rattle.record.specs.Parse.{content, keysFrom, cardOf};
 ghost use Rattle.record_card.specs.Taken.{At, IdentityTaken, SecretsTaken};
 use card::Card;
-use card::Channel;
 use card::Identity;
 use card::Keys;
 use card::Pairing;
@@ -102,7 +101,7 @@ fn take_keys(s: &[u8], at: usize) -> Keys
     }
 }
 
-// The card that the bytes describe, if they are a record.
+// The card that the bytes describe, if they are a record: a fresh card, whose channel is closed, with the fields of the record.
 pub fn card_of(s: &[u8]) -> Card
     ensures { λ r. ⌜ r ≡ cardOf (now (s .entry)) ⌝ }
 {
@@ -112,15 +111,14 @@ pub fn card_of(s: &[u8]) -> Card
     let b = second.next;
     let keys = take_keys(s, b);
     let identity = first.identity;
+    let uid = identity.uid;
+    let public_key = identity.public_key;
     let pins = second.pins;
     let pairing = second.pairing;
-    let channel = Channel::closed();
-    Card {
-        initialised: first.initialised,
-        identity,
-        pins,
-        pairing,
-        keys,
-        channel,
-    }
+    let mut card = Card::fresh(uid, public_key);
+    card.initialised = first.initialised;
+    card.pins = pins;
+    card.pairing = pairing;
+    card.keys = keys;
+    card
 }

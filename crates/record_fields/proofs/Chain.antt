@@ -8,14 +8,14 @@ use lib.ListN.{length, take, getD, length-append}
 use Rattle.octets.specs.Bytes.{overwrite}
 use Rattle.octets.proofs.Lists.{overwrite-next, length-overwrite, take-overwrite}
 use Rattle.card.specs.declared.Slot.{Slot}
-use Rattle.record.specs.Fields.{Field, field, encodeAll, slotsBytes}
+use Rattle.record.specs.Fields.{Field, recordField, encodeAll, slotsBytes}
 use Rattle.record.proofs.FieldFacts.{encode-append, encode-one, length-encode-one, slots-suc}
 use Rattle.record_fields.specs.Put.{Put}
 
 -- ---- one field: its head and then its content
 pub put-one : (t : ℕ) (x : List ℕ) (at : ℕ) (b m a : List ℕ) → at + 3 + length x ≤ length b
     → m ≡ overwrite b at (t ∷ length x / 256 ∷ length x % 256 ∷ []) → a ≡ overwrite m (at + 3) x
-    → Put (field t x ∷ []) at b (at + 3 + length x) a
+    → Put (recordField t x ∷ []) at b (at + 3 + length x) a
 put-one t x at b m a fits p q = record {
   place = omega (arith, length-encode-one t x);
   bytes =

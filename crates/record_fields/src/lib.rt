@@ -7,7 +7,7 @@ ghost use Prim.Native.Nat.{_+_, _≤_, _<_};
 ghost use lib.ListN.{length};
 ghost use Rattle.octets.specs.Bytes.{overwrite};
 ghost use Rattle.card.specs.State.{keyUid, pathBytes};
-ghost use Rattle.record.specs.Fields.{field, slotsBytes};
+ghost use Rattle.record.specs.Fields.{recordField, slotsBytes};
 ghost use Rattle.record_fields.specs.Put.{Put};
 use card::Card;
 use card::Keys;
@@ -26,7 +26,7 @@ const BYTE_VALUES: usize = 256;
 // Writes a field at a place, and gives the place behind it.
 pub fn put_field(buf: &mut [u8], at: usize, tag: u8, src: &[u8]) -> usize
     requires { ⌜ (length (now src) < 65536) × (at + 3 + length (now src) ≤ length (now buf)) ⌝ }
-    ensures { λ r. ⌜ (Put (field tag (now (src .entry)) ∷ []) at (now (buf .entry)) r (now (buf .exit))) × (r ≡ at + 3 + length (now (src .entry))) ⌝ }
+    ensures { λ r. ⌜ (Put (recordField tag (now (src .entry)) ∷ []) at (now (buf .entry)) r (now (buf .exit))) × (r ≡ at + 3 + length (now (src .entry))) ⌝ }
 {
     let high = (src.len() / BYTE_VALUES) as u8;
     let low = (src.len() % BYTE_VALUES) as u8;
@@ -64,7 +64,7 @@ pub fn slots_bytes(slots: [Slot; Card::SLOTS]) -> [u8; SLOTS_BYTES]
 
 pub fn put_path(buf: &mut [u8], at: usize, tag: u8, p: Path) -> usize
     requires { ⌜ (p .len ≤ 40) × (at + 43 ≤ length (now buf)) ⌝ }
-    ensures { λ r. ⌜ (Put (field tag (pathBytes p) ∷ []) at (now (buf .entry)) r (now (buf .exit))) × (r ≤ at + 43) ⌝ }
+    ensures { λ r. ⌜ (Put (recordField tag (pathBytes p) ∷ []) at (now (buf .entry)) r (now (buf .exit))) × (r ≤ at + 43) ⌝ }
 {
     let bytes = p.bytes;
     let len = card::wide(p.len);
@@ -73,7 +73,7 @@ pub fn put_path(buf: &mut [u8], at: usize, tag: u8, p: Path) -> usize
 
 pub fn put_key_uid(buf: &mut [u8], at: usize, k: Keys) -> usize
     requires { ⌜ at + 35 ≤ length (now buf) ⌝ }
-    ensures { λ r. ⌜ (Put (field 0x31 (keyUid k) ∷ []) at (now (buf .entry)) r (now (buf .exit))) × (r ≤ at + 35) ⌝ }
+    ensures { λ r. ⌜ (Put (recordField 0x31 (keyUid k) ∷ []) at (now (buf .entry)) r (now (buf .exit))) × (r ≤ at + 35) ⌝ }
 {
     let uid = k.uid;
     if k.kind == 0 {

@@ -5,8 +5,10 @@
 ghost use mathlib.Core.Path.{_≡_};
 ghost use Rattle.record.specs.Answers.{isRecordOf, readAnswer};
 use card::Card;
-use record::ROOM_BYTES;
 use record_card::card_of;
+use refusals::REFUSAL_NONE;
+use refusals::REFUSAL_NOT_RECORD;
+use refusals::WRITE_ROOM_BYTES;
 use sound::Answer;
 
 // Whether the bytes are the record of this card, and the card is sound.
@@ -16,7 +18,7 @@ fn is_record_of(s: &[u8], card: Card) -> bool
     if !sound::sound(card) {
         return false;
     }
-    let mut again = [0u8; ROOM_BYTES];
+    let mut again = [0u8; WRITE_ROOM_BYTES];
     let count = record_write::put_record(&mut again, card);
     let back = &again[..count];
     octets::same(back, s)
@@ -29,13 +31,13 @@ pub fn read(s: &[u8]) -> Answer
     let card = card_of(s);
     if is_record_of(s, card) {
         Answer {
-            refusal: card::REFUSAL_NONE,
+            refusal: REFUSAL_NONE,
             card,
         }
     } else {
         let none = Card::fresh([0; card::UID_BYTES], [0; card::PUBLIC_KEY_BYTES]);
         Answer {
-            refusal: card::REFUSAL_NOT_RECORD,
+            refusal: REFUSAL_NOT_RECORD,
             card: none,
         }
     }

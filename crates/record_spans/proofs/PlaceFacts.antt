@@ -11,7 +11,7 @@ use Rattle.octets.specs.Bytes.{tabulate}
 use Rattle.card.specs.declared.Slot.{Slot}
 use Rattle.card.specs.declared.Path.{Path}
 use Rattle.record.specs.Parse.{headLength, body, rest, fit, pathFrom, slotFrom, slotsFrom}
-use Rattle.record_spans.specs.declared.Span.{Span}
+use Rattle.record_spans.specs.declared.FieldSpan.{FieldSpan}
 use Rattle.record_spans.specs.Spans.{Spans}
 
 -- ---- getD past the end
@@ -106,7 +106,7 @@ pub path-long : (x b : List ℕ) → 40 < length x → b ≡ fit 40 x → _≡_ 
 path-long x b h f = rw (f, min-eq-right (le-of-lt h))
 
 -- ---- Spans: how long the content is
-pub span-length : {s : List ℕ} {at : ℕ} {r : Span} → Spans s at r → length (body (drop at s)) ≡ r .«end» - r .start
+pub span-length : {s : List ℕ} {at : ℕ} {r : FieldSpan} → Spans s at r → length (body (drop at s)) ≡ r .«end» - r .start
 span-length {s} {at} {r} p =
     ap length (sym (p .inside))
     ∙ length-take-le (r .«end» - r .start) (drop (r .start) s) (omega (arith, p .ordered, p .within, length-drop (r .start) s))

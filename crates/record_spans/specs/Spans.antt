@@ -4,10 +4,10 @@ use mathlib.Core.Path.{_≡_}
 use mathlib.Core.List.{List}
 use lib.ListN.{length, take, drop}
 use Rattle.record.specs.Parse.{body, rest}
-use Rattle.record_spans.specs.declared.Span.{Span}
+use Rattle.record_spans.specs.declared.FieldSpan.{FieldSpan}
 
 -- the span is the content of the field at the place `at`
-pub record Spans (s : List ℕ) (at : ℕ) (r : Span) : Type 0 where
+pub record Spans (s : List ℕ) (at : ℕ) (r : FieldSpan) : Type 0 where
   pub follows : at ≤ r .start
   pub ordered : r .start ≤ r .«end»
   pub within : r .«end» ≤ length s

@@ -16,7 +16,7 @@ use record::SLOT_BYTES;
 use record::SLOTS_BYTES;
 
 // Where a field's content starts and ends.
-pub struct Span {
+pub struct FieldSpan {
     pub start: usize,
     pub end: usize,
 }
@@ -28,12 +28,12 @@ pub struct PathRead {
 }
 
 // The content of the field at a place, as far as the slice goes.
-pub fn content_span(s: &[u8], at: usize) -> Span
+pub fn content_span(s: &[u8], at: usize) -> FieldSpan
     requires { ⌜ at ≤ length (now s) ⌝ }
     ensures { λ r. ⌜ Spans (now (s .entry)) at r ⌝ }
 {
     if s.len() - at < HEAD_BYTES {
-        return Span {
+        return FieldSpan {
             start: s.len(),
             end: s.len(),
         };
@@ -41,12 +41,12 @@ pub fn content_span(s: &[u8], at: usize) -> Span
     let start = at + HEAD_BYTES;
     let len = wide(s[at + 1]) * 256 + wide(s[at + 2]);
     if s.len() - start < len {
-        return Span {
+        return FieldSpan {
             start,
             end: s.len(),
         };
     }
-    Span {
+    FieldSpan {
         start,
         end: start + len,
     }

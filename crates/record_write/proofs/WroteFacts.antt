@@ -9,23 +9,24 @@ use borrow.Author.Tests.{lt-ltb, le-ltb}
 use Rattle.card.specs.declared.Card.{Card}
 use Rattle.card.specs.Sound.{isSound}
 use Rattle.record.specs.Fields.{fields, recordOf}
-use Rattle.record.specs.Answers.{writeRoom, writeRefusal, writeBytes}
-use Rattle.record_write.specs.Wrote.{Wrote}
+use Rattle.refusals.specs.Refusals.{noRefusal, unsound, noRoom, writeRoom}
+use Rattle.record.specs.Answers.{writeRefusal, writeBytes}
+use Rattle.record_write.specs.Wrote.{WroteRecord}
 use Rattle.record_fields.specs.Put.{Put}
 
-pub wrote-unsound : (c : Card) (b : List ℕ) → isSound c ≡ false → Wrote c (record { refusal = 1; count = 0 }) b b
+pub wrote-unsound : (c : Card) (b : List ℕ) → isSound c ≡ false → WroteRecord c (record { refusal = unsound; count = 0 }) b b
 unfolding writeRefusal writeBytes
 wrote-unsound c b e = record { told = rw e; left = rw e }
 
 pub wrote-small : (c : Card) (b : List ℕ) → isSound c ≡ true → length b < writeRoom
-    → Wrote c (record { refusal = 2; count = 0 }) b b
+    → WroteRecord c (record { refusal = noRoom; count = 0 }) b b
 unfolding writeRefusal writeBytes
 wrote-small c b e h = record { told = rw (e, lt-ltb _ _ h); left = rw (e, lt-ltb _ _ h) }
 
 pub wrote-record : (c : Card) (b a : List ℕ) (n : ℕ) → isSound c ≡ true → writeRoom ≤ length b → Put (fields c) 0 b n a
-    → Wrote c (record { refusal = 0; count = n }) b a
+    → WroteRecord c (record { refusal = noRefusal; count = n }) b a
 unfolding writeRefusal writeBytes recordOf
 wrote-record c b a n e h p = record {
-  told = rw (e, le-ltb _ _ h) (ap (λ (k : ℕ). record { refusal = 0; count = k }) (p .place ∙ omega arith));
+  told = rw (e, le-ltb _ _ h) (ap (λ (k : ℕ). record { refusal = noRefusal; count = k }) (p .place ∙ omega arith));
   left = rw (e, le-ltb _ _ h) (p .bytes);
 }

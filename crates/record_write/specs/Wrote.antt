@@ -12,6 +12,6 @@ use Rattle.record_write.specs.declared.Written.{Written}
 abbrev pub writeAnswer : Card → ℕ → Written
 writeAnswer c room = record { refusal = writeRefusal c room; count = length (writeBytes c room) }
 
-pub record Wrote (c : Card) (r : Written) (before after : List ℕ) : Type 0 where
+pub record WroteRecord (c : Card) (r : Written) (before after : List ℕ) : Type 0 where
   pub told : r ≡ writeAnswer c (length before)
   pub left : after ≡ overwrite before 0 (writeBytes c (length before))

@@ -4,14 +4,18 @@
 // not sound is refused with 1, a buffer under 448 with 2, and then nothing is written.
 ghost use Prim.Native.Nat.{_≤_};
 ghost use lib.ListN.{length};
+ghost use Rattle.refusals.specs.Refusals.{writeRoom};
 ghost use Rattle.record.specs.Fields.{fields};
 ghost use Rattle.record_fields.specs.Put.{Put};
-ghost use Rattle.record_write.specs.Wrote.{Wrote};
+ghost use Rattle.record_write.specs.Wrote.{WroteRecord};
 use card::Card;
-use record::ROOM_BYTES;
 use record_groups::put_identity;
 use record_groups::put_keys;
 use record_groups::put_secrets;
+use refusals::REFUSAL_NONE;
+use refusals::REFUSAL_ROOM;
+use refusals::REFUSAL_UNSOUND;
+use refusals::WRITE_ROOM_BYTES;
 
 // What WRITE answers: the refusal's number, or 0 for none, and how many bytes it wrote.
 pub struct Written {
@@ -21,8 +25,8 @@ pub struct Written {
 
 // Writes the record of a card whose paths are at most 40 bytes long, and gives its length.
 pub fn put_record(buf: &mut [u8], card: Card) -> usize
-    requires { ⌜ (card .keys .current .len ≤ 40) × ((card .keys .pinless .len ≤ 40) × (448 ≤ length (now buf))) ⌝ }
-    ensures { λ r. ⌜ (Put (fields card) 0 (now (buf .entry)) r (now (buf .exit))) × (r ≤ 448) ⌝ }
+    requires { ⌜ (card .keys .current .len ≤ 40) × ((card .keys .pinless .len ≤ 40) × (writeRoom ≤ length (now buf))) ⌝ }
+    ensures { λ r. ⌜ (Put (fields card) 0 (now (buf .entry)) r (now (buf .exit))) × (r ≤ writeRoom) ⌝ }
 {
     let identity = card.identity;
     let pins = card.pins;
@@ -38,23 +42,23 @@ pub fn put_record(buf: &mut [u8], card: Card) -> usize
 
 // WRITE (01, Stored record).
 pub fn write(card: Card, buf: &mut [u8]) -> Written
-    ensures { λ r. ⌜ Wrote card r (now (buf .entry)) (now (buf .exit)) ⌝ }
+    ensures { λ r. ⌜ WroteRecord card r (now (buf .entry)) (now (buf .exit)) ⌝ }
 {
     if !sound::sound(card) {
         return Written {
-            refusal: card::REFUSAL_UNSOUND,
+            refusal: REFUSAL_UNSOUND,
             count: 0,
         };
     }
-    if buf.len() < ROOM_BYTES {
+    if buf.len() < WRITE_ROOM_BYTES {
         return Written {
-            refusal: card::REFUSAL_ROOM,
+            refusal: REFUSAL_ROOM,
             count: 0,
         };
     }
     let count = put_record(buf, card);
     Written {
-        refusal: card::REFUSAL_NONE,
+        refusal: REFUSAL_NONE,
         count,
     }
 }

@@ -26,7 +26,7 @@ malformed = 4
 abbrev pub tooDeep : ℕ
 tooDeep = 5
 
--- SEAL: data over 223
+-- SEAL: more data than a sealed message holds
 abbrev pub dataLong : ℕ
 dataLong = 6
 
@@ -53,3 +53,7 @@ unsealRoom = 223
 
 abbrev pub writeRoom : ℕ
 writeRoom = 448
+
+-- ---- the most data before padding (01, The sealed message), which SEAL takes, in bytes
+abbrev pub dataMost : ℕ
+dataMost = 223

@@ -38,3 +38,6 @@ pub const SEAL_ROOM_BYTES: usize = 261;
 pub const UNSEAL_ROOM_BYTES: usize = 223;
 
 pub const WRITE_ROOM_BYTES: usize = 448;
+
+// The most data that SEAL takes, in bytes.
+pub const SEAL_DATA_MAX_BYTES: usize = 223;

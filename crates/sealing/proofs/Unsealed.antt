@@ -16,7 +16,7 @@ use Rattle.padding.specs.declared.Unpadded.the-variants as found
 use Rattle.padding.proofs.Laws.{unpad-front, unpad-shorter, padded-larger}
 use Rattle.message.specs.declared.Session.{Session}
 use Rattle.message.specs.declared.Opening.the-variants as opening
-use Rattle.message.specs.Message.{macOf, fieldForm, provided, opened, openField, openingOf}
+use Rattle.message.specs.Message.{macOf, fieldForm, provided, opened, openField, openingOf, OpeningOut, openedTo, fieldOut, openingOut}
 use Rattle.message.specs.declared.Opening.{Opening}
 use Rattle.sealing.specs.Promise.{Opens}
 use Rattle.sealing.proofs.Sealed.{tail-is}
@@ -24,7 +24,7 @@ use Rattle.sealing.proofs.Sealed.{tail-is}
 -- nothing is opened
 pub opens-none : (o : Option (List ℕ)) (plain : List ℕ) → o ≡ none → Opens o opening.Refused plain
 opens-none o plain e =
-    record { told = sym (ap openingOf e); left = λ x f. let z : _≡_ {A = ℕ} 0 1 = cc in absurd (omega arith); short = λ x f. let z : _≡_ {A = ℕ} 0 1 = cc in absurd (omega arith) }
+    record { told = sym (ap openingOf e); says = sym (ap fieldOut e); left = λ x f. let z : _≡_ {A = ℕ} 0 1 = cc in absurd (omega arith); short = λ x f. let z : _≡_ {A = ℕ} 0 1 = cc in absurd (omega arith) }
 
 module _ (s : Session) (head field : List ℕ) where
   abbrev test : Bool
@@ -50,11 +50,19 @@ module _ (s : Session) (head field : List ℕ) where
   length-of none n e = let z : _≡_ {A = ℕ} 0 1 = cc in absurd (omega arith)
   length-of (some x) n e = let l : n ≡ length x = cc in ap opening.Bytes l
 
+  says-of : (o : Option (List ℕ)) (n : ℕ) (plain : List ℕ) → found.Bytes n ≡ answer o → ((x : List ℕ) → o ≡ some x → x ≡ take (length x) plain)
+      → openingOut plain (opening.Bytes n) ≡ fieldOut o
+  says-of none n plain e f = let z : _≡_ {A = ℕ} 0 1 = cc in absurd (omega arith)
+  says-of (some x) n plain e f =
+      let l : n ≡ length x = cc in
+      ap openedTo (ap (λ (k : ℕ). take k plain) l ∙ sym (f x refl))
+
   pub padding-right : (y rest : List ℕ) (n : ℕ) → length y ≤ 224 → test ≡ true → y ≡ plaintext → found.Bytes n ≡ answer (unpad plaintext)
       → Opens (opened s head field) (opening.Bytes n) (y ++ rest)
   padding-right y rest n ly e ey f =
       record {
         told = length-of (unpad plaintext) n f ∙ ap openingOf (sym (opened-is e));
+        says = says-of (unpad plaintext) n (y ++ rest) f front ∙ ap fieldOut (sym (opened-is e));
         left = λ x o. front x (sym (opened-is e) ∙ o);
         short = λ x o. small x (sym (opened-is e) ∙ o);
       }

@@ -4,10 +4,11 @@ use mathlib.Core.List.{List, _++_}
 use mathlib.Core.Option.{Option, some}
 use mathlib.Core.Path.{_≡_}
 use lib.ListN.{length, take, drop}
+use Rattle.refusals.specs.Refusals.{dataMost}
 use Rattle.padding.specs.Padding.{paddedBytes}
 use Rattle.message.specs.declared.Session.{Session}
 use Rattle.message.specs.declared.Opening.{Opening}
-use Rattle.message.specs.Message.{withIv, responseHead, ciphertext, macOf, fieldMac, openingOf}
+use Rattle.message.specs.Message.{withIv, responseHead, ciphertext, macOf, fieldMac, openingOf, fieldOut, openingOut}
 use Rattle.message.specs.Terminal.{sealedResponse}
 use Rattle.sealing.specs.declared.Response.{Response}
 
@@ -18,12 +19,13 @@ pub record FieldSealed (s : Session) (head : List ℕ) (n : ℕ) (before mac aft
   pub left : after ≡ (mac ++ ciphertext s (take n (drop 16 before))) ++ drop (16 + paddedBytes n) before
   pub long : length (ciphertext s (take n (drop 16 before))) ≡ paddedBytes n
 
--- an opening gives the length of the opened data, at most 223, which stands at the start of `plain`; or that
--- there is none
+-- an opening gives the length of the opened data, at most 223 bytes, which stands at the start of `plain`; or that
+-- there is none. `says` is that in 01's terms, with the number that stands for no data
 pub record Opens (data′ : Option (List ℕ)) (r : Opening) (plain : List ℕ) : Type 0 where
   pub told : r ≡ openingOf data′
+  pub says : openingOut plain r ≡ fieldOut data′
   pub left : (x : List ℕ) → data′ ≡ some x → x ≡ take (length x) plain
-  pub short : (x : List ℕ) → data′ ≡ some x → length x ≤ 223
+  pub short : (x : List ℕ) → data′ ≡ some x → length x ≤ dataMost
 
 -- a response's data and status word were sealed from the buffer's start, with 9000 in the clear behind them
 pub record ResponseSealed (s : Session) (plain : List ℕ) (before : List ℕ) (r : Response) (after : List ℕ) : Type 0 where

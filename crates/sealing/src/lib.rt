@@ -5,6 +5,7 @@ ghost use mathlib.Core.Path.{_≡_};
 ghost use mathlib.Core.List.{[], _∷_, _++_};
 ghost use Prim.Native.Nat.{_+_, _-_, _≤_, _<_, _%_};
 ghost use lib.ListN.{length, take, drop};
+ghost use Rattle.refusals.specs.Refusals.{answerRoom};
 ghost use Rattle.padding.specs.Padding.{paddedBytes};
 ghost use Rattle.message.specs.Message.{commandHead, responseHead, opened, openField};
 ghost use Rattle.sealing.specs.Promise.{FieldSealed, Opens, ResponseSealed};
@@ -95,7 +96,7 @@ pub fn open_response(s: Session, field: &[u8], plain: &mut [u8]) -> Opening
 
 // Seals a response's data and status word, SW1 SW2, together from the buffer's start, and writes 9000 behind them.
 pub fn seal_response(s: Session, response: &[u8], sw1: u8, sw2: u8, buf: &mut [u8]) -> Response
-    requires { ⌜ (length (now response) ≤ 221) × (258 ≤ length (now buf)) ⌝ }
+    requires { ⌜ (length (now response) ≤ 221) × (answerRoom ≤ length (now buf)) ⌝ }
     ensures { λ r. ⌜ ResponseSealed s (now (response .entry) ++ (sw1 ∷ sw2 ∷ [])) (now (buf .entry)) r (now (buf .exit)) ⌝ }
 {
     let plain_bytes = response.len() + 2;

@@ -32,7 +32,7 @@ fn pair_bytes(r: &[u8], s: &[u8]) -> usize
 // The sequence of r and s, each as the shortest unsigned DER integer.
 fn put_pair(buf: &mut [u8], at: usize, r: &[u8], s: &[u8]) -> usize
     requires { ⌜ (length (now r) ≤ 32) × (length (now s) ≤ 32) × (at + 73 ≤ length (now buf)) ⌝ }
-    ensures { λ n. ⌜ Wrote (field 48 (pair (now (r .entry)) (now (s .entry)))) at n (now (buf .entry)) (now (buf .exit)) ⌝ }
+    ensures { λ n. ⌜ Wrote (field 0x30 (pair (now (r .entry)) (now (s .entry)))) at n (now (buf .entry)) (now (buf .exit)) ⌝ }
 {
     let inner = put_head(buf, at, TAG_SEQUENCE, pair_bytes(r, s));
     let after_r = put_integer(buf, inner, r);

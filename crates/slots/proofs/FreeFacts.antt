@@ -1,6 +1,6 @@
 -- Facts about the first free slot, for any number of slots: it is the least free index, or there is none; and how a search
 -- that goes from slot to slot finds it. Assumes nothing.
-use mathlib.Core.Path.{_≡_, refl, sym, ap, _∙_}
+use mathlib.Core.Path.{_≡_, refl, sym, ap, _∙_, subst}
 use mathlib.Core.Bool.{Bool, true, false, _||_, cond}
 use mathlib.Core.List.{List, [], _∷_}
 use Prim.Native.Nat.{ℕ, zero, suc, _+_, _≤_, _<_}
@@ -63,6 +63,10 @@ first-free-least (x ∷ s) = by-flag (first-free-least s) (isFree x) refl
     by-flag h true e =
         record { within = omega arith; free = eqb-true (x .filled) 0 e; below = λ k l t. not-suc-le-zero l }
     by-flag h false e = says-behind x s (eqb-false (x .filled) 0 e) (firstFree s) h
+
+-- ... so what the search gives is the first free slot, and says so
+pub first-free-says : (s : List Slot) (r : Free) → r ≡ firstFree s → (r ≡ firstFree s) × Says s r
+first-free-says s r e = (e, subst (λ (f : Free). Says s f) (sym e) (first-free-least s))
 
 -- ---- someOf isFree: there is a free slot exactly where one is found
 abbrev pub found : Free → Bool

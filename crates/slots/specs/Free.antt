@@ -26,7 +26,8 @@ pub record LeastFree (slots : List Slot) (i : ℕ) : Type 0 where
   pub free : getD slots i freeSlot .filled ≡ 0
   pub below : (k : ℕ) → k < i → getD slots k freeSlot .filled ≡ 0 → ⊥
 
--- what each answer says of the slots
+-- what each answer says of the slots (01, Commands, PAIR): the least index of a free one, which PAIR fills and answers; or that none is free,
+-- for which PAIR answers 6A84
 abbrev pub Says : List Slot → Free → Type 0
 Says slots (At i) = LeastFree slots i
 Says slots Full = (k : ℕ) → k < length slots → getD slots k freeSlot .filled ≡ 0 → ⊥

@@ -3,11 +3,11 @@
 // Proved: the slot found is the free one with the least index, and none is found exactly where all are filled.
 ghost use mathlib.Core.Path.{_≡_};
 ghost use Rattle.card.specs.Slots.{someOf, isFree};
-ghost use Rattle.slots.specs.Free.{firstFree};
+ghost use Rattle.slots.specs.Free.{firstFree, Says};
 use card::Card;
 use card::Slot;
 
-// The first free slot, by its index, or that all slots are filled.
+// The first free slot, by its index, or that all slots are filled. `Says` of specs/Free.antt states each case.
 pub enum Free {
     At(usize),
     Full,
@@ -15,7 +15,7 @@ pub enum Free {
 
 // The search stops at the first free slot (01, Commands, PAIR).
 pub fn first_free(slots: [Slot; Card::SLOTS]) -> Free
-    ensures { λ r. ⌜ r ≡ firstFree slots ⌝ }
+    ensures { λ r. ⌜ (r ≡ firstFree slots) × Says slots r ⌝ }
 {
     let mut k = 0;
     let i = loop {

@@ -28,7 +28,7 @@ fn say_data(buf: &[u8], count: usize) {
 fn ask_in(card: [u8; CARD_BYTES], cmd: &[u8], buf: &mut [u8]) -> bool {
     let a = byte_calls::ask(card, cmd, buf);
     if a.refusal != 0 {
-        say_refused(b"ask:", a.refusal, engine::ASK_ROOM_BYTES);
+        say_refused(b"ask:", a.refusal, refusals::ASK_ROOM_BYTES);
         return false;
     }
     say(b"ask: ");
@@ -61,7 +61,7 @@ fn answer_in(d: Desk, cmd: &[u8], supply: &[u8], buf: &mut [u8]) -> Step {
     let found = d.card;
     let r = byte_calls::answer(found, cmd, supply, buf);
     if r.refusal != 0 {
-        say_refused(b"answer:", r.refusal, engine::ANSWER_ROOM_BYTES);
+        say_refused(b"answer:", r.refusal, refusals::ANSWER_ROOM_BYTES);
         return Step {
             done: false,
             desk: d,
@@ -84,7 +84,7 @@ fn seal_in(d: Desk, header: [u8; 4], plain: &[u8], buf: &mut [u8]) -> Step {
     let found = d.session;
     let r = byte_calls::seal(found, header, plain, buf);
     if r.refusal != 0 {
-        say_refused(b"seal:", r.refusal, terminal::SEAL_ROOM_BYTES);
+        say_refused(b"seal:", r.refusal, refusals::SEAL_ROOM_BYTES);
         return Step {
             done: false,
             desk: d,
@@ -107,7 +107,7 @@ fn unseal_in(d: Desk, response: &[u8], buf: &mut [u8]) -> Step {
     let found = d.session;
     let r = byte_calls::unseal(found, response, buf);
     if r.refusal != 0 {
-        say_refused(b"unseal:", r.refusal, terminal::UNSEAL_ROOM_BYTES);
+        say_refused(b"unseal:", r.refusal, refusals::UNSEAL_ROOM_BYTES);
         return Step {
             done: false,
             desk: d,
@@ -130,7 +130,7 @@ fn write_in(d: Desk, buf: &mut [u8]) -> Desk {
     let found = d.card;
     let r = byte_calls::write(found, buf);
     if r.refusal != 0 {
-        say_refused(b"write:", r.refusal, record::ROOM_BYTES);
+        say_refused(b"write:", r.refusal, refusals::WRITE_ROOM_BYTES);
         return d;
     }
     wrote(d, b"write:", buf, r.count, false)

@@ -1,17 +1,11 @@
 -- What RESET answers (01, Operations): the refusal's number or 0, and the next card.
 use Prim.Native.Nat.{ℕ}
 use mathlib.Core.Bool.{cond}
+use Rattle.refusals.specs.Refusals.{noRefusal, unsound}
 use Rattle.card.specs.declared.Card.{Card}
 use Rattle.card.specs.State.{resetOf}
 use Rattle.card.specs.Sound.{isSound}
 use Rattle.sound.specs.declared.Answer.{Answer}
-
--- the numbers of 01's table of refusals
-abbrev pub noRefusal : ℕ
-noRefusal = 0
-
-abbrev pub unsound : ℕ
-unsound = 1
 
 -- refused: the number and the card as given
 abbrev pub refused : ℕ → Card → Answer

@@ -4,6 +4,8 @@ ghost use mathlib.Core.Path.{_≡_};
 ghost use Rattle.card.specs.Sound.{isSound, partsSound, partsBlank};
 ghost use Rattle.sound.specs.Reset.{resetAnswer};
 use card::Card;
+use refusals::REFUSAL_NONE;
+use refusals::REFUSAL_UNSOUND;
 
 // What a call that gives a card answers: the refusal's number, or 0 for none, and the card.
 pub struct Answer {
@@ -60,12 +62,12 @@ pub fn reset(card: Card) -> Answer
     if sound(card) {
         let next = card.powered_up();
         Answer {
-            refusal: card::REFUSAL_NONE,
+            refusal: REFUSAL_NONE,
             card: next,
         }
     } else {
         Answer {
-            refusal: card::REFUSAL_UNSOUND,
+            refusal: REFUSAL_UNSOUND,
             card,
         }
     }

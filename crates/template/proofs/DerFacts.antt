@@ -127,5 +127,5 @@ pub der-number : (s : List ℕ) → number (derContent s) ≡ number s
 der-number s = sign-number (drop (leadingZeros s) s) ∙ strip-number s
 
 -- ---- derInteger: a zero, written behind the head and before the digits
-pub zero-field : (s : List ℕ) → needsZero s ≡ true → fieldHead 2 (length s + 1) ++ 0 ∷ [] ++ s ≡ field 2 (withSign s)
-zero-field s e = rw (sign-zero s e, append-assoc (fieldHead 2 (length s + 1)) (0 ∷ []) s, add-one)
+pub zero-field : (s : List ℕ) → needsZero s ≡ true → fieldHead 0x02 (length s + 1) ++ 0 ∷ [] ++ s ≡ field 0x02 (withSign s)
+zero-field s e = rw (sign-zero s e, append-assoc (fieldHead 0x02 (length s + 1)) (0 ∷ []) s, add-one)

@@ -16,7 +16,7 @@ leadingZeros (suc x ∷ s) = 0
 -- whether a zero has to stand in front: nothing is there, or the first byte would make the number negative
 abbrev pub needsZero : List ℕ → Bool
 needsZero [] = true
-needsZero (x ∷ s) = leb 128 x
+needsZero (x ∷ s) = leb 0x80 x
 
 abbrev pub withSign : List ℕ → List ℕ
 withSign s = cond (needsZero s) (0 ∷ s) s
@@ -26,7 +26,7 @@ abbrev pub derContent : List ℕ → List ℕ
 derContent number = withSign (drop (leadingZeros number) number)
 
 abbrev pub derInteger : List ℕ → List ℕ
-derInteger number = field 2 (derContent number)
+derInteger number = field 0x02 (derContent number)
 
 -- ---- what is proved of the content
 -- the number that bytes are, high byte first
@@ -39,5 +39,5 @@ number (x ∷ s) = x * 256 ^ length s + number s
 abbrev pub Shortest : List ℕ → Type 0
 Shortest [] = ⊥
 Shortest (zero ∷ []) = Unit {0}
-Shortest (zero ∷ x ∷ s) = 128 ≤ x
-Shortest (suc x ∷ s) = suc x < 128
+Shortest (zero ∷ x ∷ s) = 0x80 ≤ x
+Shortest (suc x ∷ s) = suc x < 0x80

@@ -2,7 +2,7 @@
 // Every length is in bytes.
 // Proved: a head is read as the definitions of specs/ say, and by them what is written is read back and no other form is taken.
 ghost use mathlib.Core.Path.{_≡_};
-ghost use Rattle.template.specs.Template.{readHead, beginsWith};
+ghost use Rattle.template.specs.Template.{readHead, beginsWith, HeadSays};
 
 // The least length, in bytes, that takes the long form. A shorter one is its own length byte.
 pub const LONG_FORM_MIN_BYTES: u8 = 128;
@@ -14,7 +14,8 @@ pub const TAG_PUBLIC_KEY: u8 = 0x80;
 // The tag of a DER integer.
 pub const TAG_INTEGER: u8 = 0x02;
 
-// What the head of a field, its tag and length, says: how many bytes it takes, and how many bytes of value follow.
+// What the head of a field, its tag and length, says: how many bytes it takes, and how many bytes of value follow. `HeadSays` of
+// specs/Template.antt states each case.
 pub enum Head {
     Of {
         head_bytes: usize,
@@ -25,7 +26,7 @@ pub enum Head {
 
 // The head of the field that begins s.
 pub fn read_head(s: &[u8]) -> Head
-    ensures { λ r. ⌜ r ≡ readHead (now (s .entry)) ⌝ }
+    ensures { λ r. ⌜ (r ≡ readHead (now (s .entry))) × HeadSays (now (s .entry)) r ⌝ }
 {
     if s.len() < 2 {
         return Head::Unreadable;

@@ -7,6 +7,7 @@ use Prim.Native.Nat.{ℕ, _+_, _-_, _≤_, _<_}
 use native.Mathlib.Omega.{arith}
 use lib.ListN.{length, take, drop, length-append, length-drop}
 use lib.Seq.{take-at, drop-at, drop-drop, length-take-le}
+use Rattle.refusals.specs.Refusals.{noRefusal, sealRoom, dataMost}
 use Rattle.octets.specs.Bytes.{overwrite}
 use Rattle.octets.proofs.Lists.{overwritten, length-overwrite, drop-overwrite-behind}
 use Rattle.padding.specs.Padding.{paddedBytes}
@@ -21,7 +22,7 @@ use Rattle.terminal.specs.declared.Outcome.{Outcome}
 use Rattle.terminal.specs.Did.{Did}
 use Rattle.terminal.proofs.Outcomes.{seal-done}
 
-module _ (s : Session) (B B₁ Y B₃ header d head mac : List ℕ) (p : ℕ) (room : 261 ≤ length B) (short : length d ≤ 223) (four : length header ≡ 4)
+module _ (s : Session) (B B₁ Y B₃ header d head mac : List ℕ) (p : ℕ) (room : sealRoom ≤ length B) (short : length d ≤ dataMost) (four : length header ≡ 4)
     (ep : p ≡ paddedBytes (length d)) (e₁ : B₁ ≡ overwrite B 21 d) (eh : head ≡ commandHead header p)
     (field : FieldSealed s head (length d) (take (length B₁ - 5) (drop 5 B₁)) mac Y) (lm : length mac ≡ 16)
     (e₃ : B₃ ≡ overwrite (take 5 B₁ ++ (Y ++ drop (length B₁ - 5) (drop 5 B₁))) 0 (header ++ ((16 + p) ∷ []))) where
@@ -89,7 +90,7 @@ module _ (s : Session) (B B₁ Y B₃ header d head mac : List ℕ) (p : ℕ) (r
       count : 21 + p ≡ length (sealedCommand s header d)
       count = omega (arith, length-command)
 
-  pub did-seal : (r : Outcome) → r .refusal ≡ 0 → r .count ≡ 5 + 16 + p → r .session ≡ withIv s mac → Did (sealOut s header d (length B)) r B B₃
+  pub did-seal : (r : Outcome) → r .refusal ≡ noRefusal → r .count ≡ 5 + 16 + p → r .session ≡ withIv s mac → Did (sealOut s header d (length B)) r B B₃
   did-seal r er ec es =
       let e = seal-done s header d (length B) room short in
       record {

@@ -8,6 +8,7 @@ use Prim.Native.Nat.{ℕ, _+_, _-_, _≤_, _<_}
 use native.Mathlib.Omega.{arith}
 use borrow.Author.Tests.{lt-ltb, le-ltb}
 use lib.ListN.{length, take, drop, length-drop}
+use Rattle.refusals.specs.Refusals.{noRefusal, notGenuine}
 use Rattle.octets.specs.Bytes.{overwrite, sameBytes}
 use Rattle.octets.proofs.Lists.{same-lengths}
 use Rattle.message.specs.declared.Session.{Session}
@@ -21,18 +22,18 @@ use Rattle.terminal.specs.Did.{Did}
 
 -- ---- the cases
 module _ (s : Session) (field : List ℕ) (o : Option (List ℕ)) where
-  pub unseal-closed : o ≡ none → unsealed s field o ≡ refused s 7
+  pub unseal-closed : o ≡ none → unsealed s field o ≡ refused s notGenuine
   unseal-closed e = ap (unsealed s field) e
 
-  pub unseal-short : (n : ℕ) → Holds o n → n < 2 → unsealed s field o ≡ refused s 7
+  pub unseal-short : (n : ℕ) → Holds o n → n < 2 → unsealed s field o ≡ refused s notGenuine
   unseal-short n h l = ap (unsealed s field) (h .is) ∙ rw (lt-ltb (length (h .plain)) 2 (omega (arith, h .long)))
 
-  unseal-held : (n : ℕ) (h : Holds o n) → 2 ≤ n → unsealed s field o ≡ record { refusal = 0; session = withIv s (take 16 field); bytes = h .plain }
+  unseal-held : (n : ℕ) (h : Holds o n) → 2 ≤ n → unsealed s field o ≡ record { refusal = noRefusal; session = withIv s (take 16 field); bytes = h .plain }
   unseal-held n h l = ap (unsealed s field) (h .is) ∙ rw (le-ltb (length (h .plain)) 2 (omega (arith, h .long)))
 
   -- scratch is where the opening left the plaintext; m is its length as the code counts the part
   pub did-unseal : (n m : ℕ) (scratch before after : List ℕ) (r : Opening) (t : Outcome) (mac : List ℕ) → Opens o r scratch → (h : Holds o n) → 2 ≤ n → m ≡ n
-      → after ≡ overwrite before 0 (take m scratch) → mac ≡ take 16 field → t .refusal ≡ 0 → t .count ≡ n → t .session ≡ withIv s mac
+      → after ≡ overwrite before 0 (take m scratch) → mac ≡ take 16 field → t .refusal ≡ noRefusal → t .count ≡ n → t .session ≡ withIv s mac
       → Did (unsealed s field o) t before after
   did-unseal n m scratch before after r t mac p h l em ea eb er ec es =
       let e = unseal-held n h l in

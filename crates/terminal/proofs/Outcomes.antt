@@ -10,9 +10,10 @@ use borrow.Author.Tests.{lt-ltb, le-ltb}
 use lib.Dec.{ltb}
 use lib.ListN.{length, take, drop}
 use Rattle.octets.specs.Bytes.{sameBytes}
+use Rattle.refusals.specs.Refusals.{noRefusal, noRoom, dataLong, notGenuine, sealRoom, unsealRoom, dataMost}
 use Rattle.message.specs.declared.Session.{Session}
 use Rattle.message.specs.Message.{withIv, commandHead, responseHead, fieldMac, openField}
-use Rattle.message.specs.Terminal.{Out, refused, sealedCommand, sealOut, plainSuccess, fieldOf, unsealed, unsealOut}
+use Rattle.message.specs.Terminal.{Out, refused, sealedCommand, sealOut, plainSuccess, sealedField, unsealed, unsealOut}
 use Rattle.terminal.specs.declared.Outcome.{Outcome}
 use Rattle.terminal.specs.Did.{Did}
 
@@ -28,35 +29,35 @@ did-refuse o s n r before e er ec es =
 
 -- ---- SEAL
 module _ (s : Session) (header d : List ℕ) (room : ℕ) where
-  pub seal-no-room : room < 261 → sealOut s header d room ≡ refused s 2
+  pub seal-no-room : room < sealRoom → sealOut s header d room ≡ refused s noRoom
   unfolding sealOut
-  seal-no-room h = rw (lt-ltb room 261 h)
+  seal-no-room h = rw (lt-ltb room sealRoom h)
 
-  pub seal-too-long : 261 ≤ room → 223 < length d → sealOut s header d room ≡ refused s 6
+  pub seal-too-long : sealRoom ≤ room → dataMost < length d → sealOut s header d room ≡ refused s dataLong
   unfolding sealOut
-  seal-too-long h l = rw (le-ltb room 261 h, lt-ltb 223 (length d) l)
+  seal-too-long h l = rw (le-ltb room sealRoom h, lt-ltb dataMost (length d) l)
 
-  pub seal-done : 261 ≤ room → length d ≤ 223
-      → sealOut s header d room ≡ record { refusal = 0; session = withIv s (fieldMac s (commandHead header) d); bytes = sealedCommand s header d }
+  pub seal-done : sealRoom ≤ room → length d ≤ dataMost
+      → sealOut s header d room ≡ record { refusal = noRefusal; session = withIv s (fieldMac s (commandHead header) d); bytes = sealedCommand s header d }
   unfolding sealOut
-  seal-done h l = rw (le-ltb room 261 h, le-ltb 223 (length d) l)
+  seal-done h l = rw (le-ltb room sealRoom h, le-ltb dataMost (length d) l)
 
 -- ---- UNSEAL
 module _ (s : Session) (response : List ℕ) (room : ℕ) where
   abbrev inner : Out
-  inner = unsealed s (fieldOf response) (openField s responseHead (fieldOf response))
+  inner = unsealed s (sealedField response) (openField s responseHead (sealedField response))
 
   abbrev ends : Bool
   ends = sameBytes (drop (length response - 2) response) plainSuccess
 
-  pub unseal-no-room : room < 223 → unsealOut s response room ≡ refused s 2
+  pub unseal-no-room : room < unsealRoom → unsealOut s response room ≡ refused s noRoom
   unfolding unsealOut
-  unseal-no-room h = rw (lt-ltb room 223 h)
+  unseal-no-room h = rw (lt-ltb room unsealRoom h)
 
-  pub unseal-other-end : 223 ≤ room → ends ≡ false → unsealOut s response room ≡ refused s 7
+  pub unseal-other-end : unsealRoom ≤ room → ends ≡ false → unsealOut s response room ≡ refused s notGenuine
   unfolding unsealOut
-  unseal-other-end h e = rw (le-ltb room 223 h, e)
+  unseal-other-end h e = rw (le-ltb room unsealRoom h, e)
 
-  pub unseal-opened : 223 ≤ room → ends ≡ true → unsealOut s response room ≡ inner
+  pub unseal-opened : unsealRoom ≤ room → ends ≡ true → unsealOut s response room ≡ inner
   unfolding unsealOut
-  unseal-opened h e = rw (le-ltb room 223 h, e)
+  unseal-opened h e = rw (le-ltb room unsealRoom h, e)

@@ -5,29 +5,22 @@ ghost use mathlib.Core.Path.{_≡_};
 ghost use mathlib.Core.List.{[], _∷_};
 ghost use Prim.Native.Nat.{_≤_};
 ghost use lib.ListN.{length};
+ghost use Rattle.refusals.specs.Refusals.{unsealRoom};
 ghost use Rattle.message.specs.Message.{responseHead, openField};
 ghost use Rattle.message.specs.Terminal.{sealOut, unsealed, unsealOut};
 ghost use Rattle.terminal.specs.Did.{Did};
-use message::DATA_MAX_BYTES;
 use message::MAC_BYTES;
 use message::Opening;
 use message::Session;
+use refusals::REFUSAL_DATA_LONG;
+use refusals::REFUSAL_NONE;
+use refusals::REFUSAL_NOT_GENUINE;
+use refusals::REFUSAL_ROOM;
+use refusals::SEAL_DATA_MAX_BYTES;
+use refusals::SEAL_ROOM_BYTES;
+use refusals::UNSEAL_ROOM_BYTES;
 use sealing::CIPHERTEXT_MAX_BYTES;
 use sealing::PLAIN_SUCCESS;
-
-// Room that the buffer must have, in bytes.
-pub const SEAL_ROOM_BYTES: usize = 261;
-
-pub const UNSEAL_ROOM_BYTES: usize = 223;
-
-// The numbers of the refusals (01, Operations and numbered refusals).
-pub const REFUSAL_NONE: u8 = 0;
-
-pub const REFUSAL_ROOM: u8 = 2;
-
-pub const REFUSAL_DATA_LONG: u8 = 6;
-
-pub const REFUSAL_NOT_GENUINE: u8 = 7;
 
 // CLA INS P1 P2 and Lc: what stands in front of the field, in bytes.
 const FRONT_BYTES: usize = 5;
@@ -52,7 +45,7 @@ pub fn seal(s: Session, cla: u8, ins: u8, p1: u8, p2: u8, plain: &[u8], buf: &mu
             session: s,
         };
     }
-    if DATA_MAX_BYTES < plain.len() {
+    if SEAL_DATA_MAX_BYTES < plain.len() {
         return Outcome {
             refusal: REFUSAL_DATA_LONG,
             count: 0,
@@ -75,7 +68,7 @@ pub fn seal(s: Session, cla: u8, ins: u8, p1: u8, p2: u8, plain: &[u8], buf: &mu
 
 // Opens the field of a response that ends in 9000, and writes its plaintext, two bytes or more, from the buffer's start.
 fn unseal_field(s: Session, field: &[u8], buf: &mut [u8]) -> Outcome
-    requires { ⌜ 223 ≤ length (now buf) ⌝ }
+    requires { ⌜ unsealRoom ≤ length (now buf) ⌝ }
     ensures { λ r. ⌜ Did (unsealed s (now (field .entry)) (openField s responseHead (now (field .entry)))) r
         (now (buf .entry)) (now (buf .exit)) ⌝ }
 {

@@ -8,14 +8,14 @@ ghost use Rattle.card.specs.State.{freshOf};
 ghost use Rattle.card.specs.Sound.{isSound};
 ghost use Rattle.sound.specs.Reset.{resetAnswer};
 ghost use Rattle.record.specs.Answers.{readAnswer};
-ghost use Rattle.record_write.specs.Wrote.{Wrote};
+ghost use Rattle.record_write.specs.Wrote.{WroteRecord};
 ghost use Rattle.rules.specs.Engine.{askOut, answerOut};
 ghost use Rattle.responses.specs.Did.{AskDid, AnswerDid};
 ghost use Rattle.message.specs.Terminal.{sealOut, unsealOut};
 ghost use Rattle.terminal.specs.Did.{Did};
 ghost use Rattle.walk.specs.Walk.{report, WALK};
-ghost use Rattle.boundary.specs.Left.{answerOf, answeredOf, outcomeOf, writtenOf, walkTold};
-use boundary::Told;
+ghost use Rattle.boundary.specs.Left.{answerOf, answeredOf, outcomeOf, writtenOf, walkOutOf};
+use boundary::Counted;
 use card::Card;
 use message::Session;
 use responses::Asked;
@@ -61,14 +61,14 @@ pub extern "C" fn tw_ask(card: &Card, cmd: &[u8], buf: &mut [u8]) -> Asked
 
 // ANSWER.
 #[no_mangle]
-pub extern "C" fn tw_answer(card: &mut Card, cmd: &[u8], supply: &[u8], buf: &mut [u8]) -> Told
+pub extern "C" fn tw_answer(card: &mut Card, cmd: &[u8], supply: &[u8], buf: &mut [u8]) -> Counted
     ensures { λ r. ⌜ AnswerDid (answerOut (now (card .entry)) (now (cmd .entry)) (now (supply .entry)) (length (now (buf .entry))))
         (answeredOf r (now (card .exit))) (now (buf .entry)) (now (buf .exit)) ⌝ }
 {
     let found = *card;
     let told = engine::answer(found, cmd, supply, buf);
     *card = told.card;
-    Told {
+    Counted {
         refusal: told.refusal,
         count: told.count,
     }
@@ -81,14 +81,14 @@ pub extern "C" fn tw_seal(
     header: &[u8; 4],
     plain: &[u8],
     buf: &mut [u8],
-) -> Told
+) -> Counted
     ensures { λ r. ⌜ Did (sealOut (now (session .entry)) (now (header .entry)) (now (plain .entry)) (length (now (buf .entry))))
         (outcomeOf r (now (session .exit))) (now (buf .entry)) (now (buf .exit)) ⌝ }
 {
     let found = *session;
     let told = boundary::sealed(found, header, plain, buf);
     *session = told.session;
-    Told {
+    Counted {
         refusal: told.refusal,
         count: told.count,
     }
@@ -96,14 +96,14 @@ pub extern "C" fn tw_seal(
 
 // UNSEAL, the terminal's end of the channel.
 #[no_mangle]
-pub extern "C" fn tw_unseal(session: &mut Session, response: &[u8], buf: &mut [u8]) -> Told
+pub extern "C" fn tw_unseal(session: &mut Session, response: &[u8], buf: &mut [u8]) -> Counted
     ensures { λ r. ⌜ Did (unsealOut (now (session .entry)) (now (response .entry)) (length (now (buf .entry))))
         (outcomeOf r (now (session .exit))) (now (buf .entry)) (now (buf .exit)) ⌝ }
 {
     let found = *session;
     let told = terminal::unseal(found, response, buf);
     *session = told.session;
-    Told {
+    Counted {
         refusal: told.refusal,
         count: told.count,
     }
@@ -111,19 +111,19 @@ pub extern "C" fn tw_unseal(session: &mut Session, response: &[u8], buf: &mut [u
 
 // WALK: the count is of fields that are not templates.
 #[no_mangle]
-pub extern "C" fn tw_walk(input: &[u8]) -> Told
-    ensures { λ r. ⌜ walkTold r ≡ WALK (now (input .entry)) ⌝ }
+pub extern "C" fn tw_walk(input: &[u8]) -> Counted
+    ensures { λ r. ⌜ walkOutOf r ≡ WALK (now (input .entry)) ⌝ }
 {
     let w = walk::walk(input);
     let refusal = walk::refusal(w);
     let count = walk::count(w);
-    Told { refusal, count }
+    Counted { refusal, count }
 }
 
 // WRITE: the card is only read.
 #[no_mangle]
-pub extern "C" fn tw_write(card: &Card, buf: &mut [u8]) -> Told
-    ensures { λ r. ⌜ Wrote (now (card .entry)) (writtenOf r) (now (buf .entry)) (now (buf .exit)) × (now (card .exit) ≡ now (card .entry)) ⌝ }
+pub extern "C" fn tw_write(card: &Card, buf: &mut [u8]) -> Counted
+    ensures { λ r. ⌜ WroteRecord (now (card .entry)) (writtenOf r) (now (buf .entry)) (now (buf .exit)) × (now (card .exit) ≡ now (card .entry)) ⌝ }
 {
     let found = *card;
     boundary::written(found, buf)

@@ -4,7 +4,7 @@ ghost use lib.ListN.{length};
 ghost use Rattle.vector_text.specs.Places.{First};
 
 // A part of the file: from byte `start` up to byte `end`, which is not in it. No value starts at byte 0, so 0 to 0 stands for none.
-pub struct Span {
+pub struct TextSpan {
     pub start: usize,
     pub end: usize,
 }
@@ -30,11 +30,11 @@ pub const CIPHERTEXT: u8 = 8;
 
 pub const UNKNOWN: u8 = 9;
 
-pub fn no_span() -> Span {
-    Span { start: 0, end: 0 }
+pub fn no_span() -> TextSpan {
+    TextSpan { start: 0, end: 0 }
 }
 
-pub fn is_none(x: Span) -> bool {
+pub fn is_none(x: TextSpan) -> bool {
     x.end == 0
 }
 

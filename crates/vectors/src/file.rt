@@ -6,7 +6,7 @@ use crate::report;
 use crate::trial;
 use crate::trial::Entry;
 use vector_text::text;
-use vector_text::text::Span;
+use vector_text::text::TextSpan;
 
 // The entries of the two sections that were found and that passed, and the faults of the file: lines that are not understood.
 pub struct Tally {
@@ -102,7 +102,7 @@ fn has_value(e: Entry, kind: u8) -> bool {
 }
 
 // The entry with one value more.
-fn with_value(e: Entry, kind: u8, x: Span) -> Entry {
+fn with_value(e: Entry, kind: u8, x: TextSpan) -> Entry {
     let mut r = e;
     if kind == text::COUNT {
         r.count = x;
@@ -119,7 +119,7 @@ fn with_value(e: Entry, kind: u8, x: Span) -> Entry {
 }
 
 // A line that holds a value, which stands at x; a line of an unknown name, or of a value that the entry has already, is a fault.
-fn take_value(name: &[u8], st: State, kind: u8, x: Span, at: usize) -> State {
+fn take_value(name: &[u8], st: State, kind: u8, x: TextSpan, at: usize) -> State {
     let e = st.entry;
     let t = st.tally;
     if kind == text::UNKNOWN || has_value(e, kind) {
@@ -158,7 +158,7 @@ fn take_line(name: &[u8], s: &[u8], mode: u8, st: State, at: usize, end: usize) 
         name,
         st,
         kind,
-        Span {
+        TextSpan {
             start: start,
             end: stop,
         },

@@ -3,7 +3,7 @@ use print::say;
 use print::say_number;
 use vector_text::text::DECRYPT;
 use vector_text::text::ENCRYPT;
-use vector_text::text::Span;
+use vector_text::text::TextSpan;
 
 fn say_space() {
     say(b" ");
@@ -42,7 +42,7 @@ fn say_bytes(bytes: &[u8]) {
 }
 
 // A part of the file as it stands.
-fn say_span(s: &[u8], x: Span) {
+fn say_span(s: &[u8], x: TextSpan) {
     let start = x.start;
     let end = x.end;
     if start <= end && end <= s.len() {
@@ -69,7 +69,7 @@ pub fn say_fault(name: &[u8], words: &[u8]) {
 }
 
 // The entry that something is wrong with.
-pub fn say_entry(name: &[u8], section: u8, s: &[u8], count: Span) {
+pub fn say_entry(name: &[u8], section: u8, s: &[u8], count: TextSpan) {
     say(name);
     say_space();
     say_section(section);

@@ -9,7 +9,7 @@ use vector_text::hex;
 use vector_text::text;
 use vector_text::text::DECRYPT;
 use vector_text::text::ENCRYPT;
-use vector_text::text::Span;
+use vector_text::text::TextSpan;
 
 pub const ECB: u8 = 0;
 
@@ -20,11 +20,11 @@ const TEXT_MAX_BYTES: usize = 64;
 // Where the values of an entry stand in the file.
 pub struct Entry {
     pub section: u8,
-    pub count: Span,
-    pub key: Span,
-    pub iv: Span,
-    pub plain: Span,
-    pub cipher: Span,
+    pub count: TextSpan,
+    pub key: TextSpan,
+    pub iv: TextSpan,
+    pub plain: TextSpan,
+    pub cipher: TextSpan,
 }
 
 pub fn no_entry(section: u8) -> Entry {
@@ -48,7 +48,7 @@ pub fn is_empty(e: Entry) -> bool {
 }
 
 // Reads the hexadecimal text of a span into all of `out`; answers whether that is what stands there.
-fn read_hex(s: &[u8], x: Span, out: &mut [u8]) -> bool {
+fn read_hex(s: &[u8], x: TextSpan, out: &mut [u8]) -> bool {
     let start = x.start;
     let end = x.end;
     if end < start {
@@ -68,7 +68,7 @@ fn read_hex(s: &[u8], x: Span, out: &mut [u8]) -> bool {
 }
 
 // The length in bytes of a text that the entry may have; 0 where it may not.
-fn text_bytes(mode: u8, x: Span) -> usize
+fn text_bytes(mode: u8, x: TextSpan) -> usize
     ensures { λ r. ⌜ r ≤ 64 ⌝ }
 {
     if x.end < x.start {
@@ -128,7 +128,7 @@ fn run_cbc(way: u8, key: &[u8; 32], iv: [u8; 16], buf: &mut [u8]) {
 }
 
 // An ECB entry has no IV, a CBC entry one of 16 bytes.
-fn read_iv(s: &[u8], mode: u8, x: Span, iv: &mut [u8; 16]) -> bool {
+fn read_iv(s: &[u8], mode: u8, x: TextSpan, iv: &mut [u8; 16]) -> bool {
     if mode == ECB {
         return text::is_none(x);
     }
@@ -152,7 +152,7 @@ fn judge(
     name: &[u8],
     s: &[u8],
     section: u8,
-    count: Span,
+    count: TextSpan,
     way: u8,
     expected: &[u8],
     got: &[u8],

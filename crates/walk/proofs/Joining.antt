@@ -1,13 +1,13 @@
 -- WALK of sequences that are joined, and of fields that are written: what an accepted part counts does not depend on what follows it.
 -- Assumes nothing.
 use mathlib.Core.Path.{_≡_, refl, sym, ap, _∙_}
-use mathlib.Core.Bool.{Bool, true, false}
+use mathlib.Core.Bool.{Bool, true, false, _&&_}
 use mathlib.Core.List.{List, [], _∷_, _++_}
-use Prim.Native.Nat.{ℕ, zero, suc, _+_, _≤_}
+use Prim.Native.Nat.{ℕ, zero, suc, _+_, _≤_, _<_}
 use native.Mathlib.Nat.{add-zero}
 use native.Mathlib.Decide.{decLt}
 use native.Mathlib.Omega.{arith}
-use lib.Dec.{ltb, eqb}
+use lib.Dec.{ltb, leb, eqb}
 use lib.ListN.{length, take, drop, length-append, length-drop, List·getD-append}
 use lib.Seq.{take-append-le, drop-append-le, take-length, drop-append-seam}
 use borrow.Author.Tests.{le-ltb, ltb-false}
@@ -20,7 +20,7 @@ use Rattle.walk.specs.declared.Field.{Field}
 use Rattle.walk.specs.declared.Field.the-variants.{Whole, Faulty}
 use Rattle.walk.specs.declared.Walked.{Walked}
 use Rattle.walk.specs.declared.Walked.the-variants.{Fields, Refused}
-use Rattle.walk.specs.Walk.{asField, fieldWith, fieldOf, plus, andThen, valueOf, sequenceOf, walkOf}
+use Rattle.walk.specs.Walk.{asField, fieldWith, readField, plus, andThen, valueOf, sequenceOf, walkOf}
 use Rattle.walk.proofs.WalkFacts.{plus-none, plus-plus, Inside, field-inside, value-few, sequence-empty, sequence-step}
 
 -- ---- readHead: bytes that follow change no head that is read
@@ -28,22 +28,22 @@ abbrev Kept : List ℕ → Head → List ℕ → Type 0
 Kept s (Of h n) t = readHead (s ++ t) ≡ Of h n
 Kept s Unreadable t = Unit {0}
 
-second-kept : (tag n : ℕ) (s t : List ℕ) → ltb n 128 ≡ false → eqb n 129 ≡ true → Kept (tag ∷ n ∷ s) (readSecond s) t
+second-kept : (tag n : ℕ) (s t : List ℕ) → ltb n 128 ≡ false → eqb n 0x81 ≡ true → Kept (tag ∷ n ∷ s) (readSecond s) t
 second-kept tag n [] t p q = tt
 second-kept tag n (m ∷ s) t p q =
-    by-test (λ (h : Head). Kept (tag ∷ n ∷ m ∷ s) h t) (ltb m 128) (λ _. tt) (λ e. rw (p, q, e))
+    by-test (λ (h : Head). Kept (tag ∷ n ∷ m ∷ s) h t) (leb 128 m && ltb m 256) (λ e. rw (p, q, e)) (λ _. tt)
 
 head-kept : (s t : List ℕ) → Kept s (readHead s) t
 head-kept [] t = tt
 head-kept (tag ∷ []) t = tt
 head-kept (tag ∷ n ∷ s) t =
     by-test (λ (h : Head). Kept (tag ∷ n ∷ s) h t) (ltb n 128) (λ e. rw e)
-    (λ e. by-test (λ (h : Head). Kept (tag ∷ n ∷ s) h t) (eqb n 129) (λ g. second-kept tag n s t e g) (λ _. tt))
+    (λ e. by-test (λ (h : Head). Kept (tag ∷ n ∷ s) h t) (eqb n 0x81) (λ g. second-kept tag n s t e g) (λ _. tt))
 
--- ---- fieldOf: a field that is read stays the same before other bytes
+-- ---- readField: a field that is read stays the same before other bytes
 module _ (inside : List ℕ → Walked) (s t : List ℕ) where
   with-kept : (h : Head) → Within s h → Kept s h t → (c b : ℕ) → fieldWith inside s h ≡ Whole c b
-      → fieldOf inside (s ++ t) ≡ Whole c b
+      → readField inside (s ++ t) ≡ Whole c b
   unfolding fieldWith
   with-kept Unreadable w k c b e = absurd (let z : _≡_ {A = ℕ} 0 1 = cc in omega arith)
   with-kept (Of h n) w k c b e = ap (fieldWith inside (s ++ t)) k ∙ within (ltb (length s) (h + n)) refl e
@@ -61,7 +61,7 @@ module _ (inside : List ℕ → Walked) (s t : List ℕ) where
           absurd (let y : fieldWith inside s (Of h n) ≡ Faulty Malformed = rw g in let z : _≡_ {A = ℕ} 0 1 = cc in omega arith)
       within false g f = rest g ∙ f
 
-  pub field-kept : (c b : ℕ) → fieldOf inside s ≡ Whole c b → fieldOf inside (s ++ t) ≡ Whole c b
+  pub field-kept : (c b : ℕ) → readField inside s ≡ Whole c b → readField inside (s ++ t) ≡ Whole c b
   field-kept c b e = with-kept (readHead s) (head-within s) (head-kept s t) c b e
 
 -- ---- sequenceOf: an accepted sequence before another
@@ -69,7 +69,7 @@ module _ (levels : ℕ) (t : List ℕ) where
   Joins : List ℕ → Type 0
   Joins s = (a : ℕ) → sequenceOf levels s ≡ Fields a → sequenceOf levels (s ++ t) ≡ plus a (sequenceOf levels t)
 
-  after-field : (s : List ℕ) (c b : ℕ) (w : Walked) → (length s ≡ 0 → ⊥) → b ≤ length s → fieldOf (valueOf levels) s ≡ Whole c b
+  after-field : (s : List ℕ) (c b : ℕ) (w : Walked) → (length s ≡ 0 → ⊥) → b ≤ length s → readField (valueOf levels) s ≡ Whole c b
       → sequenceOf levels (drop b s) ≡ w → Joins (drop b s) → Joins s
   unfolding Joins
   after-field s c b (Refused f) h g p q ih a e =
@@ -84,7 +84,7 @@ module _ (levels : ℕ) (t : List ℕ) where
       (plus-plus c k (sequenceOf levels t) ∙ rw same)
 
   -- by what the first field is, where what is left behind any field joins
-  by-first : (s : List ℕ) (f : Field) → (length s ≡ 0 → ⊥) → fieldOf (valueOf levels) s ≡ f → Inside s f
+  by-first : (s : List ℕ) (f : Field) → (length s ≡ 0 → ⊥) → readField (valueOf levels) s ≡ f → Inside s f
       → ((b : ℕ) → 2 ≤ b → Joins (drop b s)) → Joins s
   unfolding Joins
   by-first s (Whole c b) h p i ih a e = after-field s c b (sequenceOf levels (drop b s)) h (i .1) p refl (ih b (i .0)) a e
@@ -105,7 +105,7 @@ module _ (levels : ℕ) (t : List ℕ) where
   joins (suc n) s l =
       elim (decLt 0 (length s)) [
         | yes p ↦
-            by-first s (fieldOf (valueOf levels) s) (λ z. omega arith) refl (field-inside (valueOf levels) (value-few levels) s)
+            by-first s (readField (valueOf levels) s) (λ z. omega arith) refl (field-inside (valueOf levels) (value-few levels) s)
             (λ b k. joins n (drop b s) (simp length-drop (omega arith)))
         | no p ↦ empty-joins s (omega arith)
       ]
@@ -123,8 +123,8 @@ sequence-sum levels s t a b p q = sequence-join levels t s a p ∙ ap (plus a) q
 pub walk-sum : (s t : List ℕ) (a b : ℕ) → walkOf s ≡ Fields a → walkOf t ≡ Fields b → walkOf (s ++ t) ≡ Fields (a + b)
 walk-sum = sequence-sum 4
 
--- ---- field: what is written is walked
-module _ (tag : ℕ) (v : List ℕ) where
+-- ---- field: what is written is walked, for every value whose length has a form
+module _ (tag : ℕ) (v : List ℕ) (brief : length v < 256) where
   h : ℕ
   h = length (fieldHead tag (length v))
 
@@ -142,7 +142,7 @@ module _ (tag : ℕ) (v : List ℕ) where
   walked : (levels : ℕ) → sequenceOf levels (field tag v) ≡ andThen (fieldWith (valueOf levels) (field tag v) (Of h (length v)))
       (λ (b : ℕ). sequenceOf levels (drop b (field tag v)))
   unfolding h
-  walked levels = sequence-step levels (field tag v) (λ z. omega arith) ∙ rw (read-length tag (length v) v)
+  walked levels = sequence-step levels (field tag v) (λ z. omega arith) ∙ rw (read-length tag (length v) v brief)
 
   pub walk-plain : (levels : ℕ) → isTemplate tag ≡ false → sequenceOf levels (field tag v) ≡ Fields 1
   unfolding fieldWith

@@ -21,7 +21,7 @@ use Rattle.walk.specs.declared.Field.{Field}
 use Rattle.walk.specs.declared.Field.the-variants.{Whole, Faulty}
 use Rattle.walk.specs.declared.Walked.{Walked}
 use Rattle.walk.specs.declared.Walked.the-variants.{Fields, Refused}
-use Rattle.walk.specs.Walk.{asField, fieldWith, fieldOf, plus, andThen, valueOf, sequenceOf}
+use Rattle.walk.specs.Walk.{asField, fieldWith, readField, plus, andThen, valueOf, sequenceOf}
 use Rattle.walk.proofs.WalkFacts.{plus-plus, Inside, field-inside, value-few, sequence-empty, sequence-step}
 
 -- ---- the value of a template
@@ -36,12 +36,12 @@ one-level (suc levels) v z = rw sub-one
 
 -- ---- a field whose head r has been read
 module _ (levels : ℕ) (s : List ℕ) (r : Head) (e : r ≡ readHead s) where
-  pub field-unreadable : r ≡ Unreadable → Faulty Malformed ≡ fieldOf (valueOf levels) s
+  pub field-unreadable : r ≡ Unreadable → Faulty Malformed ≡ readField (valueOf levels) s
   unfolding fieldWith
   field-unreadable g = ap (fieldWith (valueOf levels) s) (sym g ∙ e)
 
   module _ (h n : ℕ) (g : r ≡ Of h n) where
-    pub field-overruns : length s - h < n → Faulty Malformed ≡ fieldOf (valueOf levels) s
+    pub field-overruns : length s - h < n → Faulty Malformed ≡ readField (valueOf levels) s
     unfolding fieldWith
     field-overruns t =
         sym (rw (lt-ltb (length s) (h + n) (omega (arith, head-facts s r h n e g)))) ∙ ap (fieldWith (valueOf levels) s) (sym g ∙ e)
@@ -50,23 +50,23 @@ module _ (levels : ℕ) (s : List ℕ) (r : Head) (e : r ≡ readHead s) where
       ends : h + n ≤ length s
       ends = omega (arith, head-facts s r h n e g)
 
-      pub field-plain : (bitAnd (tagOf s) 32 ≡ 32 → ⊥) → Whole 1 (h + n) ≡ fieldOf (valueOf levels) s
+      pub field-plain : (bitAnd (tagOf s) 0x20 ≡ 0x20 → ⊥) → Whole 1 (h + n) ≡ readField (valueOf levels) s
       unfolding fieldWith
       field-plain u =
-          sym (rw (le-ltb (length s) (h + n) ends, ne-eqb (bitAnd (tagOf s) 32) 32 u)) ∙ ap (fieldWith (valueOf levels) s)
+          sym (rw (le-ltb (length s) (h + n) ends, ne-eqb (bitAnd (tagOf s) 0x20) 0x20 u)) ∙ ap (fieldWith (valueOf levels) s)
           (sym g ∙ e)
 
-      field-template : bitAnd (tagOf s) 32 ≡ 32 → asField (h + n) (valueOf levels (take n (drop h s))) ≡ fieldOf (valueOf levels) s
+      field-template : bitAnd (tagOf s) 0x20 ≡ 0x20 → asField (h + n) (valueOf levels (take n (drop h s))) ≡ readField (valueOf levels) s
       unfolding fieldWith
       field-template u =
-          sym (rw (le-ltb (length s) (h + n) ends, eq-eqb (bitAnd (tagOf s) 32) 32 u)) ∙ ap (fieldWith (valueOf levels) s)
+          sym (rw (le-ltb (length s) (h + n) ends, eq-eqb (bitAnd (tagOf s) 0x20) 0x20 u)) ∙ ap (fieldWith (valueOf levels) s)
           (sym g ∙ e)
 
-      pub field-too-deep : bitAnd (tagOf s) 32 ≡ 32 → levels ≡ 0 → Faulty TooDeep ≡ fieldOf (valueOf levels) s
+      pub field-too-deep : bitAnd (tagOf s) 0x20 ≡ 0x20 → levels ≡ 0 → Faulty TooDeep ≡ readField (valueOf levels) s
       field-too-deep u z = ap (asField (h + n)) (sym (no-level levels (take n (drop h s)) z)) ∙ field-template u
 
-      pub field-of-value : bitAnd (tagOf s) 32 ≡ 32 → (levels ≡ 0 → ⊥) → (w : Walked)
-          → w ≡ sequenceOf (levels - 1) (take (h + n - h) (drop h s)) → asField (h + n) w ≡ fieldOf (valueOf levels) s
+      pub field-of-value : bitAnd (tagOf s) 0x20 ≡ 0x20 → (levels ≡ 0 → ⊥) → (w : Walked)
+          → w ≡ sequenceOf (levels - 1) (take (h + n - h) (drop h s)) → asField (h + n) w ≡ readField (valueOf levels) s
       field-of-value u z w q =
           ap (asField (h + n))
           (q ∙ ap (λ (k : ℕ). sequenceOf (levels - 1) (take k (drop h s))) (add-sub-cancel-left h n) ∙ sym
@@ -74,9 +74,9 @@ module _ (levels : ℕ) (s : List ℕ) (r : Head) (e : r ≡ readHead s) where
           ∙ field-template u
 
 -- ---- a sequence whose field at a place has been read
-module _ (levels : ℕ) (s : List ℕ) (at : ℕ) (r : Field) (e : r ≡ fieldOf (valueOf levels) (take (length s - at) (drop at s))) where
-  here : r ≡ fieldOf (valueOf levels) (drop at s)
-  here = e ∙ ap (fieldOf (valueOf levels)) (part-from at s)
+module _ (levels : ℕ) (s : List ℕ) (at : ℕ) (r : Field) (e : r ≡ readField (valueOf levels) (take (length s - at) (drop at s))) where
+  here : r ≡ readField (valueOf levels) (drop at s)
+  here = e ∙ ap (readField (valueOf levels)) (part-from at s)
 
   pub field-facts : (c b : ℕ) → r ≡ Whole c b → (2 ≤ b) × (b ≤ length s - at) × (c ≤ b)
   field-facts c b g =

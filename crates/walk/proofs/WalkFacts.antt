@@ -18,7 +18,7 @@ use Rattle.walk.specs.declared.Field.{Field}
 use Rattle.walk.specs.declared.Field.the-variants.{Whole, Faulty}
 use Rattle.walk.specs.declared.Walked.{Walked}
 use Rattle.walk.specs.declared.Walked.the-variants.{Fields, Refused}
-use Rattle.walk.specs.Walk.{asField, fieldWith, fieldOf, plus, andThen, fieldsOf, valueOf, sequenceOf, walkOf}
+use Rattle.walk.specs.Walk.{asField, fieldWith, readField, plus, andThen, fieldsOf, valueOf, sequenceOf, walkOf}
 
 -- ---- plus
 pub plus-none : (w : Walked) → plus 0 w ≡ w
@@ -34,7 +34,7 @@ abbrev pub counted : Walked → ℕ
 counted (Fields n) = n
 counted (Refused f) = 0
 
--- ---- fieldOf: a field takes at least 2 bytes of s, and counts no more fields than it has bytes
+-- ---- readField: a field takes at least 2 bytes of s, and counts no more fields than it has bytes
 abbrev pub Inside : List ℕ → Field → Type 0
 Inside s (Whole c b) = (2 ≤ b) × (b ≤ length s) × (c ≤ b)
 Inside s (Faulty f) = Unit {0}
@@ -55,7 +55,7 @@ module _ (inside : List ℕ → Walked) (few : (t : List ℕ) → counted (insid
       (λ _. template-inside s (h + n) (inside (take n (drop h s))) (omega arith) ends (omega (arith, few (take n (drop h s)))))
       (λ _. (omega arith, ends, omega arith)))
 
-  pub field-inside : (s : List ℕ) → Inside s (fieldOf inside s)
+  pub field-inside : (s : List ℕ) → Inside s (readField inside s)
   field-inside s = with-inside s (readHead s) (head-within s)
 
   -- ---- andThen
@@ -79,7 +79,7 @@ module _ (inside : List ℕ → Walked) (few : (t : List ℕ) → counted (insid
   fields-few zero s = omega arith
   fields-few (suc n) s =
       by-test (λ (w : Walked). counted w ≤ length s) (eqb (length s) 0) (λ _. omega arith)
-      (λ _. then-few s (fieldOf inside s) (λ (b : ℕ). fieldsOf inside n (drop b s)) (field-inside s) (λ b. fields-few n (drop b s)))
+      (λ _. then-few s (readField inside s) (λ (b : ℕ). fieldsOf inside n (drop b s)) (field-inside s) (λ b. fields-few n (drop b s)))
 
   -- as many fields as there are bytes are enough
   pub fields-enough : (m n : ℕ) (s : List ℕ) → length s ≤ m → length s ≤ n → fieldsOf inside m s ≡ fieldsOf inside n s
@@ -89,17 +89,17 @@ module _ (inside : List ℕ → Walked) (few : (t : List ℕ) → counted (insid
   fields-enough (suc m) zero s p q = rw (eq-eqb (length s) 0 (omega arith))
   fields-enough (suc m) (suc n) s p q =
       ap (cond (eqb (length s) 0) (Fields 0))
-      (then-same s (fieldOf inside s) (λ (b : ℕ). fieldsOf inside m (drop b s)) (λ (b : ℕ). fieldsOf inside n (drop b s))
+      (then-same s (readField inside s) (λ (b : ℕ). fieldsOf inside m (drop b s)) (λ (b : ℕ). fieldsOf inside n (drop b s))
       (field-inside s)
       (λ b l g. fields-enough m n (drop b s) (simp length-drop (omega arith)) (simp length-drop (omega arith))))
 
   pub fields-step : (n : ℕ) (s : List ℕ) → length s ≡ n → (n ≡ 0 → ⊥)
-      → fieldsOf inside n s ≡ andThen (fieldOf inside s) (λ (b : ℕ). fieldsOf inside (length (drop b s)) (drop b s))
+      → fieldsOf inside n s ≡ andThen (readField inside s) (λ (b : ℕ). fieldsOf inside (length (drop b s)) (drop b s))
   unfolding fieldsOf
   fields-step zero s e h = absurd (h refl)
   fields-step (suc n) s e h =
       rw (ne-eqb (length s) 0 (λ z. h (sym e ∙ z)))
-      (then-same s (fieldOf inside s) (λ (b : ℕ). fieldsOf inside n (drop b s))
+      (then-same s (readField inside s) (λ (b : ℕ). fieldsOf inside n (drop b s))
       (λ (b : ℕ). fieldsOf inside (length (drop b s)) (drop b s)) (field-inside s)
       (λ b l g. fields-enough n (length (drop b s)) (drop b s) (simp length-drop (omega arith)) (omega arith)))
 
@@ -117,7 +117,7 @@ unfolding fieldsOf
 sequence-empty d s e = rw e
 
 pub sequence-step : (levels : ℕ) (s : List ℕ) → (length s ≡ 0 → ⊥)
-    → sequenceOf levels s ≡ andThen (fieldOf (valueOf levels) s) (λ (b : ℕ). sequenceOf levels (drop b s))
+    → sequenceOf levels s ≡ andThen (readField (valueOf levels) s) (λ (b : ℕ). sequenceOf levels (drop b s))
 sequence-step d s h = fields-step (valueOf d) (value-few d) (length s) s refl h
 
 -- empty input counts 0

@@ -5,6 +5,7 @@ use mathlib.Core.List.{List}
 use Prim.Native.Nat.{ℕ, zero, suc, _+_}
 use lib.Dec.{ltb, eqb}
 use lib.ListN.{length, take, drop}
+use Rattle.refusals.specs.Refusals.{noRefusal, malformed, tooDeep}
 use Rattle.template.specs.declared.Head.{Head}
 use Rattle.template.specs.declared.Head.the-variants.{Of, Unreadable}
 use Rattle.template.specs.Template.{readHead, tagOf, isTemplate}
@@ -27,8 +28,8 @@ fieldWith inside s (Of h n) =
     cond (ltb (length s) (h + n)) (Faulty Malformed)
     (cond (isTemplate (tagOf s)) (asField (h + n) (inside (take n (drop h s)))) (Whole 1 (h + n)))
 
-abbrev pub fieldOf : (List ℕ → Walked) → List ℕ → Field
-fieldOf inside s = fieldWith inside s (readHead s)
+abbrev pub readField : (List ℕ → Walked) → List ℕ → Field
+readField inside s = fieldWith inside s (readHead s)
 
 abbrev pub plus : ℕ → Walked → Walked
 plus c (Fields n) = Fields (c + n)
@@ -43,7 +44,7 @@ andThen (Faulty f) rest = Refused f
 unfoldable pub fieldsOf : (List ℕ → Walked) → ℕ → List ℕ → Walked
 fieldsOf inside zero s = Fields 0
 fieldsOf inside (suc n) s =
-    cond (eqb (length s) 0) (Fields 0) (andThen (fieldOf inside s) (λ (bytes : ℕ). fieldsOf inside n (drop bytes s)))
+    cond (eqb (length s) 0) (Fields 0) (andThen (readField inside s) (λ (bytes : ℕ). fieldsOf inside n (drop bytes s)))
 
 -- the value of a template, where this many more levels may be entered
 unfoldable pub valueOf : ℕ → List ℕ → Walked
@@ -60,17 +61,17 @@ walkOf s = sequenceOf 4 s
 
 -- the number of each refusal (01, Operations and numbered refusals)
 abbrev pub refusalNumber : Fault → ℕ
-refusalNumber Malformed = 4
-refusalNumber TooDeep = 5
+refusalNumber Malformed = malformed
+refusalNumber TooDeep = tooDeep
 
--- what each answer says in those terms: the number of the refusal, 0 for none, and the count of fields
-pub record Report : Type 0 where
+-- what each answer says in those terms: the number of the refusal or of none, and the count of fields
+pub record WalkOut : Type 0 where
   pub refusal : ℕ
   pub count : ℕ
 
-abbrev pub report : Walked → Report
-report (Fields n) = record { refusal = 0; count = n }
+abbrev pub report : Walked → WalkOut
+report (Fields n) = record { refusal = noRefusal; count = n }
 report (Refused f) = record { refusal = refusalNumber f; count = 0 }
 
-abbrev pub WALK : List ℕ → Report
+abbrev pub WALK : List ℕ → WalkOut
 WALK s = report (walkOf s)

@@ -2,7 +2,10 @@
 // Every length is in bytes; depth is counted in templates, a template at the top being at depth 1.
 // Proved: for any bytes the answer is what the definition of WALK gives. Calls nest only as deep as templates do.
 ghost use mathlib.Core.Path.{_≡_};
-ghost use Rattle.walk.specs.Walk.{fieldOf, valueOf, sequenceOf, walkOf, report, WALK};
+ghost use Rattle.walk.specs.Walk.{readField, valueOf, sequenceOf, walkOf, report, WALK};
+use refusals::REFUSAL_MALFORMED;
+use refusals::REFUSAL_NONE;
+use refusals::REFUSAL_TOO_DEEP;
 use template::Head;
 use template::read_head;
 
@@ -30,7 +33,7 @@ pub enum Field {
 
 // The field that begins s, where templates may nest this many levels from here.
 fn read_field(s: &[u8], levels: usize) -> Field
-    ensures { λ r. ⌜ r ≡ fieldOf (valueOf levels) (now (s .entry)) ⌝ }
+    ensures { λ r. ⌜ r ≡ readField (valueOf levels) (now (s .entry)) ⌝ }
 {
     let Head::Of {
         head_bytes,
@@ -86,15 +89,15 @@ pub fn walk(s: &[u8]) -> Walked
     read_sequence(s, MAX_DEPTH)
 }
 
-// The number that WALK's refusal has in the paper, 0 where there is none.
+// The number of WALK's refusal, or of none.
 pub fn refusal(w: Walked) -> u8
     ensures { λ r. ⌜ r ≡ report w .refusal ⌝ }
 {
     match w {
-        Walked::Fields(_) => 0,
+        Walked::Fields(_) => REFUSAL_NONE,
         Walked::Refused(fault) => match fault {
-            Fault::Malformed => 4,
-            Fault::TooDeep => 5,
+            Fault::Malformed => REFUSAL_MALFORMED,
+            Fault::TooDeep => REFUSAL_TOO_DEEP,
         },
     }
 }

@@ -8,7 +8,7 @@ ghost use lib.ListN.{length, take, drop};
 ghost use Rattle.words.specs.Words.{isBlank, blanks, letters, wordOf, wordCount, isComment, lineBytes};
 
 // A part of a line: from byte `start` up to byte `end`, which is not in it.
-pub struct Span {
+pub struct WordSpan {
     pub start: usize,
     pub end: usize,
 }
@@ -62,7 +62,7 @@ fn behind_word(s: &[u8], at: usize) -> usize
 }
 
 // Word number k of a line, from 0; where there are fewer, none of its bytes.
-pub fn word(s: &[u8], k: usize) -> Span
+pub fn word(s: &[u8], k: usize) -> WordSpan
     ensures { λ r. ⌜ (r .start ≤ r .end) × (r .end ≤ length (now (s .entry))) ⌝ }
     ensures { λ r. ⌜ take (r .end - r .start) (drop (r .start) (now (s .entry))) ≡ wordOf k (now (s .entry)) ⌝ }
 {
@@ -74,7 +74,7 @@ pub fn word(s: &[u8], k: usize) -> Span
         i += 1;
     }
     let end = behind_word(s, at);
-    Span { start: at, end }
+    WordSpan { start: at, end }
 }
 
 fn one(b: bool) -> usize

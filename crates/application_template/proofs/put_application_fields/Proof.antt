@@ -14,7 +14,7 @@ put-field-requires-2 c κs =
     let b3 = c .before .before .before in
     let b9 = b3 .before .before .before .before .before .before in
     let a = b9 .args in let p = b9 .pre in
-    let u = short-field 143 (a .uid .now) (omega (arith, p .0)) in
+    let u = short-field 0x8F (a .uid .now) (omega (arith, p .0)) in
     (omega (arith, p .1), omega (arith, p .0, p .1, p .3, b3 .put-field .ensures .place, b3 .put-field .kept .0))
 
 slice-aggregate-put-field : tie.Need-slice-aggregate-put-field
@@ -26,8 +26,8 @@ put-field-requires-3 c κs =
     let b8 = b4 .before .before .before .before in
     let b14 = b8 .before .before .before .before .before .before in
     let a = b14 .args in let p = b14 .pre in
-    let u = short-field 143 (a .uid .now) (omega (arith, p .0)) in
-    let k = short-field 128 (a .key .now) (omega (arith, p .1)) in (
+    let u = short-field 0x8F (a .uid .now) (omega (arith, p .0)) in
+    let k = short-field 0x80 (a .key .now) (omega (arith, p .1)) in (
       omega arith,
       omega (
         arith,
@@ -51,8 +51,8 @@ put-field-requires-4 c κs =
     let b13 = b9 .before .before .before .before in
     let b19 = b13 .before .before .before .before .before .before in
     let a = b19 .args in let p = b19 .pre in
-    let u = short-field 143 (a .uid .now) (omega (arith, p .0)) in
-    let k = short-field 128 (a .key .now) (omega (arith, p .1)) in (
+    let u = short-field 0x8F (a .uid .now) (omega (arith, p .0)) in
+    let k = short-field 0x80 (a .key .now) (omega (arith, p .1)) in (
       omega arith,
       omega (
         arith,
@@ -76,8 +76,8 @@ put-field-requires-5 c κs =
     let b17 = b13 .before .before .before .before in
     let b23 = b17 .before .before .before .before .before .before in
     let a = b23 .args in let p = b23 .pre in
-    let u = short-field 143 (a .uid .now) (omega (arith, p .0)) in
-    let k = short-field 128 (a .key .now) (omega (arith, p .1)) in (
+    let u = short-field 0x8F (a .uid .now) (omega (arith, p .0)) in
+    let k = short-field 0x80 (a .key .now) (omega (arith, p .1)) in (
       omega (arith, p .2),
       omega (
         arith,

@@ -38,7 +38,7 @@ put-application-fields-requires c κs =
         small,
         b3 .put-head .ensures .place,
         b3 .put-head .kept .0,
-        short-head 164 (n .result) (omega (arith, n .ensures, small)),
+        short-head 0xA4 (n .result) (omega (arith, n .ensures, small)),
       ),
     )
 
@@ -53,7 +53,7 @@ returns c =
     let a = b13 .args in let n = b8 .application-bytes in
     let fields = applicationFields (a .uid .now) (a .key .now) (a .free-slots) (a .key-uid .now) in
     wrote-same
-    (ap (λ (k : ℕ). fieldHead 164 k ++ fields)
+    (ap (λ (k : ℕ). fieldHead 0xA4 k ++ fields)
     (n .ensures ∙ sym (application-length (a .uid .now) (a .key .now) (a .free-slots) (a .key-uid .now))))
     (wrote-both {u = fields} (b6 .put-head .ensures) (c .before .before .put-application-fields .ensures))
 

@@ -2,7 +2,7 @@
 -- Assumes nothing.
 use mathlib.Core.Path.{ap, _∙_}
 use borrow.Author.Needs.{needs}
-use Rattle.walk.specs.Walk.{Report}
+use Rattle.walk.specs.Walk.{WalkOut}
 use Rattle.byte_calls.proofs.walk.Statement.{statement}
 use Rattle.byte_calls.proofs.walk.Tie as tie
 
@@ -16,7 +16,7 @@ count-requires : tie.Need-count-requires
 count-requires c κs = search needs
 
 returns : tie.Need-returns
-returns c = (c .before .refusal .ensures ∙ ap (λ (x : Report). x .refusal) (c .before .before .walk .ensures .1), c .count .ensures ∙ ap (λ (x : Report). x .count) (c .before .before .walk .ensures .1))
+returns c = (c .before .refusal .ensures ∙ ap (λ (x : WalkOut). x .refusal) (c .before .before .walk .ensures .1), c .count .ensures ∙ ap (λ (x : WalkOut). x .count) (c .before .before .walk .ensures .1))
 
 pub walk-spec : {M : Type 1} → statement M
 walk-spec = tie.close (tie.spec walk-requires refusal-requires count-requires returns)

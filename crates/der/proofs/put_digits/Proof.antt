@@ -45,14 +45,14 @@ put-requires c κs =
     let b4 = c .before .before .before .before in
     let b10 = b4 .before .before .before .before .before .before in
     let h = b4 .put-head in let d = b10 .args .digits .now in
-    omega (arith, h .ensures .place, h .kept .0, b10 .pre, head-length-le 2 (length d + 1))
+    omega (arith, h .ensures .place, h .kept .0, b10 .pre, head-length-le 0x02 (length d + 1))
 
 add-put : tie.Need-add-put
 add-put c =
     let b8 = c .before .before .before .before .before .before .before .before in
     let b14 = b8 .before .before .before .before .before .before in
     let h = b8 .put-head in let d = b14 .args .digits .now in
-    omega (arith, h .ensures .place, b14 .pre, head-length-le 2 (length d + 1))
+    omega (arith, h .ensures .place, b14 .pre, head-length-le 0x02 (length d + 1))
 
 put-requires-2 : tie.Need-put-requires-2
 put-requires-2 c κs =
@@ -60,21 +60,21 @@ put-requires-2 c κs =
     let b8 = b3 .before .before .before .before .before in
     let b14 = b8 .before .before .before .before .before .before in
     let h = b8 .put-head in let d = b14 .args .digits .now in
-    omega (arith, h .ensures .place, h .kept .0, b3 .put .kept .0, b14 .pre, head-length-le 2 (length d + 1))
+    omega (arith, h .ensures .place, h .kept .0, b3 .put .kept .0, b14 .pre, head-length-le 0x02 (length d + 1))
 
 add-result : tie.Need-add-result
 add-result c =
     let b11 = c .before .before .before .before .before .before .before .before .before .before .before in
     let b17 = b11 .before .before .before .before .before .before in
     let h = b11 .put-head in let d = b17 .args .digits .now in
-    omega (arith, h .ensures .place, b17 .pre, head-length-le 2 (length d + 1))
+    omega (arith, h .ensures .place, b17 .pre, head-length-le 0x02 (length d + 1))
 
 add-result-2 : tie.Need-add-result-2
 add-result-2 c =
     let b11 = c .before .before .before .before .before .before .before .before .before .before .before in
     let b17 = b11 .before .before .before .before .before .before in
     let h = b11 .put-head in let d = b17 .args .digits .now in
-    omega (arith, h .ensures .place, b17 .pre, head-length-le 2 (length d + 1))
+    omega (arith, h .ensures .place, b17 .pre, head-length-le 0x02 (length d + 1))
 
 same-length-2 : tie.Need-same-length-2
 same-length-2 c = search needs

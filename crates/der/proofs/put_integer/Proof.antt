@@ -40,7 +40,7 @@ returns c =
     let b5 = c .before .before .before .before .before in
     let b8 = b5 .before .before .before in
     let s = b8 .args .number .now in let z = b5 .leading-zeros in
-    wrote-same (ap (λ (d : List ℕ). field 2 (withSign d)) (part-from (z .result) s ∙ ap (λ (k : ℕ). drop k s) (z .ensures)))
+    wrote-same (ap (λ (d : List ℕ). field 0x02 (withSign d)) (part-from (z .result) s ∙ ap (λ (k : ℕ). drop k s) (z .ensures)))
     (c .before .before .put-digits .ensures)
 
 pub put-integer-spec : {M : Type 1} → statement M

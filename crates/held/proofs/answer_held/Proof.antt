@@ -43,9 +43,9 @@ use Rattle.card.proofs.Card.Laws as T′
 use Rattle.rules.specs.Engine.{answerOut}
 use Rattle.responses.specs.Did.{AnswerDid}
 use Rattle.lent.specs.Left.{reportOf}
-use Rattle.lent_reads.specs.declared.Report.{Report}
-use Rattle.lent_reads.proofs.Report as R
-use Rattle.lent_reads.proofs.Report.Laws as R′
+use Rattle.lent_reads.specs.declared.LentAnswer.{LentAnswer}
+use Rattle.lent_reads.proofs.LentAnswer as R
+use Rattle.lent_reads.proofs.LentAnswer.Laws as R′
 use Rattle.held.specs.declared.Reported.{Reported}
 use Rattle.held.proofs.Reported as S
 use Rattle.held.proofs.Reported.Laws as S′
@@ -88,26 +88,26 @@ module _ {M : Type 1} (𝓤 : URA M) (H : Heap 𝓤) (A : Atoms 𝓤) (W : Given
   abbrev κs : Lfts 3
   κs = (κ₁, (κ₂, (κ₃, tt)))
 
-  abbrev all : Report → Card → Reported
+  abbrev all : LentAnswer → Card → Reported
   all r c = record { told = r; card = c }
 
-  abbrev machR : Report → Val
+  abbrev machR : LentAnswer → Val
   machR r = LL.tuple-val R.the-type R′.the-laws (R.the-type .to r)
 
-  abbrev machS : Report → Card → Val
+  abbrev machS : LentAnswer → Card → Val
   machS r c = LL.tuple-val S.the-type S′.the-laws (S.the-type .to (all r c))
 
-  made : (r : Report) (c : Card) → Is R.the-row r (machR r ∷ []) → IsCard c → Is S.the-row (all r c) (machS r c ∷ [])
+  made : (r : LentAnswer) (c : Card) → Is R.the-row r (machR r ∷ []) → IsCard c → Is S.the-row (all r c) (machS r c ∷ [])
   made r c is p = LL.owes S.the-type S′.the-laws (all r c) (is, (p, tt))
 
   -- what the call says of its report, of the card that it leaves and of the buffer
-  abbrev Says : Report → Card → List ℕ → Type 0
+  abbrev Says : LentAnswer → Card → List ℕ → Type 0
   Says r c zs = AnswerDid (answerOut h (cmd .now) (sup .now) (length ys)) (reportOf r c) ys zs
 
   abbrev Post : Val → SProp 𝓤
   Post = walkOf 𝓤 H A f.ended stayed (f.clauses 𝓤 H A at-mem run) .post ((κs, (q₁, (q₂, (q₃, tt))), tt, (h, refs), (mach h ∷ [], vals)), tt)
 
-  exits : (r : Report) (c : Card) (zs : List ℕ) → Says r c zs → length zs ≡ length ys → Is S.the-row (all r c) (machS r c ∷ []) → ent 𝓤 (⋆ 𝓤 H A ((‵ (flft κ₁ q₁) ⊛ ‵ (flft κ₂ q₂) ⊛ ‵ (flft κ₃ q₃) ⊛ ‵ ftrue) ∷ ‵ (finally u8 γ₀ zs) ∷ [])) (Post (machS r c))
+  exits : (r : LentAnswer) (c : Card) (zs : List ℕ) → Says r c zs → length zs ≡ length ys → Is S.the-row (all r c) (machS r c ∷ []) → ent 𝓤 (⋆ 𝓤 H A ((‵ (flft κ₁ q₁) ⊛ ‵ (flft κ₂ q₂) ⊛ ‵ (flft κ₃ q₃) ⊛ ‵ ftrue) ∷ ‵ (finally u8 γ₀ zs) ∷ [])) (Post (machS r c))
   exits r c zs e l is =
       qed W ((‵ (flft κ₁ q₁) ⊛ ‵ (flft κ₂ q₂) ⊛ ‵ (flft κ₃ q₃) ⊛ ‵ ftrue) ∷ ‵ (finally u8 γ₀ zs) ∷ []) ∵
       suffices ! _ (ends-at 𝓤 H A f.ended stayed (f.clauses 𝓤 H A at-mem run) W ((κs, (q₁, (q₂, (q₃, tt))), tt, (h, refs), (mach h ∷ [], vals)), tt) (machS r c) (all r c) (tt, (tt, (tt, (zs, tt)))) (tt, (tt, (tt, (l, tt))))) $ says ! e $
@@ -137,7 +137,7 @@ module _ {M : Type 1} (𝓤 : URA M) (H : Heap 𝓤) (A : Atoms 𝓤) (W : Given
         -- [the token; what is lent; what the lender keeps; the locals; what the slices own; their tokens]
         move ! (1 ∷ 24 ∷ []) $ fjoin ! $ move ! (1 ∷ 24 ∷ []) $ join ! $ use2 W (raw (G 𝓤 H A at-mem run .pre (to α γ l₅))) (asked α γ l₅) $
         calls-at ! fm (G 𝓤 H A at-mem run) known (to α γ l₅) (and-then ! (load ! (from ! (stop !)) (look ! 8 refl)) (and-then ! (load ! (from ! (stop !)) (look ! 17 refl)) (and-then ! (load ! (from ! (stop !)) (look ! 15 refl)) (and-then ! (load ! (from ! (stop !)) (look ! 4 refl)) (no-more !))))) (λ v.
-        use1 W (later (some (λ (r : Report). ((‵ (flft (α ∷ []) fullShare) ⊛ ‵ (flft κ₁ q₁) ⊛ ‵ (flft κ₂ q₂) ⊛ ‵ (flft κ₃ q₃) ⊛ ‵ ftrue) ⊛ ‵ (R.the-row .own r (v ∷ []))) ⊛ raw (ensured 𝓤 H A g.ended (g.clauses 𝓤 H A at-mem run) (α ∷ [], κs) (ref l₅ γ h, refs) tt r)))) (id⊢ 𝓤 _) $ await ! tt $ pick ! (λ r.
+        use1 W (later (some (λ (r : LentAnswer). ((‵ (flft (α ∷ []) fullShare) ⊛ ‵ (flft κ₁ q₁) ⊛ ‵ (flft κ₂ q₂) ⊛ ‵ (flft κ₃ q₃) ⊛ ‵ ftrue) ⊛ ‵ (R.the-row .own r (v ∷ []))) ⊛ raw (ensured 𝓤 H A g.ended (g.clauses 𝓤 H A at-mem run) (α ∷ [], κs) (ref l₅ γ h, refs) tt r)))) (id⊢ 𝓤 _) $ await ! tt $ pick ! (λ r.
         split ! $ move ! (1 ∷ []) $ use1 W (some (λ (zs : Card × (Unit {0} × (Unit {0} × (List ℕ × Unit {0})))). ‵ (lasts g.ended (α ∷ [], κs) (ref l₅ γ h, refs) zs) ⊛ raw (fact 𝓤 (Says r (zs .0) (zs .1 .1 .1 .0))))) (id⊢ 𝓤 _) $ pick ! (λ zs.
         split ! $ move ! (1 ∷ []) $ heard ! (Says r (zs .0) (zs .1 .1 .1 .0)) (λ e. fsplit ! $ move ! (1 ∷ []) $ fsplit ! $ drop ! $ fsplit ! $ drop ! $ fsplit ! $ fsplit ! $ move ! (1 ∷ []) $ feqL ! (λ l.
         move ! (1 ∷ []) $ drop ! $ move ! (2 ∷ []) $ split ! $ move ! (1 ∷ []) $ peeks ! R.the-row (Is R.the-row) (shows 𝓤 H A R.the-row) r (v ∷ []) (λ is.

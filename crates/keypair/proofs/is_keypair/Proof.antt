@@ -21,34 +21,34 @@ enum-told c = search needs
 returns : tie.Need-returns
 returns c =
     let b4 = c .before .before .before .before in
-    keypair-unreadable (b4 .args .chain) (b4 .args .s .now) _ (c .before .before .read-head .ensures) (c .enum-told .given .1)
+    keypair-unreadable (b4 .args .chain) (b4 .args .s .now) _ (c .before .before .read-head .ensures .0) (c .enum-told .given .1)
 
 shared-slice-read-if1 : tie.Need-shared-slice-read-if1
 shared-slice-read-if1 c =
     let b4 = c .before .before .before .before in
     let b6 = b4 .before .before in
-    omega (arith, head-facts (b6 .args .s .now) _ _ _ (b4 .read-head .ensures) (c .before .before .head-bytes .given .1))
+    omega (arith, head-facts (b6 .args .s .now) _ _ _ (b4 .read-head .ensures .0) (c .before .before .head-bytes .given .1))
 
 returns-2 : tie.Need-returns-2
 returns-2 c =
     let b3 = c .before .before .before in
     let b5 = b3 .before .before in
     let b7 = b5 .before .before in
-    other-tag (b7 .args .chain) (b7 .args .s .now) _ (b5 .read-head .ensures) _ _ (b3 .head-bytes .given .1) (c .if1 .taken)
+    other-tag (b7 .args .chain) (b7 .args .s .now) _ (b5 .read-head .ensures .0) _ _ (b3 .head-bytes .given .1) (c .if1 .taken)
 
 sub-if2 : tie.Need-sub-if2
 sub-if2 c =
     let b3 = c .before .before .before in
     let b5 = b3 .before .before in
     let b7 = b5 .before .before in
-    omega (arith, head-facts (b7 .args .s .now) _ _ _ (b5 .read-head .ensures) (b3 .head-bytes .given .1))
+    omega (arith, head-facts (b7 .args .s .now) _ _ _ (b5 .read-head .ensures .0) (b3 .head-bytes .given .1))
 
 returns-3 : tie.Need-returns-3
 returns-3 c =
     let b4 = c .before .before .before .before in
     let b6 = b4 .before .before in
     let b8 = b6 .before .before in
-    other-length (b8 .args .chain) (b8 .args .s .now) _ (b6 .read-head .ensures) _ _ (b4 .head-bytes .given .1)
+    other-length (b8 .args .chain) (b8 .args .s .now) _ (b6 .read-head .ensures .0) _ _ (b4 .head-bytes .given .1)
     (c .before .if1 .left) (c .if2 .taken)
 
 sub-value : tie.Need-sub-value
@@ -56,14 +56,14 @@ sub-value c =
     let b4 = c .before .before .before .before in
     let b6 = b4 .before .before in
     let b8 = b6 .before .before in
-    omega (arith, head-facts (b8 .args .s .now) _ _ _ (b6 .read-head .ensures) (b4 .head-bytes .given .1))
+    omega (arith, head-facts (b8 .args .s .now) _ _ _ (b6 .read-head .ensures .0) (b4 .head-bytes .given .1))
 
 part-value-start : tie.Need-part-value-start
 part-value-start c =
     let b4 = c .before .before .before .before in
     let b6 = b4 .before .before in
     let b8 = b6 .before .before in
-    omega (arith, head-facts (b8 .args .s .now) _ _ _ (b6 .read-head .ensures) (b4 .head-bytes .given .1))
+    omega (arith, head-facts (b8 .args .s .now) _ _ _ (b6 .read-head .ensures .0) (b4 .head-bytes .given .1))
 
 part-value-end : tie.Need-part-value-end
 part-value-end c = search needs
@@ -102,7 +102,7 @@ returns-4 c =
     let b9 = b6 .before .before .before in
     let b11 = b9 .before .before in
     let b13 = b11 .before .before in
-    keypair-with (b13 .args .chain) (b13 .args .s .now) _ (b11 .read-head .ensures) _ _ (b9 .head-bytes .given .1) (b6 .if1 .left)
+    keypair-with (b13 .args .chain) (b13 .args .s .now) _ (b11 .read-head .ensures .0) _ _ (b9 .head-bytes .given .1) (b6 .if1 .left)
     (b5 .if2 .left) _ (sym (b3 .begins-with .ensures) ∙ c .before .before .if3 .taken) (c .is-private .ensures)
 
 is-private-requires-2 : tie.Need-is-private-requires-2
@@ -115,7 +115,7 @@ returns-5 c =
     let b8 = b5 .before .before .before in
     let b10 = b8 .before .before in
     let b12 = b10 .before .before in
-    keypair-without (b12 .args .chain) (b12 .args .s .now) _ (b10 .read-head .ensures) _ _ (b8 .head-bytes .given .1)
+    keypair-without (b12 .args .chain) (b12 .args .s .now) _ (b10 .read-head .ensures .0) _ _ (b8 .head-bytes .given .1)
     (b5 .if1 .left) (b4 .if2 .left) _ (sym (c .before .before .begins-with .ensures) ∙ c .before .if3 .left)
     (c .is-private2 .ensures)
 

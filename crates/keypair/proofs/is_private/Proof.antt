@@ -21,12 +21,12 @@ add-rest c = search needs
 sub-rest : tie.Need-sub-rest
 sub-rest c =
     let b3 = c .before .before .before in
-    begins-facts 129 32 (b3 .args .s .now) (sym (c .before .begins-with .ensures) ∙ not-false _ (c .if1 .left)) .2
+    begins-facts 0x81 32 (b3 .args .s .now) (sym (c .before .begins-with .ensures) ∙ not-false _ (c .if1 .left)) .2
 
 part-rest-start : tie.Need-part-rest-start
 part-rest-start c =
     let b3 = c .before .before .before in
-    begins-facts 129 32 (b3 .args .s .now) (sym (c .before .begins-with .ensures) ∙ not-false _ (c .if1 .left)) .2
+    begins-facts 0x81 32 (b3 .args .s .now) (sym (c .before .begins-with .ensures) ∙ not-false _ (c .if1 .left)) .2
 
 part-rest-end : tie.Need-part-rest-end
 part-rest-end c = search needs

@@ -48,9 +48,9 @@ use Rattle.engine.proofs.answer as g
 use Rattle.engine.proofs.answer.Symbol as g-def
 use Rattle.engine.proofs.answer.Symbol.{name as #g}
 use Rattle.engine.proofs.answer.Met as g-thm
-use Rattle.lent_reads.specs.declared.Report.{Report}
-use Rattle.lent_reads.proofs.Report as R
-use Rattle.lent_reads.proofs.Report.Laws as R′
+use Rattle.lent_reads.specs.declared.LentAnswer.{LentAnswer}
+use Rattle.lent_reads.proofs.LentAnswer as R
+use Rattle.lent_reads.proofs.LentAnswer.Laws as R′
 use Rattle.lent_reset.proofs.Lending.{mach, seen, lent, fits, opened, closed, given}
 use Rattle.lent.proofs.answer_lent.Key.{name as #f}
 use Rattle.lent.proofs.answer_lent as f
@@ -92,7 +92,7 @@ module _ {M : Type 1} (𝓤 : URA M) (H : Heap 𝓤) (A : Atoms 𝓤) (W : Given
   abbrev machS : Answered → Val
   machS r = LL.tuple-val S.the-type S′.the-laws (S.the-type .to r)
 
-  abbrev rep : Answered → Report
+  abbrev rep : Answered → LentAnswer
   rep r = record { refusal = r .refusal; count = r .count }
 
   abbrev machR : Answered → Val

@@ -40,16 +40,16 @@ use denote.Exit.{yes}
 use Rattle.card.specs.declared.Card.{Card}
 use Rattle.card.proofs.Card as T
 use Rattle.record_write.specs.declared.Written.{Written}
-use Rattle.record_write.specs.Wrote.{Wrote}
+use Rattle.record_write.specs.Wrote.{WroteRecord}
 use Rattle.record_write.proofs.Written as S
 use Rattle.record_write.proofs.Written.Laws as S′
 use Rattle.record_write.proofs.write as g
 use Rattle.record_write.proofs.write.Symbol as g-def
 use Rattle.record_write.proofs.write.Symbol.{name as #g}
 use Rattle.record_write.proofs.write.Met as g-thm
-use Rattle.lent_reads.specs.declared.Report.{Report}
-use Rattle.lent_reads.proofs.Report as R
-use Rattle.lent_reads.proofs.Report.Laws as R′
+use Rattle.lent_reads.specs.declared.LentAnswer.{LentAnswer}
+use Rattle.lent_reads.proofs.LentAnswer as R
+use Rattle.lent_reads.proofs.LentAnswer.Laws as R′
 use Rattle.lent_reset.proofs.Lending.{mach, shared, fits, looked, shut, given}
 use Rattle.lent_reads.proofs.write_lent.Key.{name as #f}
 use Rattle.lent_reads.proofs.write_lent as f
@@ -85,7 +85,7 @@ module _ {M : Type 1} (𝓤 : URA M) (H : Heap 𝓤) (A : Atoms 𝓤) (W : Given
   abbrev machS : Written → Val
   machS r = LL.tuple-val S.the-type S′.the-laws (S.the-type .to r)
 
-  abbrev rep : Written → Report
+  abbrev rep : Written → LentAnswer
   rep r = record { refusal = r .refusal; count = r .count }
 
   abbrev machR : Written → Val
@@ -95,7 +95,7 @@ module _ {M : Type 1} (𝓤 : URA M) (H : Heap 𝓤) (A : Atoms 𝓤) (W : Given
   made r is = let fs = LL.owed S.the-type S′.the-laws r _ is in LL.owes R.the-type R′.the-laws (rep r) (fs .0, (fs .1 .0, tt))
 
   abbrev Says : Written → List ℕ → Type 0
-  Says r zs = Wrote h r ys zs
+  Says r zs = WroteRecord h r ys zs
 
   abbrev Post : Val → SProp 𝓤
   Post = walkOf 𝓤 H A f.ended stayed (f.clauses 𝓤 H A at-mem run) .post ((κs, (q, (q₁, tt)), tt, x, at), tt)

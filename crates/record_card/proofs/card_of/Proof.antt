@@ -1,4 +1,4 @@
--- The card is put together from the three groups of fields.
+-- A fresh card with the three groups of fields in their places.
 -- Assumes nothing.
 use Rattle.record.specs.Parse.{cardOf}
 use borrow.Author.Needs.{needs}
@@ -14,12 +14,12 @@ take-secrets-requires c κs = search needs
 take-keys-requires : tie.Need-take-keys-requires
 take-keys-requires c κs = search needs
 
-closed-requires : tie.Need-closed-requires
-closed-requires c κs = search needs
+fresh-requires : tie.Need-fresh-requires
+fresh-requires c κs = search needs
 
 returns : tie.Need-returns
 unfolding cardOf
-returns c = rw (c .before .before .before .before .before .before .take-identity .ensures .flag, c .before .before .before .before .before .before .take-identity .ensures .identity, c .before .before .before .before .before .take-secrets .ensures .pins, c .before .before .before .before .before .take-secrets .ensures .pairing, c .before .before .before .before .take-keys .ensures, c .closed .ensures)
+returns c = rw (c .fresh .ensures, c .before .before .before .before .before .before .before .before .take-identity .ensures .flag, c .before .before .before .before .before .before .before .before .take-identity .ensures .identity, c .before .before .before .before .before .before .before .take-secrets .ensures .pins, c .before .before .before .before .before .before .before .take-secrets .ensures .pairing, c .before .before .before .before .before .before .take-keys .ensures)
 
 pub card-of-spec : {M : Type 1} → statement M
 card-of-spec =
@@ -28,5 +28,5 @@ card-of-spec =
     take-identity-requires
     take-secrets-requires
     take-keys-requires
-    closed-requires
+    fresh-requires
     returns)

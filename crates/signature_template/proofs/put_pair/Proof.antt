@@ -23,7 +23,7 @@ put-integer-requires c κs =
     let b9 = b4 .before .before .before .before .before in
     let a = b9 .args in let p = b9 .pre in let n = b4 .pair-bytes in let h = b3 .put-head in
     let small = pair-length-le (a .r .now) (a .s .now) (p .0) (p .1) in
-    let two = short-head 48 (n .result) (omega (arith, n .ensures, small)) in
+    let two = short-head 0x30 (n .result) (omega (arith, n .ensures, small)) in
     (omega (arith, p .0), omega (arith, p .0, p .2, h .ensures .place, h .kept .0, two))
 
 put-integer-requires-2 : tie.Need-put-integer-requires-2
@@ -35,7 +35,7 @@ put-integer-requires-2 c κs =
     let a = b13 .args in let p = b13 .pre in let n = b8 .pair-bytes in
     let h = b7 .put-head in let r = b3 .put-integer in
     let small = pair-length-le (a .r .now) (a .s .now) (p .0) (p .1) in
-    let two = short-head 48 (n .result) (omega (arith, n .ensures, small)) in
+    let two = short-head 0x30 (n .result) (omega (arith, n .ensures, small)) in
     let most = integer-length (a .r .now) (p .0) in
     (omega (arith, p .1), omega (arith, p .1, p .2, h .ensures .place, h .kept .0, two, r .ensures .place, r .kept .0, most))
 

@@ -47,7 +47,7 @@ put-field-requires c κs =
     let b7 = b5 .before .before in
     let b12 = b7 .before .before .before .before .before in
     let p = b12 .pre in let h = b3 .put-head in
-    let most = head-length-le 160 (b7 .field-bytes .result + b5 .field-bytes2 .result) in
+    let most = head-length-le 0xA0 (b7 .field-bytes .result + b5 .field-bytes2 .result) in
     (omega (arith, p .0), omega (arith, p .0, p .3, h .ensures .place, h .kept .0, most))
 
 put-pair-requires : tie.Need-put-pair-requires
@@ -59,8 +59,8 @@ put-pair-requires c κs =
     let b16 = b11 .before .before .before .before .before in
     let a = b16 .args in let p = b16 .pre in
     let h = b7 .put-head in let k = b3 .put-field in
-    let most = head-length-le 160 (b11 .field-bytes .result + b9 .field-bytes2 .result) in
-    let key = short-field 128 (a .key .now) (omega (arith, p .0)) in
+    let most = head-length-le 0xA0 (b11 .field-bytes .result + b9 .field-bytes2 .result) in
+    let key = short-field 0x80 (a .key .now) (omega (arith, p .0)) in
     (omega (arith, p .1, p .2), omega (arith, p .1, p .2), omega (arith, p .0, p .3, h .ensures .place, h .kept .0, k .ensures .place, k .kept .0, most, key))
 
 same-length : tie.Need-same-length

@@ -7,7 +7,7 @@ use lib.ListN.{length, drop}
 use borrow.Author.Needs.{needs}
 use Rattle.card.specs.State.{slotCount}
 use Rattle.slots.specs.Free.{after, firstFree}
-use Rattle.slots.proofs.FreeFacts.{after-zero, free-here, free-step, free-end}
+use Rattle.slots.proofs.FreeFacts.{after-zero, free-here, free-step, free-end, first-free-says}
 use Rattle.slots.proofs.first_free.Statement.{statement}
 use Rattle.slots.proofs.first_free.Tie as tie
 
@@ -21,7 +21,9 @@ loop-holds : tie.Need-loop-holds Inv-loop μ-loop
 loop-holds c = (omega arith, (c .good .0 .1 .0 .1, after-zero (firstFree (c .args .t1))))
 
 returns : tie.Need-returns Inv-loop μ-loop
-returns c = sym (c .before .loop .inv .1 .1 ∙ free-end (c .before .before .args .t1) (c .before .loop .k) (omega arith))
+returns c =
+    first-free-says (c .before .before .args .t1) _
+    (sym (c .before .loop .inv .1 .1 ∙ free-end (c .before .before .args .t1) (c .before .loop .k) (omega arith)))
 
 mul-slot : tie.Need-mul-slot Inv-loop μ-loop
 mul-slot c = search needs
@@ -39,7 +41,10 @@ loop-again : tie.Need-loop-again Inv-loop μ-loop
 loop-again c = (omega arith, (c .before .before .before .before .loop .inv .1 .0, c .before .before .before .before .loop .inv .1 .1 ∙ free-step (c .before .before .before .before .before .args .t1) (c .before .before .before .before .loop .k) _ (omega arith) (c .if2 .left)))
 
 returns-2 : tie.Need-returns-2 Inv-loop μ-loop
-returns-2 c = sym (c .before .before .before .before .loop .inv .1 .1 ∙ free-here (c .before .before .before .before .before .args .t1) (c .before .before .before .before .loop .k) _ (omega arith) (c .if2 .taken))
+returns-2 c =
+    let b5 = c .before .before .before .before .before in
+    let b4 = c .before .before .before .before in
+    first-free-says (b5 .args .t1) _ (sym (b4 .loop .inv .1 .1 ∙ free-here (b5 .args .t1) (b4 .loop .k) _ (omega arith) (c .if2 .taken)))
 
 pub first-free-spec : {M : Type 1} → statement M
 first-free-spec =

@@ -16,10 +16,10 @@ enum-told-2 : tie.Need-enum-told-2
 enum-told-2 c = search needs
 
 returns : tie.Need-returns
-returns c = sym (some-found (c .before .before .before .args .slots) ∙ ap found (sym (c .before .before .first-free .ensures) ∙ c .enum-told .given .1))
+returns c = sym (some-found (c .before .before .before .args .slots) ∙ ap found (sym (c .before .before .first-free .ensures .0) ∙ c .enum-told .given .1))
 
 returns-2 : tie.Need-returns-2
-returns-2 c = sym (some-found (c .before .before .before .args .slots) ∙ ap found (sym (c .before .before .first-free .ensures) ∙ c .enum-told2 .given .1))
+returns-2 c = sym (some-found (c .before .before .before .args .slots) ∙ ap found (sym (c .before .before .first-free .ensures .0) ∙ c .enum-told2 .given .1))
 
 pub has-free-spec : {M : Type 1} → statement M
 has-free-spec = tie.close (tie.spec first-free-requires enum-told enum-told-2 returns returns-2)

@@ -17,14 +17,14 @@ enum-told c = search needs
 returns : tie.Need-returns
 returns c =
     let b4 = c .before .before .before .before in
-    begins-unreadable (b4 .args .s .now) (b4 .args .tag) (b4 .args .value-bytes) _ (c .before .before .read-head .ensures)
+    begins-unreadable (b4 .args .s .now) (b4 .args .tag) (b4 .args .value-bytes) _ (c .before .before .read-head .ensures .0)
     (c .enum-told .given .1)
 
 shared-slice-read-if1 : tie.Need-shared-slice-read-if1
 shared-slice-read-if1 c =
     let b4 = c .before .before .before .before in
     let b6 = b4 .before .before in
-    omega (arith, head-facts (b6 .args .s .now) _ _ _ (b4 .read-head .ensures) (c .before .before .head-bytes .given .1))
+    omega (arith, head-facts (b6 .args .s .now) _ _ _ (b4 .read-head .ensures .0) (c .before .before .head-bytes .given .1))
 
 returns-2 : tie.Need-returns-2
 returns-2 c =
@@ -32,7 +32,7 @@ returns-2 c =
     let b5 = b3 .before .before in
     let b7 = b5 .before .before in
     let a = b7 .args in
-    begins-other-tag (a .s .now) (a .tag) (a .value-bytes) _ (b5 .read-head .ensures) _ _ (b3 .head-bytes .given .1) (c .if1 .taken)
+    begins-other-tag (a .s .now) (a .tag) (a .value-bytes) _ (b5 .read-head .ensures .0) _ _ (b3 .head-bytes .given .1) (c .if1 .taken)
 
 returns-3 : tie.Need-returns-3
 returns-3 c =
@@ -40,7 +40,7 @@ returns-3 c =
     let b6 = b4 .before .before in
     let b8 = b6 .before .before in
     let a = b8 .args in
-    begins-other-length (a .s .now) (a .tag) (a .value-bytes) _ (b6 .read-head .ensures) _ _ (b4 .head-bytes .given .1)
+    begins-other-length (a .s .now) (a .tag) (a .value-bytes) _ (b6 .read-head .ensures .0) _ _ (b4 .head-bytes .given .1)
     (c .before .if1 .left) (c .if2 .taken)
 
 sub-result : tie.Need-sub-result
@@ -48,7 +48,7 @@ sub-result c =
     let b4 = c .before .before .before .before in
     let b6 = b4 .before .before in
     let b8 = b6 .before .before in
-    omega (arith, head-facts (b8 .args .s .now) _ _ _ (b6 .read-head .ensures) (b4 .head-bytes .given .1))
+    omega (arith, head-facts (b8 .args .s .now) _ _ _ (b6 .read-head .ensures .0) (b4 .head-bytes .given .1))
 
 returns-4 : tie.Need-returns-4
 returns-4 c =
@@ -56,7 +56,7 @@ returns-4 c =
     let b6 = b4 .before .before in
     let b8 = b6 .before .before in
     let a = b8 .args in
-    begins-by-end (a .s .now) (a .tag) (a .value-bytes) _ (b6 .read-head .ensures) _ _ (b4 .head-bytes .given .1)
+    begins-by-end (a .s .now) (a .tag) (a .value-bytes) _ (b6 .read-head .ensures .0) _ _ (b4 .head-bytes .given .1)
     (c .before .if1 .left) (c .if2 .left)
 
 pub begins-with-spec : {M : Type 1} → statement M

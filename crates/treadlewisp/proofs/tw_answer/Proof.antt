@@ -52,9 +52,9 @@ use Rattle.engine.proofs.answer as g
 use Rattle.engine.proofs.answer.Symbol as g-def
 use Rattle.engine.proofs.answer.Symbol.{name as #g}
 use Rattle.engine.proofs.answer.Met as g-thm
-use Rattle.boundary.specs.declared.Told.{Told}
-use Rattle.boundary.proofs.Told as R
-use Rattle.boundary.proofs.Told.Laws as R′
+use Rattle.boundary.specs.declared.Counted.{Counted}
+use Rattle.boundary.proofs.Counted as R
+use Rattle.boundary.proofs.Counted.Laws as R′
 use Rattle.treadlewisp.proofs.tw_answer.Key.{name as #f}
 use Rattle.treadlewisp.proofs.tw_answer as f
 use Rattle.treadlewisp.proofs.tw_answer.Statement as stated
@@ -98,7 +98,7 @@ module _ {M : Type 1} (𝓤 : URA M) (H : Heap 𝓤) (A : Atoms 𝓤) (W : Given
   abbrev machS : Answered → Val
   machS r = LL.tuple-val S.the-type S′.the-laws (S.the-type .to r)
 
-  abbrev rep : Answered → Told
+  abbrev rep : Answered → Counted
   rep r = record { refusal = r .refusal; count = r .count }
 
   abbrev machR : Answered → Val

@@ -3,11 +3,11 @@
 use mathlib.Core.Path.{_≡_, ap, ap₂, _∙_}
 use Prim.Native.Nat.{ℕ}
 use borrow.Author.Needs.{needs}
-use Rattle.walk.specs.Walk.{Report}
+use Rattle.walk.specs.Walk.{WalkOut}
 use Rattle.treadlewisp.proofs.tw_walk.Statement.{statement}
 use Rattle.treadlewisp.proofs.tw_walk.Tie as tie
 
-abbrev both : ℕ → ℕ → Report
+abbrev both : ℕ → ℕ → WalkOut
 both n m = record { refusal = n; count = m }
 
 walk-requires : tie.Need-walk-requires

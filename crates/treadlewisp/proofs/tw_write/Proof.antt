@@ -41,11 +41,11 @@ use denote.Exit.{yes}
 use Rattle.card.specs.declared.Card.{Card}
 use Rattle.card.proofs.Card as T
 use Rattle.card.proofs.Card.Laws as T′
-use Rattle.boundary.specs.declared.Told.{Told}
-use Rattle.record_write.specs.Wrote.{Wrote}
+use Rattle.boundary.specs.declared.Counted.{Counted}
+use Rattle.record_write.specs.Wrote.{WroteRecord}
 use Rattle.boundary.specs.Left.{writtenOf}
-use Rattle.boundary.proofs.Told as S
-use Rattle.boundary.proofs.Told.Laws as S′
+use Rattle.boundary.proofs.Counted as S
+use Rattle.boundary.proofs.Counted.Laws as S′
 use Rattle.boundary.proofs.written as g
 use Rattle.boundary.proofs.written.Symbol as g-def
 use Rattle.boundary.proofs.written.Symbol.{name as #g}
@@ -84,13 +84,13 @@ module _ {M : Type 1} (𝓤 : URA M) (H : Heap 𝓤) (A : Atoms 𝓤) (W : Given
   abbrev mach : Val
   mach = LL.tuple-val T.the-type T′.the-laws (T.the-type .to h)
 
-  abbrev Says : Told → List ℕ → Type 0
-  Says r zs = Wrote h (writtenOf r) ys zs
+  abbrev Says : Counted → List ℕ → Type 0
+  Says r zs = WroteRecord h (writtenOf r) ys zs
 
   abbrev Post : Val → SProp 𝓤
   Post = walkOf 𝓤 H A f.ended stayed (f.clauses 𝓤 H A at-mem run) .post ((κs, (q, (q₁, tt)), tt, x, at), tt)
 
-  exits : (r : Told) (zs : List ℕ) (v : Val) → Says r zs → length zs ≡ length ys
+  exits : (r : Counted) (zs : List ℕ) (v : Val) → Says r zs → length zs ≡ length ys
       → ent 𝓤 (⋆ 𝓤 H A (‵ (flft κ q) ∷ (‵ (flft κ₁ q₁) ⊛ ‵ ftrue) ∷ ‵ (fres γ (T.the-row .coded .code h)) ∷ ‵ (fshr-bor κ (λ s. partAt T.the-row s h b o)) ∷ ‵ (finally u8 γ₁ zs) ∷ ‵ (S.the-row .own r (v ∷ [])) ∷ [])) (Post v)
   exits r zs v e l =
       qed W (‵ (flft κ q) ∷ (‵ (flft κ₁ q₁) ⊛ ‵ ftrue) ∷ ‵ (fres γ (T.the-row .coded .code h)) ∷ ‵ (fshr-bor κ (λ s. partAt T.the-row s h b o)) ∷ ‵ (finally u8 γ₁ zs) ∷ ‵ (S.the-row .own r (v ∷ [])) ∷ []) ∵
@@ -125,7 +125,7 @@ module _ {M : Type 1} (𝓤 : URA M) (H : Heap 𝓤) (A : Atoms 𝓤) (W : Given
         owned ! T.the-row (Is T.the-row) (LL.makes T.the-type T′.the-plain 𝓤 H A) h _ p $
         move ! (0 ∷ 15 ∷ []) $ fjoin ! $ move ! (15 ∷ 0 ∷ []) $ use2 W (raw (G 𝓤 H A at-mem run .pre to)) asked $
         calls-at ! fm (G 𝓤 H A at-mem run) known to (and-then ! (load ! (from ! (stop !)) (look ! 7 refl)) (and-then ! (load ! (from ! (stop !)) (look ! 3 refl)) (no-more !))) (λ v.
-        use1 W (later (some (λ (r : Told). ((‵ (flft κ₁ q₁) ⊛ ‵ ftrue) ⊛ ‵ (S.the-row .own r (v ∷ []))) ⊛ raw (ensured 𝓤 H A g.ended (g.clauses 𝓤 H A at-mem run) (κ₁, tt) (h, (buf, tt)) tt r)))) (id⊢ 𝓤 _) $ await ! tt $ pick ! (λ r.
+        use1 W (later (some (λ (r : Counted). ((‵ (flft κ₁ q₁) ⊛ ‵ ftrue) ⊛ ‵ (S.the-row .own r (v ∷ []))) ⊛ raw (ensured 𝓤 H A g.ended (g.clauses 𝓤 H A at-mem run) (κ₁, tt) (h, (buf, tt)) tt r)))) (id⊢ 𝓤 _) $ await ! tt $ pick ! (λ r.
         split ! $ move ! (1 ∷ []) $ use1 W (some (λ (zs : Unit {0} × (List ℕ × Unit {0})). ‵ (lasts g.ended (κ₁, tt) (h, (buf, tt)) zs) ⊛ raw (fact 𝓤 (Says r (zs .1 .0))))) (id⊢ 𝓤 _) $ pick ! (λ zs.
         split ! $ move ! (1 ∷ []) $ heard ! (Says r (zs .1 .0)) (λ e. fsplit ! $ drop ! $ fsplit ! $ fsplit ! $ move ! (1 ∷ []) $ feqL ! (λ l.
         -- [the last list; true; the tokens and the result; the card's token; …]

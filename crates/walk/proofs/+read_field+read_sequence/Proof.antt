@@ -66,21 +66,21 @@ read-field-returns : (t : ℕ)
     → field-lts.Need-returns (head.Asked, head.Learnt, sequence-below t, sequence.Post) (field-at t) field.Post
 read-field-returns t c =
     let b4 = c .before .before .before .before in
-    field-unreadable (b4 .args .levels) (b4 .args .s .now) _ (c .before .before .read-head .ensures) (c .enum-told .given .1)
+    field-unreadable (b4 .args .levels) (b4 .args .s .now) _ (c .before .before .read-head .ensures .0) (c .enum-told .given .1)
 
 read-field-sub-if1 : (t : ℕ)
     → field-lts.Need-sub-if1 (head.Asked, head.Learnt, sequence-below t, sequence.Post) (field-at t) field.Post
 read-field-sub-if1 t c =
     let b3 = c .before .before .before in
     let b5 = b3 .before .before in
-    omega (arith, head-facts (b5 .args .s .now) _ _ _ (b3 .read-head .ensures) (c .before .head-bytes .given .1))
+    omega (arith, head-facts (b5 .args .s .now) _ _ _ (b3 .read-head .ensures .0) (c .before .head-bytes .given .1))
 
 read-field-returns-2 : (t : ℕ)
     → field-lts.Need-returns-2 (head.Asked, head.Learnt, sequence-below t, sequence.Post) (field-at t) field.Post
 read-field-returns-2 t c =
     let b4 = c .before .before .before .before in
     let b6 = b4 .before .before in
-    field-overruns (b6 .args .levels) (b6 .args .s .now) _ (b4 .read-head .ensures) _ _ (c .before .before .head-bytes .given .1)
+    field-overruns (b6 .args .levels) (b6 .args .s .now) _ (b4 .read-head .ensures .0) _ _ (c .before .before .head-bytes .given .1)
     (c .if1 .taken)
 
 read-field-add-end : (t : ℕ)
@@ -88,7 +88,7 @@ read-field-add-end : (t : ℕ)
 read-field-add-end t c =
     let b4 = c .before .before .before .before in
     let b6 = b4 .before .before in
-    omega (arith, head-facts (b6 .args .s .now) _ _ _ (b4 .read-head .ensures) (c .before .before .head-bytes .given .1))
+    omega (arith, head-facts (b6 .args .s .now) _ _ _ (b4 .read-head .ensures .0) (c .before .before .head-bytes .given .1))
 
 read-field-shared-slice-read-if2 : (t : ℕ)
     → field-lts.Need-shared-slice-read-if2 (head.Asked, head.Learnt, sequence-below t, sequence.Post) (field-at t) field.Post
@@ -96,7 +96,7 @@ read-field-shared-slice-read-if2 t c =
     let b3 = c .before .before .before in
     let b5 = b3 .before .before in
     let b7 = b5 .before .before in
-    omega (arith, head-facts (b7 .args .s .now) _ _ _ (b5 .read-head .ensures) (b3 .head-bytes .given .1))
+    omega (arith, head-facts (b7 .args .s .now) _ _ _ (b5 .read-head .ensures .0) (b3 .head-bytes .given .1))
 
 read-field-returns-3 : (t : ℕ)
     → field-lts.Need-returns-3 (head.Asked, head.Learnt, sequence-below t, sequence.Post) (field-at t) field.Post
@@ -104,7 +104,7 @@ read-field-returns-3 t c =
     let b4 = c .before .before .before .before in
     let b6 = b4 .before .before in
     let b8 = b6 .before .before in
-    field-plain (b8 .args .levels) (b8 .args .s .now) _ (b6 .read-head .ensures) _ _ (b4 .head-bytes .given .1)
+    field-plain (b8 .args .levels) (b8 .args .s .now) _ (b6 .read-head .ensures .0) _ _ (b4 .head-bytes .given .1)
     (c .before .before .if1 .left) (c .if2 .taken)
 
 read-field-returns-4 : (t : ℕ)
@@ -114,7 +114,7 @@ read-field-returns-4 t c =
     let b5 = b3 .before .before in
     let b7 = b5 .before .before in
     let b9 = b7 .before .before in
-    field-too-deep (b9 .args .levels) (b9 .args .s .now) _ (b7 .read-head .ensures) _ _ (b5 .head-bytes .given .1) (b3 .if1 .left)
+    field-too-deep (b9 .args .levels) (b9 .args .s .now) _ (b7 .read-head .ensures .0) _ _ (b5 .head-bytes .given .1) (b3 .if1 .left)
     (c .before .if2 .left) (c .if3 .taken)
 
 read-field-sub-read-sequence : (t : ℕ)
@@ -123,7 +123,7 @@ read-field-sub-read-sequence t c =
     let b5 = c .before .before .before .before .before in
     let b7 = b5 .before .before in
     let b9 = b7 .before .before in
-    omega (arith, head-facts (b9 .args .s .now) _ _ _ (b7 .read-head .ensures) (b5 .head-bytes .given .1))
+    omega (arith, head-facts (b9 .args .s .now) _ _ _ (b7 .read-head .ensures .0) (b5 .head-bytes .given .1))
 
 read-field-part-read-sequence-start : (t : ℕ)
     → field-lts.Need-part-read-sequence-start (head.Asked, head.Learnt, sequence-below t, sequence.Post) (field-at t) field.Post
@@ -131,7 +131,7 @@ read-field-part-read-sequence-start t c =
     let b5 = c .before .before .before .before .before in
     let b7 = b5 .before .before in
     let b9 = b7 .before .before in
-    omega (arith, head-facts (b9 .args .s .now) _ _ _ (b7 .read-head .ensures) (b5 .head-bytes .given .1))
+    omega (arith, head-facts (b9 .args .s .now) _ _ _ (b7 .read-head .ensures .0) (b5 .head-bytes .given .1))
 
 read-field-part-read-sequence-end : (t : ℕ)
     → field-lts.Need-part-read-sequence-end (head.Asked, head.Learnt, sequence-below t, sequence.Post) (field-at t) field.Post
@@ -139,7 +139,7 @@ read-field-part-read-sequence-end t c =
     let b5 = c .before .before .before .before .before in
     let b7 = b5 .before .before in
     let b9 = b7 .before .before in
-    omega (arith, head-facts (b9 .args .s .now) _ _ _ (b7 .read-head .ensures) (b5 .head-bytes .given .1))
+    omega (arith, head-facts (b9 .args .s .now) _ _ _ (b7 .read-head .ensures .0) (b5 .head-bytes .given .1))
 
 read-field-sub-read-sequence-2 : (t : ℕ)
     → field-lts.Need-sub-read-sequence-2 (head.Asked, head.Learnt, sequence-below t, sequence.Post) (field-at t) field.Post
@@ -151,7 +151,7 @@ read-field-read-sequence-requires t c κs =
     let b6 = c .before .before .before .before .before .before in
     let b8 = b6 .before .before in
     let b10 = b8 .before .before in
-    let h = head-facts (b10 .args .s .now) _ _ _ (b8 .read-head .ensures) (b6 .head-bytes .given .1) in
+    let h = head-facts (b10 .args .s .now) _ _ _ (b8 .read-head .ensures .0) (b6 .head-bytes .given .1) in
     (simp (length-take, length-drop) (omega (arith, b10 .pre .0, h)), tt)
 
 read-field-enum-known-fields : (t : ℕ)
@@ -173,7 +173,7 @@ read-field-returns-5 t c =
     let b12 = b10 .before .before in
     let b14 = b12 .before .before in
     ap (asField _) (sym (c .before .fields .given .1))
-    ∙ field-of-value (b14 .args .levels) (b14 .args .s .now) _ (b12 .read-head .ensures) _ _ (b10 .head-bytes .given .1)
+    ∙ field-of-value (b14 .args .levels) (b14 .args .s .now) _ (b12 .read-head .ensures .0) _ _ (b10 .head-bytes .given .1)
     (b8 .if1 .left) (b6 .if2 .left) (b5 .if3 .left) _ (b3 .read-sequence .ensures)
 
 read-field-returns-6 : (t : ℕ)
@@ -187,7 +187,7 @@ read-field-returns-6 t c =
     let b12 = b10 .before .before in
     let b14 = b12 .before .before in
     ap (asField _) (sym (c .before .fault .given .1))
-    ∙ field-of-value (b14 .args .levels) (b14 .args .s .now) _ (b12 .read-head .ensures) _ _ (b10 .head-bytes .given .1)
+    ∙ field-of-value (b14 .args .levels) (b14 .args .s .now) _ (b12 .read-head .ensures .0) _ _ (b10 .head-bytes .given .1)
     (b8 .if1 .left) (b6 .if2 .left) (b5 .if3 .left) _ (b3 .read-sequence .ensures)
 
 abbrev read-sequence-Inv-loop : sequence-lts.InvT-loop
