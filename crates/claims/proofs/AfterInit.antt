@@ -1,116 +1,96 @@
--- A call that makes an initialised card of one that was not is INIT's success: it leaves 3 and 5 tries and no key.
+-- A call that makes an initialised card of one that was not leaves 3 and 5 tries and no key: steps 1 to 5 leave the card not initialised and
+-- without a key, and every command that such a card has is lawful.
 -- Assumes nothing.
-use mathlib.Core.Path.{_≡_, refl, sym, ap, _∙_}
-use mathlib.Core.Bool.{Bool, true, false, not, cond, false≢true}
+use mathlib.Core.Path.{_≡_, sym, ap, _∙_}
+use mathlib.Core.Bool.{Bool, true, false, _&&_, not, false≢true}
 use mathlib.Core.List.{List}
-use mathlib.Core.Option.{Option, none, some}
+use mathlib.Core.Option.{some}
 use Prim.Native.Nat.{ℕ}
 use lib.Dec.{ltb, eqb}
 use Rattle.template.proofs.HeadFacts.{by-test}
-use Rattle.card.specs.declared.Keys.{Keys}
+use Rattle.refusals.specs.Refusals.{answerRoom}
 use Rattle.card.specs.declared.Card.{Card}
-use Rattle.card.specs.Slots.{isZero}
 use Rattle.card.specs.Sound.{isSound}
 use Rattle.card.proofs.Rules.{blank-rules, keys-blank}
-use Rattle.rules.specs.declared.Instruction.{Instruction}
-use Rattle.rules.specs.declared.Instruction.the-variants as ins
-use Rattle.rules.specs.declared.Named.{Named}
-use Rattle.rules.specs.declared.Named.the-variants as named
 use Rattle.rules.specs.declared.Command.{Command}
-use Rattle.rules.specs.declared.Command.the-variants as command
-use Rattle.rules.specs.Words.{success, verdict, Reply}
-use Rattle.rules.specs.Supplies.{suits, saysYes, initKey}
-use Rattle.rules.specs.Steps.{afterStep1, dataOf, claOf, insOf, p1Of, p2Of, isInitialised, nameOf, offered, isPlain, atStake, commandOf}
-use Rattle.rules.specs.Commands.{selectReply, isContent, initContent, initWith, initReply, checksOf, replyOf}
-use Rattle.rules.specs.Engine.{plainly, Decision, step6, byChoice, step5, step4, byName, step3, byForm, step2, decide, answerRoom, Answered, answerOut}
+use Rattle.rules.specs.declared.Verdict.{Verdict}
+use Rattle.rules.specs.Words.{wrongParameters, Reply, fails}
+use Rattle.rules.specs.Supplies.{suits}
+use Rattle.rules.specs.Rows.{rowOf, offered, isPlain}
+use Rattle.rules.specs.Channel.{Outgoing, tell}
+use Rattle.rules.specs.Steps.{Step, step1, p1Of, p2Of, isInitialised, Opened, Arrived, arrival, checksOf, supplyOf, replyOf, Decision, byVerdict, step6, finish, decide}
+use Rattle.rules.specs.Engine.{AnswerOut, answerOut}
+use Rattle.rule_laws.specs.Lawful.{Full, Filled}
+use Rattle.rule_laws.proofs.Checks.{by-verdict}
+use Rattle.rule_laws.proofs.Arrival.{At, cardAt, lostAt, arrivedAt, by-step5, by-opened, by-pastStep1, ready}
 use Rattle.rule_laws.proofs.Parts.{before-init}
-use Rattle.engine_laws.proofs.Names.{Says, name-says}
-use Rattle.exchange_laws.proofs.Answers.{step1-initialised, step1-keys}
+use Rattle.rule_laws.proofs.Table.{lawful}
+use Rattle.engine_laws.proofs.Sound.{step1-keeps, begun-keeps, failed-keeps}
 
--- if the card is initialised, it has full tries and no key
-pub record Full (n : Card) : Type 0 where
-  pub pin : n .pins .«pin_tries» ≡ 3
-  pub puk : n .pins .«puk_tries» ≡ 5
-  pub key : n .keys .kind ≡ 0
+-- a card that is not initialised and has no key
+abbrev Bare : Card → Type 0
+Bare c = (isInitialised c ≡ false) × (c .keys .kind ≡ 0)
 
-abbrev Filled : Card → Type 0
-Filled n = isInitialised n ≡ true → Full n
+not-yet : (c : Card) → Bare c → Filled c
+not-yet c b e = absurd (false≢true (sym (b .0) ∙ e))
 
+-- ---- how an answer goes out
+tell-fills : (over : Bool) (r : Reply) → Filled (r .card) → Filled (tell over r .card)
+unfolding tell
+tell-fills over r h = by-test (λ (t : Outgoing). Filled (t .card)) (over && eqb (r .card .channel .stage) 2)
+    (λ e t. let f = h t in record { pin = f .pin; puk = f .puk; key = f .key }) (λ e. h)
+
+-- ---- through the steps
 abbrev Fills : Decision → Type 0
 Fills d = (s : List ℕ) → Filled (d .answer s .card)
 
-not-yet : (g : Card) → isInitialised g ≡ false → Filled g
-not-yet g f e = absurd (false≢true (sym f ∙ e))
+module _ (c : Card) (bare : Bare c) (cmd : List ℕ) where
+  behind : Bare (step1 cmd c)
+  behind = step1-keeps Bare (λ x b. b) (λ x b. b) cmd c bare
 
--- ---- the card g is not initialised and has no key
-module _ (g : Card) (f : isInitialised g ≡ false) (k : g .keys .kind ≡ 0) where
-  init-fills : (d s : List ℕ) → Filled (initReply g d s .card)
-  unfolding initReply initWith
-  init-fills d s = by-test (λ (r : Reply). Filled (r .card)) (saysYes s) (λ e. with-content (initContent (initKey s) d)) (λ e. not-yet g f)
-    where
-      with-content : (o : Option (List ℕ)) → Filled (initWith g o .card)
-      with-content none = not-yet g f
-      with-content (some x) =
-          by-test (λ (r : Reply). Filled (r .card)) (isContent x) (λ e t. record { pin = refl; puk = refl; key = k }) (λ e. not-yet g f)
+  module _ (x : At cmd (step1 cmd c)) where
+    opened-bare : Bare (x .opened .card)
+    opened-bare = by-opened (λ (o : Opened). Bare (o .card)) (x .instruction) cmd (step1 cmd c) (x .field) (λ p. behind) (λ p t d e. behind)
+        (x .opened) (x .opens)
 
-  step6-fills : (d : List ℕ) (j : Command) → ((s : List ℕ) → Filled (replyOf j g d s .card)) → Fills (step6 plainly g g d j)
-  unfolding step6
-  step6-fills d j r = by-test Fills (eqb (verdict (checksOf j g d)) success) (λ e. r) (λ e s. not-yet g f)
+    here-bare : Bare (cardAt (x .instruction) (x .opened))
+    here-bare = begun-keeps Bare (λ y b. b) (λ y b. b) (rowOf (x .instruction) .loss) (x .opened .card) opened-bare
 
-  choice-fills : (d : List ℕ) (a b : Bool) (j : Command) → Fills (step6 plainly g g d j)
-      → Fills (byChoice plainly g g d (cond a (cond b (some j) none) none))
-  choice-fills d true true j r = r
-  choice-fills d true false j r = λ s. not-yet g f
-  choice-fills d false b j r = λ s. not-yet g f
+    lost-fills : (w : ℕ) (s : List ℕ) → Filled (tell (not (isPlain (x .instruction))) (fails (lostAt (x .instruction) cmd (x .opened)) w) .card)
+    lost-fills w s = tell-fills (not (isPlain (x .instruction))) (fails (lostAt (x .instruction) cmd (x .opened)) w)
+        (not-yet (lostAt (x .instruction) cmd (x .opened))
+        (failed-keeps Bare (λ y b. b) (λ y b. b) (rowOf (x .instruction) .loss) (p1Of cmd) (cardAt (x .instruction) (x .opened)) here-bare))
 
-  step4-fills : (i : Instruction) (cmd d : List ℕ) → offered false i ≡ true → Fills (step4 i cmd g d)
-  unfolding step4 isPlain step5 commandOf atStake replyOf selectReply
-  step4-fills ins.Select cmd d e =
-      choice-fills d (isZero (p2Of cmd)) (eqb (p1Of cmd) 0x04) command.Select
-      (step6-fills d command.Select (λ s t. absurd (false≢true (sym f ∙ t))))
-  step4-fills ins.Init cmd d e =
-      choice-fills d (isZero (p2Of cmd)) (eqb (p1Of cmd) 0) command.Init (step6-fills d command.Init (init-fills d))
-  step4-fills ins.Open cmd d e = absurd (false≢true e)
-  step4-fills ins.Mutual cmd d e = absurd (false≢true e)
-  step4-fills ins.Pair cmd d e = absurd (false≢true e)
-  step4-fills ins.Unpair cmd d e = absurd (false≢true e)
-  step4-fills ins.Status cmd d e = absurd (false≢true e)
-  step4-fills ins.Verify cmd d e = absurd (false≢true e)
-  step4-fills ins.Change cmd d e = absurd (false≢true e)
-  step4-fills ins.Unblock cmd d e = absurd (false≢true e)
-  step4-fills ins.Load cmd d e = absurd (false≢true e)
-  step4-fills ins.Derive cmd d e = absurd (false≢true e)
-  step4-fills ins.Remove cmd d e = absurd (false≢true e)
-  step4-fills ins.SetPinless cmd d e = absurd (false≢true e)
-  step4-fills ins.Sign cmd d e = absurd (false≢true e)
+    step6-fills : (k : Command) → rowOf (x .instruction) .lists (p1Of cmd) (p2Of cmd) ≡ some k
+        → Fills (step6 (arrivedAt (x .instruction) cmd (x .opened) k))
+    unfolding step6
+    step6-fills k l =
+        by-verdict (λ (v : Verdict). Fills (byVerdict (arrivedAt (x .instruction) cmd (x .opened) k) v)) (supplyOf k)
+        (checksOf k (cardAt (x .instruction) (x .opened)) (x .opened .data′))
+        (λ h s. tell-fills (not (isPlain (x .instruction))) (replyOf k (cardAt (x .instruction) (x .opened)) (x .opened .data′) s)
+        (lawful (x .instruction) (p1Of cmd) (p2Of cmd) k l .fresh offer (cardAt (x .instruction) (x .opened)) (here-bare .0) (here-bare .1)
+        (x .opened .data′) s))
+        lost-fills
+      where
+        offer : offered (rowOf (x .instruction) .offer) false ≡ true
+        offer = ap (λ (b : Bool). offered (rowOf (x .instruction) .offer) b) (sym (opened-bare .0)) ∙ ready cmd c x .offer
 
-  name-fills : (cmd d : List ℕ) (n : Named) → Says (isInitialised g) (insOf cmd) n → Fills (byName cmd g d n)
-  name-fills cmd d (named.Known i) h = step4-fills i cmd d (ap (λ (b : Bool). offered b i) (sym f) ∙ h .0)
-  name-fills cmd d named.WrongClass h = λ s. not-yet g f
-  name-fills cmd d named.Unknown h = λ s. not-yet g f
-
-  form-fills : (cmd : List ℕ) (o : Option (List ℕ)) → Fills (byForm cmd g o)
-  unfolding step3
-  form-fills cmd none = λ s. not-yet g f
-  form-fills cmd (some d) =
-      name-fills cmd d (nameOf (isInitialised g) (claOf cmd) (insOf cmd)) (name-says (isInitialised g) (claOf cmd) (insOf cmd))
+  decide-fills : Fills (decide c cmd)
+  unfolding decide arrival
+  decide-fills = by-pastStep1 (λ (y : Step Arrived). Fills (finish y)) cmd (step1 cmd c) (λ w s. not-yet (step1 cmd c) behind)
+      (λ s. not-yet _ behind)
+      (λ x. by-step5 (λ (y : Step Arrived). Fills (finish y)) (x .instruction) cmd (x .opened) (lost-fills x wrongParameters) (step6-fills x))
 
 pub init-full : (c : Card) (cmd s : List ℕ) (room : ℕ) → isSound c ≡ true → isInitialised c ≡ false
     → isInitialised (answerOut c cmd s room .card) ≡ true → Full (answerOut c cmd s room .card)
-unfolding answerOut decide step2
+unfolding answerOut
 init-full c cmd s room e f =
-    by-test Leads (isSound c) (λ t. by-test Leads (ltb room answerRoom) (λ u. not-yet c f)
-    (λ u. by-test Leads (suits (decide c cmd .supply) s) (λ w. form-fills g g-fresh g-key cmd (dataOf cmd) s) (λ w. not-yet c f)))
-    (λ t. not-yet c f)
+    by-test Leads (isSound c) (λ t. by-test Leads (ltb room answerRoom) (λ u. not-yet c bare)
+    (λ u. by-test Leads (suits (decide c cmd .supply) s) (λ w. decide-fills c bare cmd s) (λ w. not-yet c bare)))
+    (λ t. not-yet c bare)
   where
-    Leads : Answered → Type 0
+    Leads : AnswerOut → Type 0
     Leads o = Filled (o .card)
 
-    g : Card
-    g = afterStep1 cmd c
-
-    g-fresh : isInitialised g ≡ false
-    g-fresh = ap (λ (n : ℕ). not (isZero n)) (step1-initialised cmd c) ∙ f
-
-    g-key : g .keys .kind ≡ 0
-    g-key = ap (λ (k : Keys). k .kind) (step1-keys cmd c) ∙ keys-blank (c .keys) (blank-rules c (before-init c e f .blank) .keys) .kind
+    bare : Bare c
+    bare = (f, keys-blank (c .keys) (blank-rules c (before-init c e f .blank) .keys) .kind)

@@ -1,6 +1,7 @@
 -- What ANSWER gives to a command over the channel, and the chain of four entries: three wrong ones take the tries from 3 to 0, and the
--- right PIN is then not compared. Assumes nothing.
-use mathlib.Core.Path.{_≡_, refl, ap, ap₂, _∙_}
+-- right PIN is then not compared.
+-- Assumes nothing.
+use mathlib.Core.Path.{_≡_, refl, sym, ap, ap₂, _∙_, subst}
 use mathlib.Core.Bool.{Bool, true, false}
 use mathlib.Core.List.{List, [], _∷_}
 use Prim.Native.Nat.{ℕ, suc, _-_}
@@ -9,65 +10,64 @@ use borrow.Author.Tests.{ne-eqb}
 use lib.ListN.{take}
 use Rattle.octets.specs.Bytes.{sameBytes}
 use Rattle.octets.proofs.Lists.{same-eq}
-use Rattle.message.specs.Message.{withIv}
 use Rattle.message.specs.Terminal.{sealedResponse}
 use Rattle.card.specs.declared.Channel.{Channel}
 use Rattle.card.specs.declared.Pins.{Pins}
 use Rattle.card.specs.declared.Card.{Card}
-use Rattle.card.specs.State.{withPins}
+use Rattle.card.specs.State.{withPins, closed, forgotten}
 use Rattle.card.specs.Slots.{isZero}
 use Rattle.card.specs.Sound.{isSound}
 use Rattle.rules.specs.declared.Command.{Command}
 use Rattle.rules.specs.declared.Command.the-variants as command
-use Rattle.rules.specs.Words.{success, triesLeft, word, verdict, Reply, fails}
+use Rattle.rules.specs.Words.{triesLeft, word, Hold, Reply, fails}
 use Rattle.rules.specs.Supplies.{suits}
-use Rattle.rules.specs.Commands.{pinWrong, verifyChecks, verifyReply, verifyBy, checksOf, supplyOf, replyOf}
-use Rattle.rules.specs.Engine.{sessionOf, plainText, sealed, Answered, answered, answerOut}
-use Rattle.engine_laws.proofs.Sound.{answer-sound}
-use Rattle.exchange_laws.specs.Opens.{atStep6, outcome}
-use Rattle.exchange_laws.proofs.Answers.{step1-pins, step1-channel, stays-2, result-channel, answer-stage2}
+use Rattle.rules.specs.Commands.{pinWrong, verifyChecks, verifyReply, ruleOf}
+use Rattle.rules.specs.Channel.{sessionOf, withMac, plainText, sealed}
+use Rattle.rules.specs.Steps.{step1, Arrived, checksOf, supplyOf}
+use Rattle.rules.specs.Engine.{AnswerOut, answered, answerOut}
+use Rattle.engine_laws.proofs.Sound.{step1-keeps, answer-sound}
+use Rattle.exchange_laws.specs.Opens.{outcome}
+use Rattle.exchange_laws.proofs.Answers.{came, result-channel, answer-stage2}
 use Rattle.claims.specs.Rows.{Sent, Gives, Entry, entered, after, Entries}
 
 -- ---- any command over the channel
+-- what step 1 keeps, the card at step 6 has
+pub here-keeps : (P : Card → Type 0) → ((x : Card) → P x → P (closed x)) → ((x : Card) → P x → P (forgotten x))
+    → ((x : Card) (mac : List ℕ) → P x → P (withMac x mac))
+    → (c : Card) → c .channel .stage ≡ 2 → (v : Sent c) → P c → P (v .opens .arrived .card)
+here-keeps P close forget mac c in2 v h =
+    subst P (sym (came c (v .bytes) in2 (v .opens) .card (v .opens .field) (v .opens .form)))
+    (mac (step1 (v .bytes) c) (take 16 (v .opens .field)) (step1-keeps P close forget (v .bytes) c h))
+
 module _ (c : Card) (sound : isSound c ≡ true) (in2 : c .channel .stage ≡ 2) (v : Sent c) where
-  abbrev here : Card
-  here = atStep6 c (v .bytes) (v .opens)
+  abbrev x : Arrived
+  x = v .opens .arrived
 
-  abbrev result : Reply
-  result = outcome (v .opens .command) here (v .opens .data′) (v .supply)
+  abbrev said : Reply
+  said = outcome (x .command) (x .card) (x .data′) (v .supply)
 
-  channel-here : here .channel .stage ≡ 2
-  channel-here = ap (λ (k : Channel). k .stage) (step1-channel (v .bytes) c (stays-2 (v .bytes) c in2)) ∙ in2
+  said-channel : said .card .channel ≡ withMac c (take 16 (v .opens .field)) .channel
+  said-channel = result-channel c (v .bytes) (v .supply) (v .room) sound (v .enough) (v .opens) in2
 
-  result-stage : result .card .channel .stage ≡ 2
-  result-stage =
-      ap (λ (k : Channel). k .stage) (result-channel c (v .bytes) (v .supply) (v .room) sound (v .enough) in2 (v .opens)) ∙ channel-here
+  module _ (right : Hold (checksOf (x .command) (x .card) (x .data′)) → suits (supplyOf (x .command)) (v .supply) ≡ true) where
+    pub answer-is : answerOut c (v .bytes) (v .supply) (v .room) ≡ answered (sealed said)
+    answer-is = answer-stage2 c (v .bytes) (v .supply) (v .room) sound (v .enough) (v .opens) in2 right
 
-  session-here : sessionOf (result .card .channel) ≡ withIv (sessionOf (c .channel)) (take 16 (v .opens .field))
-  session-here =
-      ap sessionOf (result-channel c (v .bytes) (v .supply) (v .room) sound (v .enough) in2 (v .opens))
-      ∙ ap (λ (k : Channel). withIv (sessionOf k) (take 16 (v .opens .field))) (step1-channel (v .bytes) c (stays-2 (v .bytes) c in2))
-
-  module _ (right : verdict (checksOf (v .opens .command) here (v .opens .data′)) ≡ success → suits (supplyOf (v .opens .command))
-      (v .supply) ≡ true) where
-    pub answer-is : answerOut c (v .bytes) (v .supply) (v .room) ≡ answered (sealed result)
-    answer-is = answer-stage2 c (v .bytes) (v .supply) (v .room) sound (v .enough) in2 (v .opens) right
-
-    pub gives : (plain : List ℕ) → plainText result ≡ plain → Gives c v plain
+    pub gives : (plain : List ℕ) → plainText said ≡ plain → Gives c v plain
     gives plain e = record {
-      taken = ap (λ (a : Answered). a .refusal) answer-is;
-      answer = ap (λ (a : Answered). a .bytes) answer-is ∙ ap₂ sealedResponse session-here e;
+      taken = ap (λ (a : AnswerOut). a .refusal) answer-is;
+      answer = ap (λ (a : AnswerOut). a .bytes) answer-is ∙ ap₂ sealedResponse (ap sessionOf said-channel) e;
     }
 
 -- ---- VERIFY at step 6
 module _ (x : Card) (d s : List ℕ) where
   verify-wrong : isZero (x .pins .«pin_tries») ≡ false → sameBytes d (x .pins .pin) ≡ false
       → outcome command.Verify x d s ≡ fails (withPins x (pinWrong (x .pins))) (triesLeft (x .pins .«pin_tries» - 1))
-  unfolding checksOf verifyChecks replyOf verifyReply verifyBy
+  unfolding ruleOf verifyChecks verifyReply
   verify-wrong z w = rw (z, w)
 
   verify-spent : x .pins .«pin_tries» ≡ 0 → outcome command.Verify x d s ≡ fails x (triesLeft 0)
-  unfolding checksOf verifyChecks
+  unfolding ruleOf verifyChecks
   verify-spent e = rw e
 
 unlike : (s t : List ℕ) → (s ≡ t → ⊥) → sameBytes s t ≡ false
@@ -85,60 +85,61 @@ pub record Left (n : Card) (p : List ℕ) (t : ℕ) : Type 0 where
   pub tries : n .pins .«pin_tries» ≡ t
 
 module _ (c : Card) (pin : List ℕ) (v : Entry c) where
+  abbrev here : Card
+  here = v .sent .opens .arrived .card
+
   -- VERIFY reads no supply
-  unread : verdict (checksOf (v .sent .opens .command) (atStep6 c (v .sent .bytes) (v .sent .opens)) (entered c v)) ≡ success
-      → suits (supplyOf (v .sent .opens .command)) (v .sent .supply) ≡ true
-  unfolding supplyOf suits
+  unread : Hold (checksOf (v .sent .opens .arrived .command) here (entered c v))
+      → suits (supplyOf (v .sent .opens .arrived .command)) (v .sent .supply) ≡ true
+  unfolding ruleOf suits
   unread e = ap (λ (k : Command). suits (supplyOf k) (v .sent .supply)) (v .verify)
 
   -- at step 6 PIN and tries are the card's
-  pins-here : atStep6 c (v .sent .bytes) (v .sent .opens) .pins ≡ c .pins
-  pins-here = step1-pins (v .sent .bytes) c
-
-  abbrev x : Card
-  x = atStep6 c (v .sent .bytes) (v .sent .opens)
+  pins-here : c .channel .stage ≡ 2 → here .pins ≡ c .pins
+  pins-here in2 = here-keeps (λ (y : Card). y .pins ≡ c .pins) (λ y h. h) (λ y h. h) (λ y mac h. h) c in2 (v .sent) refl
 
   module _ (l-sound : isSound c ≡ true) (l-stage : c .channel .stage ≡ 2) where
-    next-is : after c v ≡ sealed (result c l-sound l-stage (v .sent)) .card
-    next-is = ap (λ (a : Answered). a .card) (answer-is c l-sound l-stage (v .sent) unread)
+    next-is : after c v ≡ sealed (said c l-sound l-stage (v .sent)) .card
+    next-is = ap (λ (a : AnswerOut). a .card) (answer-is c l-sound l-stage (v .sent) unread)
 
-    result-is : (r : Reply) → outcome command.Verify x (entered c v) (v .sent .supply) ≡ r → result c l-sound l-stage (v .sent) ≡ r
-    result-is r e = ap (λ (k : Command). outcome k x (entered c v) (v .sent .supply)) (v .verify) ∙ e
+    said-is : (r : Reply) → outcome command.Verify here (entered c v) (v .sent .supply) ≡ r → said c l-sound l-stage (v .sent) ≡ r
+    said-is r e = ap (λ (k : Command). outcome k here (entered c v) (v .sent .supply)) (v .verify) ∙ e
 
   pub wrong-entry : (t : ℕ) → Left c pin (suc t) → (entered c v ≡ pin → ⊥) → Gives c (v .sent) (word (triesLeft t)) × Left (after c v) pin t
   wrong-entry t l w = (
     gives c (l .sound) (l .stage) (v .sent) unread (word (triesLeft t)) (ap plainText replied ∙ ap (λ (n : ℕ). word (triesLeft n)) fewer),
     record {
       sound = answer-sound c (v .sent .bytes) (v .sent .supply) (v .sent .room) (l .sound);
-      stage = ap (λ (n : Card). n .channel .stage) (next-is (l .sound) (l .stage)) ∙ result-stage c (l .sound) (l .stage) (v .sent);
+      stage = ap (λ (n : Card). n .channel .stage) (next-is (l .sound) (l .stage))
+          ∙ ap (λ (k : Channel). k .stage) (said-channel c (l .sound) (l .stage) (v .sent)) ∙ l .stage;
       pin = ap (λ (p : Pins). p .pin) pins-next ∙ l .pin;
       tries = ap (λ (p : Pins). p .«pin_tries») pins-next ∙ omega (arith, l .tries);
     },
   )
     where
-      tries-here : x .pins .«pin_tries» ≡ suc t
-      tries-here = ap (λ (p : Pins). p .«pin_tries») pins-here ∙ l .tries
+      tries-here : here .pins .«pin_tries» ≡ suc t
+      tries-here = ap (λ (p : Pins). p .«pin_tries») (pins-here (l .stage)) ∙ l .tries
 
-      fewer : x .pins .«pin_tries» - 1 ≡ t
+      fewer : here .pins .«pin_tries» - 1 ≡ t
       fewer = omega (arith, tries-here)
 
       answer : Reply
-      answer = fails (withPins x (pinWrong (x .pins))) (triesLeft (x .pins .«pin_tries» - 1))
+      answer = fails (withPins here (pinWrong (here .pins))) (triesLeft (here .pins .«pin_tries» - 1))
 
-      replied : result c (l .sound) (l .stage) (v .sent) ≡ answer
-      replied = result-is (l .sound) (l .stage) answer
-          (verify-wrong x (entered c v) (v .sent .supply) (ne-eqb (x .pins .«pin_tries») 0 (λ z. omega (arith, tries-here)))
-          (unlike (entered c v) (x .pins .pin) (λ e. w (e ∙ ap (λ (p : Pins). p .pin) pins-here ∙ l .pin))))
+      replied : said c (l .sound) (l .stage) (v .sent) ≡ answer
+      replied = said-is (l .sound) (l .stage) answer
+          (verify-wrong here (entered c v) (v .sent .supply) (ne-eqb (here .pins .«pin_tries») 0 (λ z. omega (arith, tries-here)))
+          (unlike (entered c v) (here .pins .pin) (λ e. w (e ∙ ap (λ (p : Pins). p .pin) (pins-here (l .stage)) ∙ l .pin))))
 
       pins-next : after c v .pins ≡ pinWrong (c .pins)
       pins-next =
-          ap (λ (n : Card). n .pins) (next-is (l .sound) (l .stage)) ∙ ap (λ (r : Reply). r .card .pins) replied ∙ ap pinWrong pins-here
+          ap (λ (n : Card). n .pins) (next-is (l .sound) (l .stage)) ∙ ap (λ (r : Reply). r .card .pins) replied ∙ ap pinWrong (pins-here (l .stage))
 
   pub spent-entry : Left c pin 0 → Gives c (v .sent) (word (triesLeft 0))
   spent-entry l =
       gives c (l .sound) (l .stage) (v .sent) unread (word (triesLeft 0))
-      (ap plainText (result-is (l .sound) (l .stage) (fails x (triesLeft 0))
-      (verify-spent x (entered c v) (v .sent .supply) (ap (λ (p : Pins). p .«pin_tries») pins-here ∙ l .tries))))
+      (ap plainText (said-is (l .sound) (l .stage) (fails here (triesLeft 0))
+      (verify-spent here (entered c v) (v .sent .supply) (ap (λ (p : Pins). p .«pin_tries») (pins-here (l .stage)) ∙ l .tries))))
 
 -- ---- the chain
 module _ (c : Card) (e : Entries c) where

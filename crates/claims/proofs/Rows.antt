@@ -17,21 +17,23 @@ use Rattle.answer_templates.specs.Answers.{signature}
 use Rattle.card.specs.declared.Pins.{Pins}
 use Rattle.card.specs.declared.Keys.{Keys}
 use Rattle.card.specs.declared.Card.{Card}
-use Rattle.card.specs.State.{zeros}
+use Rattle.card.specs.State.{zeros, closed, forgotten}
 use Rattle.card.specs.Sound.{isSound}
-use Rattle.rules.specs.declared.Report.the-variants as report
+use Rattle.rules.specs.declared.StatusKind.the-variants as status
 use Rattle.rules.specs.declared.Command.{Command}
 use Rattle.rules.specs.declared.Command.the-variants as command
-use Rattle.rules.specs.Words.{word, success, fails}
+use Rattle.rules.specs.Words.{conditionsNotMet, word, success}
 use Rattle.rules.specs.Supplies.{suits}
-use Rattle.rules.specs.Steps.{closed, forgotten, begins, kept, afterStep1, dataOf, isInitialised, nameOf, isPlain, inStage}
-use Rattle.rules.specs.Commands.{statusReply, signReply, checksOf, supplyOf, replyOf}
-use Rattle.rules.specs.Engine.{plainText, plainly, ends, byName, step2, step3, step4, decide, answerOut}
-use Rattle.exchange_laws.specs.Opens.{atStep6, outcome}
-use Rattle.exchange_laws.proofs.Answers.{step1-pins, step1-keys}
+use Rattle.rules.specs.Commands.{statusReply, signReply, ruleOf}
+use Rattle.rules.specs.Rows.{rowOf}
+use Rattle.rules.specs.Channel.{plainText}
+use Rattle.rules.specs.Steps.{then, stopsWith, begins, forgetting, step1, dataOf, nameOf, isInitialised, byName, step4, step5, pastStep1, arrival, supplyOf, replyOf, decide}
+use Rattle.rules.specs.Engine.{answerOut}
+use Rattle.rule_laws.specs.Lawful.{Full}
+use Rattle.exchange_laws.specs.Opens.{outcome}
 use Rattle.claims.specs.Rows.{Sent, Gives, Initialises, initialised, InChannel, number32, Rows}
-use Rattle.claims.proofs.Pins.{gives, first-wrong, third-wrong, right-then}
-use Rattle.claims.proofs.AfterInit.{Full, init-full}
+use Rattle.claims.proofs.Pins.{here-keeps, gives, first-wrong, third-wrong, right-then}
+use Rattle.claims.proofs.AfterInit.{init-full}
 
 -- ---- padding
 pad-nothing : pad [] ≡ 0x80 ∷ zeros 15
@@ -50,54 +52,60 @@ unpad-zeros = refl
 abbrev bare : List ℕ
 bare = 0x80 ∷ 0xF2 ∷ 0 ∷ 0 ∷ []
 
-bare-step1 : (c : Card) → c .channel .stage ≡ 0 → afterStep1 bare c ≡ forgotten c
-unfolding afterStep1
-bare-step1 c z = ap (λ (n : ℕ). kept bare (cond (eqb n 1 && not (begins 0x11 bare)) (closed c) c)) z
+bare-step1 : (c : Card) → c .channel .stage ≡ 0 → step1 bare c ≡ forgotten c
+unfolding step1
+bare-step1 c z = ap (λ (n : ℕ). forgetting bare (cond (eqb n 1 && not (begins 0x11 bare)) (closed c) c)) z
 
-bare-step2 : (c : Card) → isInitialised c ≡ true → c .channel .stage ≡ 0 → step2 bare (forgotten c)
-    ≡ ends (plainly (fails (forgotten c) 0x6985))
-unfolding step2 dataOf step3 nameOf step4 isPlain inStage
-bare-step2 c i z = ap (λ (b : Bool). byName bare (forgotten c) [] (nameOf b 0x80 0xF2)) i ∙ rw z
+bare-stops : (c : Card) → isInitialised c ≡ true → c .channel .stage ≡ 0 → pastStep1 bare (forgotten c)
+    ≡ stopsWith (forgotten c) conditionsNotMet
+unfolding pastStep1 dataOf nameOf step4 rowOf
+bare-stops c i z =
+    ap (λ (b : Bool). then (byName (forgotten c) (nameOf b 0x80 0xF2)) (λ j. then (step4 j bare (forgotten c) []) (λ o. step5 j bare o))) i
+    ∙ rw z
 
 bare-status : (c : Card) (supply : List ℕ) (room : ℕ) → isSound c ≡ true → isInitialised c ≡ true → c .channel .stage ≡ 0 → 258 ≤ room
     → (answerOut c bare supply room .refusal ≡ 0) × (answerOut c bare supply room .bytes ≡ 0x69 ∷ 0x85 ∷ [])
-unfolding answerOut decide suits
-bare-status c supply room e i z r = rw (e, le-ltb room 258 r, bare-step1 c z, bare-step2 c i z) (refl, refl)
+unfolding answerOut decide arrival suits
+bare-status c supply room e i z r = rw (e, le-ltb room 258 r, bare-step1 c z, bare-stops c i z) (refl, refl)
 
 -- ---- GET STATUS after INIT
 abbrev said : List ℕ
 said = 0xA3 ∷ 0x09 ∷ 0x02 ∷ 0x01 ∷ 0x03 ∷ 0x02 ∷ 0x01 ∷ 0x05 ∷ 0x01 ∷ 0x01 ∷ 0x00 ∷ []
 
-status-full : (c : Card) (d s : List ℕ) → Full c → replyOf (command.Status report.Application) c d s .response ≡ said
-unfolding replyOf statusReply
+status-full : (c : Card) (d s : List ℕ) → Full c → replyOf (command.Status status.Application) c d s .response ≡ said
+unfolding ruleOf statusReply
 status-full c d s h = rw (h .pin, h .puk, h .key)
 
 init-is-full : (c : Card) (i : Initialises c) → Full (initialised c i)
 init-is-full c i = init-full c (i .bytes) (i .supply) (i .room) (i .sound) (i .fresh) (i .done)
 
-full-like : (n o : Card) → o .pins ≡ n .pins → o .keys ≡ n .keys → Full n → Full o
-full-like n o p k h = record {
-  pin = ap (λ (x : Pins). x .«pin_tries») p ∙ h .pin;
-  puk = ap (λ (x : Pins). x .«puk_tries») p ∙ h .puk;
-  key = ap (λ (x : Keys). x .kind) k ∙ h .key;
+-- tries and key of another card
+abbrev Like : Card → Card → Type 0
+Like n o = (o .pins ≡ n .pins) × (o .keys ≡ n .keys)
+
+full-like : (n o : Card) → Like n o → Full n → Full o
+full-like n o l h = record {
+  pin = ap (λ (x : Pins). x .«pin_tries») (l .0) ∙ h .pin;
+  puk = ap (λ (x : Pins). x .«puk_tries») (l .0) ∙ h .puk;
+  key = ap (λ (x : Keys). x .kind) (l .1) ∙ h .key;
 }
 
 status-sent : (c : Card) (i : Initialises c) (o : Card) → InChannel (initialised c i) o → (q : Sent o)
-    → q .opens .command ≡ command.Status report.Application → Gives o q (said ++ word success)
-unfolding checksOf supplyOf suits replyOf statusReply
+    → q .opens .arrived .command ≡ command.Status status.Application → Gives o q (said ++ word success)
+unfolding ruleOf suits statusReply
 status-sent c i o h q e =
     gives o (h .sound) (h .stage) q (λ v. ap (λ (k : Command). suits (supplyOf k) (q .supply)) e) (said ++ word success)
-    (ap (λ (k : Command). plainText (outcome k x (q .opens .data′) (q .supply))) e ∙ replies)
+    (ap (λ (k : Command). plainText (outcome k x (q .opens .arrived .data′) (q .supply))) e ∙ replies)
   where
     x : Card
-    x = atStep6 o (q .bytes) (q .opens)
+    x = q .opens .arrived .card
 
     full : Full x
-    full = full-like o x (step1-pins (q .bytes) o) (step1-keys (q .bytes) o)
-        (full-like (initialised c i) o (h .pins) (h .keys) (init-is-full c i))
+    full = full-like (initialised c i) x
+        (here-keeps (Like (initialised c i)) (λ y l. l) (λ y l. l) (λ y mac l. l) o (h .stage) q (h .pins, h .keys)) (init-is-full c i)
 
-    replies : plainText (outcome (command.Status report.Application) x (q .opens .data′) (q .supply)) ≡ said ++ word success
-    replies = ap (λ (r : List ℕ). r ++ word success) (status-full x (q .opens .data′) (q .supply) full)
+    replies : plainText (outcome (command.Status status.Application) x (q .opens .arrived .data′) (q .supply)) ≡ said ++ word success
+    replies = ap (λ (r : List ℕ). r ++ word success) (status-full x (q .opens .arrived .data′) (q .supply) full)
 
 -- ---- SIGN
 abbrev r128 : List ℕ
@@ -108,7 +116,7 @@ s1 = number32 1
 
 sign-parts : (c : Card) (d key : List ℕ) → length key ≡ 65
     → replyOf command.Sign c d (key ++ r128 ++ s1) .response ≡ signature key r128 s1
-unfolding replyOf signReply
+unfolding ruleOf signReply
 sign-parts c d key l =
     let k : take 65 (key ++ (r128 ++ s1)) ≡ key = take-at key (r128 ++ s1) 65 l in
     let rest : drop 65 (key ++ (r128 ++ s1)) ≡ r128 ++ s1 = drop-at key (r128 ++ s1) 65 l in
@@ -120,7 +128,7 @@ sign-parts c d key l =
 
 -- ---- the table
 pub rows : Rows
-unfolding replyOf fieldsOf fieldWith valueOf
+unfolding fieldsOf fieldWith valueOf
 rows = record {
   padnothing = pad-nothing;
   padblock = pad-block;

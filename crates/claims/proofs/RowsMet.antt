@@ -1,7 +1,7 @@
 -- Entries that a terminal seals, one after the other; and the status row read from FRESH on, with keys and supplies of zeros.
 -- Assumes nothing.
 use mathlib.Core.Path.{_≡_, refl, sym, ap, _∙_, subst}
-use mathlib.Core.Bool.{true, false, not}
+use mathlib.Core.Bool.{true, false}
 use mathlib.Core.List.{List, [], _∷_}
 use mathlib.Core.Option.{some}
 use Prim.Native.Nat.{ℕ, _≤_}
@@ -14,32 +14,31 @@ use Rattle.octets.proofs.Lists.{bytes-replicate}
 use Rattle.message.specs.Terminal.{Out, sealedCommand}
 use Rattle.card.specs.declared.Card.{Card}
 use Rattle.card.specs.State.{zeros, noKeys}
-use Rattle.card.specs.Slots.{allOf, isZero}
+use Rattle.card.specs.Slots.{allOf}
 use Rattle.card.specs.Sound.{isSound, isDigit}
 use Rattle.card.proofs.Tests.{both}
 use Rattle.card.proofs.Rules.{pins-rules, parts-rules}
 use Rattle.card.proofs.SoundFacts.{fresh-sound}
-use Rattle.rules.specs.declared.Instruction.{Instruction}
 use Rattle.rules.specs.declared.Instruction.the-variants as ins
-use Rattle.rules.specs.declared.Named.the-variants as named
-use Rattle.rules.specs.declared.Report.the-variants as report
-use Rattle.rules.specs.declared.Command.{Command}
+use Rattle.rules.specs.declared.StatusKind.the-variants as status
 use Rattle.rules.specs.declared.Command.the-variants as command
 use Rattle.rules.specs.Supplies.{suits}
-use Rattle.rules.specs.Steps.{isInitialised, nameOf, isPlain, inStage, commandOf}
-use Rattle.rules.specs.Commands.{statusReply, checksOf, supplyOf, replyOf}
-use Rattle.rules.specs.Engine.{sessionOf, answerOut}
+use Rattle.rules.specs.Commands.{statusReply, ruleOf}
+use Rattle.rules.specs.Rows.{rowOf, isPlain}
+use Rattle.rules.specs.Channel.{sessionOf}
+use Rattle.rules.specs.Steps.{isInitialised}
+use Rattle.rules.specs.Engine.{answerOut}
 use Rattle.engine_laws.proofs.Sound.{answer-sound}
 use Rattle.exchange_laws.specs.Exchange.{Typed, Turn, answeredBy, unsealedBy, Names, InStage2}
 use Rattle.exchange_laws.proofs.Seals.{gives, is-after}
-use Rattle.exchange_laws.proofs.Exchanges.{opens-of, in-stage2}
+use Rattle.exchange_laws.proofs.Exchanges.{opens2, in-stage2, names}
 use Rattle.two_runs.specs.Runs.{nextAt}
 use Rattle.two_runs.proofs.Reached.{fresh, initCommand, initialisedCard, init-reaches, inChannel, session-keyed, stage2-reached, reached-sound}
 use Rattle.claims.specs.Rows.{Entry, after, Entries, Initialises}
 use Rattle.claims.specs.RowsMet.{RowsMet}
 use Rattle.claims.proofs.InitSays.{init-initialises}
 
--- ---- a turn 80 b 00 00 with no supply, and the command that it names in stage 2
+-- ---- a turn 80 b 00 00 with no supply
 abbrev turnOf : (b : ℕ) (d : List ℕ) → Bytes (0x80 ∷ b ∷ 0 ∷ 0 ∷ []) → Bytes d → length d ≤ 223 → Turn
 turnOf b d h bytes fits = record {
   header = 0x80 ∷ b ∷ 0 ∷ 0 ∷ [];
@@ -61,35 +60,18 @@ turnOf b d h bytes fits = record {
 header-bytes : (b : ℕ) → leb b 255 ≡ true → Bytes (0x80 ∷ b ∷ 0 ∷ 0 ∷ [])
 header-bytes b e = (omega arith, (omega (arith, leb-true b 255 e), (omega arith, (omega arith, tt))))
 
-module _ (c : Card) (sound : isSound c ≡ true) (in2 : c .channel .stage ≡ 2) (b : ℕ) (i : Instruction) (k : Command)
-    (name : nameOf true 0x80 b ≡ named.Known i) (sealed : isPlain i ≡ false) (staged : inStage i 2 ≡ true)
-    (listed : commandOf i 0 0 ≡ some k) where
-  abbrev names : Names c (0x80 ∷ b ∷ 0 ∷ 0 ∷ [])
-  names = record {
-    instruction = i;
-    command = k;
-    name = ap (λ (n : ℕ). nameOf (not (isZero n)) 0x80 b) (is-after c sound (λ z. omega (arith, in2)) .flag) ∙ name;
-    sealed = sealed;
-    stage = ap (λ (n : ℕ). inStage i n) in2 ∙ staged;
-    listed = listed;
-  }
-
 -- ---- an entry, sealed for the card
-verify-named : nameOf true 0x80 0x20 ≡ named.Known ins.Verify
-unfolding nameOf
-verify-named = refl
-
 verify-sealed : isPlain ins.Verify ≡ false
-unfolding isPlain
+unfolding rowOf
 verify-sealed = refl
 
-verify-staged : inStage ins.Verify 2 ≡ true
-unfolding inStage
-verify-staged = refl
-
-verify-listed : commandOf ins.Verify 0 0 ≡ some command.Verify
-unfolding commandOf
+verify-listed : rowOf ins.Verify .lists 0 0 ≡ some command.Verify
+unfolding rowOf
 verify-listed = refl
+
+verify-bytes : Bytes (0x80 ∷ rowOf ins.Verify .byte ∷ 0 ∷ 0 ∷ [])
+unfolding rowOf
+verify-bytes = header-bytes 0x20 refl
 
 record Ready (c : Card) : Type 0 where
   pub sound : isSound c ≡ true
@@ -97,20 +79,20 @@ record Ready (c : Card) : Type 0 where
   pub stage : c .channel .stage ≡ 2
 
 module _ (c : Card) (r : Ready c) (e : List ℕ) (bytes : Bytes e) (fits : length e ≤ 223) where
-  abbrev verifies : Names c (0x80 ∷ 0x20 ∷ 0 ∷ 0 ∷ [])
-  verifies = names c (r .sound) (r .stage) 0x20 ins.Verify command.Verify verify-named verify-sealed verify-staged verify-listed
+  abbrev verifies : Names c (0x80 ∷ rowOf ins.Verify .byte ∷ 0 ∷ 0 ∷ [])
+  verifies = names c ins.Verify command.Verify 0 0 (r .sound) (r .stage) verify-sealed verify-listed
 
   abbrev turn : Turn
-  turn = turnOf 0x20 e (header-bytes 0x20 refl) bytes fits
+  turn = turnOf (rowOf ins.Verify .byte) e verify-bytes bytes fits
 
   abbrev entry : Entry c
   entry = record {
     sent = record {
-      bytes = sealedCommand (sessionOf (c .channel)) (0x80 ∷ 0x20 ∷ 0 ∷ 0 ∷ []) e;
+      bytes = sealedCommand (sessionOf (c .channel)) (0x80 ∷ rowOf ins.Verify .byte ∷ 0 ∷ 0 ∷ []) e;
       supply = [];
       room = 258;
       enough = omega arith;
-      opens = opens-of c turn (r .typed) verifies;
+      opens = opens2 c turn verifies (r .sound) (r .typed) (r .stage);
     };
     verify = refl;
   }
@@ -120,7 +102,7 @@ module _ (c : Card) (r : Ready c) (e : List ℕ) (bytes : Bytes e) (fits : lengt
       sym (ap (λ (o : Out). answerOut c (o .bytes) [] 258 .card) (gives (sessionOf (c .channel)) turn (r .typed .keyed)))
 
   done : InStage2 c turn verifies
-  unfolding supplyOf suits
+  unfolding ruleOf suits
   done = in-stage2 c turn verifies (r .sound) (r .typed) (r .stage) (λ v. refl)
 
   ready-after : Ready (after c entry)
@@ -210,10 +192,10 @@ statusTurn = turnOf 0xF2 [] (header-bytes 0xF2 refl) tt (omega arith)
 
 reads : unsealedBy opened statusTurn .bytes
     ≡ 0xA3 ∷ 0x09 ∷ 0x02 ∷ 0x01 ∷ 0x03 ∷ 0x02 ∷ 0x01 ∷ 0x05 ∷ 0x01 ∷ 0x01 ∷ 0x00 ∷ 0x90 ∷ 0x00 ∷ []
-unfolding nameOf isPlain inStage commandOf checksOf supplyOf suits replyOf statusReply
+unfolding rowOf ruleOf suits statusReply
 reads =
     in-stage2 opened statusTurn
-    (names opened (reached-sound (stage2-reached .iv) .0) refl 0xF2 ins.Status (command.Status report.Application) refl refl refl refl)
+    (names opened ins.Status (command.Status status.Application) 0 0 (reached-sound (stage2-reached .iv) .0) refl refl refl)
     (reached-sound (stage2-reached .iv) .0) opened-typed refl (λ v. refl) .turn .plain
 
 pub rows-met : RowsMet

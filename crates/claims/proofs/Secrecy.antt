@@ -14,7 +14,8 @@ use Rattle.card.specs.State.{zeros, noKeys, withPins, withSecrets}
 use Rattle.card.specs.Slots.{allOf, someOf}
 use Rattle.card.specs.Sound.{isSound}
 use Rattle.rules.specs.Commands.{keyWith}
-use Rattle.two_runs.specs.Comparison.{Comparison, pin, puk}
+use Rattle.rules.specs.Rules.{pin, puk}
+use Rattle.rules.specs.Comparison.{Comparison}
 use Rattle.two_runs.specs.Runs.{Call}
 use Rattle.two_runs.proofs.TwoRuns.{two-runs}
 use Rattle.two_runs.proofs.Sealed.{InStage2}

@@ -22,7 +22,7 @@ use Rattle.record.specs.Answers.{writeRefusal}
 use Rattle.record.proofs.ReadFacts.{read-write, write-read, read-sound, record-length}
 use Rattle.engine_laws.proofs.Sound.{answer-sound}
 use Rattle.engine_laws.proofs.Rooms.{answer-most, ask-most}
-use Rattle.engine_laws.proofs.Agreement.{unread-same, unread-taken, ask-empty, read-refused, read-taken, ask-data}
+use Rattle.engine_laws.proofs.Agreement.{kind-is, ask-data, ask-empty, unread-taken, unread-same, read-refused, read-taken}
 use Rattle.claims.specs.Trips.{Trips}
 use Rattle.claims.proofs.Refusals.{refusals}
 
@@ -58,12 +58,13 @@ trips = record {
   };
   walks = record {
     joined = joined;
-    preinitialised = λ key. ap report (walk-pre-initialised key);
-    application = λ uid key free keyUid. ap report (walk-application-info uid key free keyUid);
+    preinitialised = λ key k. ap report (walk-pre-initialised key);
+    application = λ uid key free keyUid u k x. ap report (walk-application-info uid key free keyUid);
     status = λ pin puk key. ap report (walk-status pin puk key);
-    signature = λ key r s. ap report (walk-signature key r s);
+    signature = λ key r s k m n. ap report (walk-signature key r s);
   };
   agree = λ c cmd asks answers e a b. record {
+    kind = kind-is c cmd asks e a;
     unread = unread-same c cmd asks answers e a b;
     untouched = unread-taken c cmd asks answers e a b;
     nothing = ask-empty c cmd asks e a;

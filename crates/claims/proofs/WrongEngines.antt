@@ -1,5 +1,6 @@
 -- The wrong engines, each by a call that the rules answer otherwise. The card of the examples is the one that INIT makes of FRESH, with
--- keys and supplies of zeros; the calls are the two steps of PAIR. Assumes nothing.
+-- keys and supplies of zeros; the calls are the two steps of PAIR.
+-- Assumes nothing.
 use mathlib.Core.Path.{_≡_, refl, sym, ap, _∙_}
 use mathlib.Core.Bool.{true}
 use mathlib.Core.List.{List, [], _∷_, _++_}
@@ -13,16 +14,18 @@ use Rattle.card.specs.Slots.{allOf, someOf}
 use Rattle.card.specs.Sound.{isSound}
 use Rattle.slots.specs.Free.{firstFree}
 use Rattle.rules.specs.Supplies.{suits}
-use Rattle.rules.specs.Steps.{afterStep1, dataOf, nameOf, isPlain, atStake, commandOf}
-use Rattle.rules.specs.Commands.{pendingWith, withSlot, filledWith, pairFirstChecks, pairFirstReply, pairFinalChecks, pairInto, pairFinalReply, checksOf, supplyOf, replyOf}
-use Rattle.rules.specs.Engine.{step2, step3, step4, step5, step6, decide, Answered, answerOut}
+use Rattle.rules.specs.Commands.{pendingWith, withSlot, filledWith, pairFirstChecks, pairFirstReply, pairFinalChecks, pairInto, pairFinalReply, ruleOf}
+use Rattle.rules.specs.Rows.{rowOf}
+use Rattle.rules.specs.Channel.{tell}
+use Rattle.rules.specs.Steps.{step1, dataOf, nameOf, step4, step5, pastStep1, arrival, step6, decide}
+use Rattle.rules.specs.Engine.{AnswerOut, answerOut}
 use Rattle.two_runs.proofs.Reached.{initialisedCard, initialised-sound}
 use Rattle.claims.specs.WrongEngines.{WrongEngines}
 
 -- ---- the empty command
 nothing-answers : (c : Card) (supply : List ℕ) (room : ℕ) → isSound c ≡ true → 258 ≤ room
     → (answerOut c [] supply room .refusal ≡ 0) × (answerOut c [] supply room .bytes ≡ 0x67 ∷ 0x00 ∷ [])
-unfolding answerOut decide step2 dataOf suits
+unfolding answerOut decide arrival pastStep1 dataOf suits
 nothing-answers c supply room e r = (rw (e, le-ltb room 258 r), rw (e, le-ltb room 258 r))
 
 -- ---- PAIR, both steps
@@ -42,17 +45,17 @@ abbrev paired : Card
 paired = withPairing card (withSlot (card .pairing) 0 (filledWith (zeros 32)))
 
 first-answer : answerOut card pairFirst (zeros 96) 258 ≡ record { refusal = 0; card = pending; bytes = zeros 64 ++ (0x90 ∷ 0x00 ∷ []) }
-unfolding answerOut isSound allOf someOf decide afterStep1 step2 dataOf step3 nameOf step4 isPlain step5 commandOf atStake step6 checksOf pairFirstChecks supplyOf suits replyOf pairFirstReply
+unfolding answerOut isSound allOf someOf decide arrival step1 pastStep1 dataOf nameOf rowOf step4 step5 step6 ruleOf pairFirstChecks suits pairFirstReply tell
 first-answer = refl
 
 second-answer : answerOut pending pairFinal (zeros 64) 258
     ≡ record { refusal = 0; card = paired; bytes = 0 ∷ zeros 32 ++ (0x90 ∷ 0x00 ∷ []) }
-unfolding answerOut isSound allOf someOf decide afterStep1 step2 dataOf step3 nameOf step4 isPlain step5 commandOf atStake step6 checksOf pairFinalChecks supplyOf suits replyOf pairFinalReply pairInto firstFree
+unfolding answerOut isSound allOf someOf decide arrival step1 pastStep1 dataOf nameOf rowOf step4 step5 step6 ruleOf pairFinalChecks suits pairFinalReply pairInto firstFree tell
 second-answer = refl
 
 -- without the first step: 6A86
 alone-answer : answerOut card pairFinal (zeros 64) 258 .bytes ≡ 0x6A ∷ 0x86 ∷ []
-unfolding answerOut isSound allOf someOf decide afterStep1 step2 dataOf step3 nameOf step4 isPlain step5 commandOf atStake step6 checksOf pairFinalChecks supplyOf suits
+unfolding answerOut isSound allOf someOf decide arrival step1 pastStep1 dataOf nameOf rowOf step4 step5 step6 ruleOf pairFinalChecks suits tell
 alone-answer = refl
 
 -- lists of other lengths are not the same
@@ -61,10 +64,10 @@ longer s t m n p q d e = d (sym p ∙ ap length e ∙ q)
 
 second-is : answerOut (answerOut card pairFirst (zeros 96) 258 .card) pairFinal (zeros 64) 258
     ≡ record { refusal = 0; card = paired; bytes = 0 ∷ zeros 32 ++ (0x90 ∷ 0x00 ∷ []) }
-second-is = ap (λ (a : Answered). answerOut (a .card) pairFinal (zeros 64) 258) first-answer ∙ second-answer
+second-is = ap (λ (a : AnswerOut). answerOut (a .card) pairFinal (zeros 64) 258) first-answer ∙ second-answer
 
 bytes-are : answerOut (answerOut card pairFirst (zeros 96) 258 .card) pairFinal (zeros 64) 258 .bytes ≡ 0 ∷ zeros 32 ++ (0x90 ∷ 0x00 ∷ [])
-bytes-are = ap (λ (a : Answered). a .bytes) second-is
+bytes-are = ap (λ (a : AnswerOut). a .bytes) second-is
 
 pub wrong-engines : WrongEngines
 wrong-engines = record {
@@ -76,8 +79,8 @@ wrong-engines = record {
     supply = zeros 96;
     room = 258;
     sound = initialised-sound;
-    taken = ap (λ (a : Answered). a .refusal) first-answer;
-    changed = λ e. omega (arith, ap (λ (x : Card). x .pairing .pending) (sym (ap (λ (a : Answered). a .card) first-answer) ∙ e));
+    taken = ap (λ (a : AnswerOut). a .refusal) first-answer;
+    changed = λ e. omega (arith, ap (λ (x : Card). x .pairing .pending) (sym (ap (λ (a : AnswerOut). a .card) first-answer) ∙ e));
   };
   echoes = record {
     card = card;
@@ -87,10 +90,10 @@ wrong-engines = record {
     supply′ = zeros 64;
     room = 258;
     sound = initialised-sound;
-    taken = ap (λ (a : Answered). a .refusal) first-answer;
-    taken′ = ap (λ (a : Answered). a .refusal) second-is;
+    taken = ap (λ (a : AnswerOut). a .refusal) first-answer;
+    taken′ = ap (λ (a : AnswerOut). a .refusal) second-is;
     nofirst = λ e. longer (0 ∷ zeros 32 ++ (0x90 ∷ 0x00 ∷ [])) (zeros 64 ++ (0x90 ∷ 0x00 ∷ [])) 35 66 refl refl (λ z. omega arith)
-        (sym bytes-are ∙ e ∙ ap (λ (a : Answered). a .bytes) first-answer);
+        (sym bytes-are ∙ e ∙ ap (λ (a : AnswerOut). a .bytes) first-answer);
     noecho = λ e. longer (0 ∷ zeros 32 ++ (0x90 ∷ 0x00 ∷ [])) pairFinal 35 37 refl refl (λ z. omega arith) (sym bytes-are ∙ e);
     nosupply = λ e. longer (0 ∷ zeros 32 ++ (0x90 ∷ 0x00 ∷ [])) (zeros 64) 35 64 refl refl (λ z. omega arith) (sym bytes-are ∙ e);
     onward = λ e. longer (0 ∷ zeros 32 ++ (0x90 ∷ 0x00 ∷ [])) (0x6A ∷ 0x86 ∷ []) 35 2 refl refl (λ z. omega arith)

@@ -19,7 +19,8 @@ use Rattle.sound.specs.Reset.{resetAnswer}
 use Rattle.record.specs.Fields.{recordOf}
 use Rattle.record.specs.Answers.{writeRefusal, writeBytes, readAnswer}
 use Rattle.rules.specs.Supplies.{suits}
-use Rattle.rules.specs.Engine.{decide, askOut, answerOut}
+use Rattle.rules.specs.Steps.{decide}
+use Rattle.rules.specs.Engine.{askOut, answerOut}
 
 -- ---- ASK: 1, 2
 pub record AskRefuses (c : Card) (cmd : List ℕ) (room : ℕ) : Type 0 where

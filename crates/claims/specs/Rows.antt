@@ -14,14 +14,14 @@ use Rattle.walk.specs.Walk.{WALK}
 use Rattle.card.specs.declared.Card.{Card}
 use Rattle.card.specs.State.{zeros}
 use Rattle.card.specs.Sound.{isSound}
-use Rattle.rules.specs.declared.Report.the-variants as report
+use Rattle.rules.specs.declared.StatusKind.the-variants as status
 use Rattle.rules.specs.declared.Command.the-variants as command
-use Rattle.rules.specs.Steps.{isInitialised}
-use Rattle.rules.specs.Commands.{replyOf}
-use Rattle.rules.specs.Engine.{sessionOf, answerOut}
+use Rattle.rules.specs.Channel.{sessionOf}
+use Rattle.rules.specs.Steps.{isInitialised, replyOf}
+use Rattle.rules.specs.Engine.{answerOut}
 use Rattle.exchange_laws.specs.Opens.{Opens}
 
--- ---- a call of ANSWER with a command over the channel, which opens on this card; any supply, and room enough
+-- ---- a call of ANSWER with a command over the channel that opens on this card and comes to its checks; any supply, and room enough
 pub record Sent (c : Card) : Type 0 where
   pub bytes : List ℕ
   pub supply : List ℕ
@@ -42,10 +42,10 @@ pub record Gives (c : Card) (v : Sent c) (plain : List ℕ) : Type 0 where
 -- ---- a VERIFY with this entry, on this card
 pub record Entry (c : Card) : Type 0 where
   pub sent : Sent c
-  pub verify : sent .opens .command ≡ command.Verify
+  pub verify : sent .opens .arrived .command ≡ command.Verify
 
 abbrev pub entered : (c : Card) → Entry c → List ℕ
-entered c v = v .sent .opens .data′
+entered c v = v .sent .opens .arrived .data′
 
 abbrev pub after : (c : Card) → Entry c → Card
 after c v = next c (v .sent)
@@ -106,10 +106,10 @@ pub record Rows : Type 0 where
       × (answerOut c (0x80 ∷ 0xF2 ∷ 0 ∷ 0 ∷ []) supply room .bytes ≡ 0x69 ∷ 0x85 ∷ [])
   -- GET STATUS after INIT: on INIT's own next card, and over the channel that is opened later
   pub statusrule : (c : Card) (i : Initialises c) (d s : List ℕ)
-      → replyOf (command.Status report.Application) (initialised c i) d s .response
+      → replyOf (command.Status status.Application) (initialised c i) d s .response
       ≡ 0xA3 ∷ 0x09 ∷ 0x02 ∷ 0x01 ∷ 0x03 ∷ 0x02 ∷ 0x01 ∷ 0x05 ∷ 0x01 ∷ 0x01 ∷ 0x00 ∷ []
   pub statussent : (c : Card) (i : Initialises c) (o : Card) → InChannel (initialised c i) o → (q : Sent o)
-      → q .opens .command ≡ command.Status report.Application
+      → q .opens .arrived .command ≡ command.Status status.Application
       → Gives o q (0xA3 ∷ 0x09 ∷ 0x02 ∷ 0x01 ∷ 0x03 ∷ 0x02 ∷ 0x01 ∷ 0x05 ∷ 0x01 ∷ 0x01 ∷ 0x00 ∷ 0x90 ∷ 0x00 ∷ [])
   -- r = 128 and s = 1, in what SIGN answers
   pub signed : (c : Card) (d key : List ℕ) → length key ≡ 65

@@ -1,5 +1,5 @@
 -- Demand 3: the two runs (01, The two runs of demand 3), one claim about the list of calls; and that it is not empty. The definitions of
--- calls, runs, premise and comparisons are those of crate `two_runs`, Runs and Comparison.
+-- calls, runs and premise are those of crate `two_runs`, Runs, and those of comparisons are the rulebook's, Comparison.
 use Prim.Native.Nat.{ℕ}
 use mathlib.Core.Path.{_≡_}
 use mathlib.Core.Bool.{Bool, true, false}
@@ -9,7 +9,8 @@ use Rattle.card.specs.declared.Card.{Card}
 use Rattle.card.specs.State.{freshOf, withSecrets}
 use Rattle.card.specs.Slots.{allOf}
 use Rattle.card.specs.Sound.{isSound, isDigit}
-use Rattle.two_runs.specs.Comparison.{Secret, Comparison, pin, puk}
+use Rattle.rules.specs.Rules.{Secret, pin, puk}
+use Rattle.rules.specs.Comparison.{Comparison}
 use Rattle.two_runs.specs.Runs.{Call, comparisonAt, nextAt, endOf, Agree, Premise, SameRuns}
 
 -- ---- what keeps the claim from being empty

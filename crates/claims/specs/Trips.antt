@@ -5,7 +5,6 @@ use mathlib.Core.Path.{_≡_}
 use mathlib.Core.Bool.{Bool, true, false}
 use mathlib.Core.List.{List, [], _++_}
 use mathlib.Core.Logic.{_↔_, _⊎_}
-use mathlib.Core.Option.{some}
 use lib.ListN.{length}
 use Rattle.octets.specs.Bytes.{Bytes}
 use Rattle.message.specs.declared.Session.{Session}
@@ -20,10 +19,9 @@ use Rattle.card.specs.Shape.{Shaped}
 use Rattle.sound.specs.Reset.{resetAnswer}
 use Rattle.record.specs.Fields.{recordOf}
 use Rattle.record.specs.Answers.{writeRefusal, writeBytes, readAnswer}
-use Rattle.rules.specs.Steps.{afterStep1}
+use Rattle.rules.specs.Supplies.{suits}
+use Rattle.rules.specs.Steps.{goes, Arrived, arrival, decide}
 use Rattle.rules.specs.Engine.{askOut, answerOut}
-use Rattle.rule_laws.specs.Forms.{hasForm}
-use Rattle.engine_laws.specs.CommandData.{commandData}
 
 -- ---- sealed messages, from card to terminal: UNSEAL gives the bytes that were sealed, and the session of the card that sealed them
 pub record Responses : Type 0 where
@@ -36,27 +34,29 @@ pub record Records : Type 0 where
   pub writeread : (s : List ℕ) (room : ℕ) → readAnswer s .refusal ≡ 0 → 448 ≤ room
       → (writeRefusal (readAnswer s .card) room ≡ 0) × (writeBytes (readAnswer s .card) room ≡ s)
 
--- ---- WALK: fields one behind the other add up, and each template that a command answers has the fields that it is made of
+-- ---- WALK: fields one behind the other add up, and each template that a command answers has the fields that it is made of. Its parts are no
+-- longer than a card or a supply has them, so that every length fits its byte
 pub record Walks : Type 0 where
   pub joined : (s t : List ℕ) (m n : ℕ) → WALK s ≡ record { refusal = 0; count = m } → WALK t ≡ record { refusal = 0; count = n }
       → WALK (s ++ t) ≡ record { refusal = 0; count = m + n }
-  pub preinitialised : (key : List ℕ) → WALK (preInitialised key) ≡ record { refusal = 0; count = 1 }
-  pub application : (uid key : List ℕ) (free : ℕ) (keyUid : List ℕ)
+  pub preinitialised : (key : List ℕ) → length key ≤ 65 → WALK (preInitialised key) ≡ record { refusal = 0; count = 1 }
+  pub application : (uid key : List ℕ) (free : ℕ) (keyUid : List ℕ) → length uid ≤ 16 → length key ≤ 65 → length keyUid ≤ 32
       → WALK (applicationInfo uid key free keyUid) ≡ record { refusal = 0; count = 5 }
   pub status : (pin puk : ℕ) (key : Bool) → WALK (status pin puk key) ≡ record { refusal = 0; count = 3 }
-  pub signature : (key r s : List ℕ) → WALK (signature key r s) ≡ record { refusal = 0; count = 3 }
+  pub signature : (key r s : List ℕ) → length key ≤ 65 → length r ≤ 32 → length s ≤ 32
+      → WALK (signature key r s) ≡ record { refusal = 0; count = 3 }
 
--- ---- ASK and ANSWER, for a sound card and room for both. Kind 0: no supply is read, and ASK writes nothing. Another kind: exactly the
--- supplies of its form are taken, and ASK writes the command's data
+-- ---- ASK and ANSWER, for a sound card and room for both. ASK gives the kind of the supply that the order of checks asks for, and exactly the
+-- supplies of that one's form are taken. Kind 0: no supply is read, and ASK writes nothing. Another kind: ASK writes the data, opened where
+-- they are sealed, of the command that comes to its checks
 pub record Agreement (c : Card) (cmd : List ℕ) (asks answers : ℕ) : Type 0 where
+  pub kind : askOut c cmd asks .kind ≡ decide c cmd .supply .kind
   pub unread : askOut c cmd asks .kind ≡ 0 → (s t : List ℕ) → answerOut c cmd s answers ≡ answerOut c cmd t answers
   pub untouched : askOut c cmd asks .kind ≡ 0 → (s : List ℕ) → answerOut c cmd s answers .refusal ≡ 0
   pub nothing : askOut c cmd asks .kind ≡ 0 → askOut c cmd asks .bytes ≡ []
-  pub refused : (askOut c cmd asks .kind ≡ 0 → ⊥) → (s : List ℕ)
-      → answerOut c cmd s answers .refusal ≡ 3 ↔ hasForm (askOut c cmd asks .kind) s ≡ false
-  pub taken : (askOut c cmd asks .kind ≡ 0 → ⊥) → (s : List ℕ)
-      → answerOut c cmd s answers .refusal ≡ 0 ↔ hasForm (askOut c cmd asks .kind) s ≡ true
-  pub told : (askOut c cmd asks .kind ≡ 0 → ⊥) → commandData (afterStep1 cmd c) cmd ≡ some (askOut c cmd asks .bytes)
+  pub refused : (s : List ℕ) → answerOut c cmd s answers .refusal ≡ 3 ↔ suits (decide c cmd .supply) s ≡ false
+  pub taken : (s : List ℕ) → answerOut c cmd s answers .refusal ≡ 0 ↔ suits (decide c cmd .supply) s ≡ true
+  pub told : (askOut c cmd asks .kind ≡ 0 → ⊥) → (a : Arrived) × (arrival c cmd ≡ goes a) × (askOut c cmd asks .bytes ≡ a .data′)
 
 -- ---- every card that an operation gives is sound, if the one that it was given is
 pub record Soundness : Type 0 where

@@ -1,6 +1,4 @@
-pub mod Listed
+pub mod Outcomes
 pub mod Answers
-pub mod Texts
-pub mod Paths
 pub mod Seals
 pub mod Exchanges

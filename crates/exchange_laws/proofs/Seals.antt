@@ -18,13 +18,13 @@ use Rattle.message.specs.Terminal.{sealedCommand}
 use Rattle.message.proofs.Trips.{Header, seal-gives, lc-counts, command-field, command-opens, command-sessions, command-keyed}
 use Rattle.card.specs.declared.Pairing.{Pairing}
 use Rattle.card.specs.declared.Card.{Card}
-use Rattle.card.specs.State.{zeros, withPairing}
+use Rattle.card.specs.State.{zeros, withPairing, closed, forgotten}
 use Rattle.card.specs.Slots.{isZero, allZero}
 use Rattle.card.specs.Sound.{isSound, sessionZero}
 use Rattle.card.specs.Shape.{Shaped}
 use Rattle.card.proofs.Tests.{both, zero-list}
 use Rattle.card.proofs.Rules.{After, PartsRules, pairing-rules, parts-rules, blank-rules, sound-cases}
-use Rattle.rules.specs.Steps.{closed, forgotten, begins, kept, afterStep1, dataOf}
+use Rattle.rules.specs.Steps.{begins, forgetting, step1, dataOf}
 use Rattle.exchange_laws.specs.Exchange.{Turn, sealedBy, SealOpens}
 
 -- ---- the form: Lc and then as many bytes
@@ -108,10 +108,10 @@ is-after c e n =
     (λ a. a) (sound-cases c e)
 
 pub step1-itself : (c : Card) (cmd : List ℕ) → isSound c ≡ true → Shaped c → (c .channel .stage ≡ 0 → ⊥)
-    → (eqb (c .channel .stage) 1 && not (begins 0x11 cmd)) ≡ false → afterStep1 cmd c ≡ c
-unfolding afterStep1
+    → (eqb (c .channel .stage) 1 && not (begins 0x11 cmd)) ≡ false → step1 cmd c ≡ c
+unfolding step1
 step1-itself c cmd e h n stays =
-    ap (λ (b : Bool). kept cmd (cond b (closed c) c)) stays ∙ by-test (λ (x : Card). x ≡ c) (begins 0x12 cmd) (λ t. refl) (λ t. same)
+    ap (λ (b : Bool). forgetting cmd (cond b (closed c) c)) stays ∙ by-test (λ (x : Card). x ≡ c) (begins 0x12 cmd) (λ t. refl) (λ t. same)
   where
     rules : PartsRules c
     rules = parts-rules c (is-after c e n .parts)

@@ -17,11 +17,12 @@ use Rattle.rules.specs.declared.Instruction.{Instruction}
 use Rattle.rules.specs.declared.Named.the-variants as named
 use Rattle.rules.specs.declared.Command.{Command}
 use Rattle.rules.specs.declared.Command.the-variants as command
-use Rattle.rules.specs.Words.{success, word, verdict, Reply}
+use Rattle.rules.specs.Words.{success, word, Hold, Reply}
 use Rattle.rules.specs.Supplies.{suits}
-use Rattle.rules.specs.Steps.{dataOf, claOf, insOf, p1Of, p2Of, rowOf, isInitialised, nameOf, isPlain, inStage, commandOf}
-use Rattle.rules.specs.Commands.{checksOf, supplyOf, replyOf}
-use Rattle.rules.specs.Engine.{sessionOf, withMac, Answered, answerOut}
+use Rattle.rules.specs.Rows.{rowOf, isPlain}
+use Rattle.rules.specs.Channel.{sessionOf, withMac}
+use Rattle.rules.specs.Steps.{dataOf, claOf, insOf, p1Of, p2Of, nameOf, isInitialised, inStage, checksOf, supplyOf, replyOf}
+use Rattle.rules.specs.Engine.{AnswerOut, answerOut}
 use Rattle.exchange_laws.specs.Opens.{outcome}
 
 -- what the types say of every card that code holds
@@ -50,7 +51,7 @@ pub record Turn : Type 0 where
 abbrev pub sealedBy : Session → Turn → Out
 sealedBy s t = sealOut s (t .header) (t .data′) (t .sealroom)
 
-abbrev pub answeredBy : Card → Turn → Answered
+abbrev pub answeredBy : Card → Turn → AnswerOut
 answeredBy c t = answerOut c (sealedBy (sessionOf (c .channel)) t .bytes) (t .supply) (t .answerroom)
 
 abbrev pub unsealedBy : Card → Turn → Out
@@ -71,7 +72,7 @@ pub record Names (c : Card) (header : List ℕ) : Type 0 where
   pub name : nameOf (isInitialised c) (claOf header) (insOf header) ≡ named.Known instruction
   pub sealed : isPlain instruction ≡ false
   pub stage : inStage instruction (c .channel .stage) ≡ true
-  pub listed : commandOf instruction (p1Of header) (p2Of header) ≡ some command
+  pub listed : rowOf instruction .lists (p1Of header) (p2Of header) ≡ some command
 
 -- the card behind the opening: its IV is the MAC of the command
 abbrev pub opened : Card → Turn → Card
@@ -79,7 +80,7 @@ opened c t = withMac c (sealedBy (sessionOf (c .channel)) t .session .iv)
 
 -- ---- the whole turn, where the command's definition gives the reply r: none of the three refuses; the answer is r's response data and
 -- status word, sealed, and UNSEAL gives them; the card is r's, with the IV of the answer; and both ends hold the same session again
-pub record Exchanged (r : Reply) (sent : Out) (told : Answered) (got : Out) : Type 0 where
+pub record Exchanged (r : Reply) (sent : Out) (told : AnswerOut) (got : Out) : Type 0 where
   pub taken : sent .refusal ≡ 0
   pub answered : told .refusal ≡ 0
   pub accepted : got .refusal ≡ 0
@@ -103,7 +104,7 @@ pub record InStage2 (c : Card) (t : Turn) (n : Names c (t .header)) : Type 0 whe
 -- the supply is right, where the command's checks hold
 abbrev pub Supplied : (c : Card) (t : Turn) → Names c (t .header) → Type 0
 Supplied c t n =
-    verdict (checksOf (n .command) (opened c t) (t .data′)) ≡ success → suits (supplyOf (n .command)) (t .supply) ≡ true
+    Hold (checksOf (n .command) (opened c t) (t .data′)) → suits (supplyOf (n .command)) (t .supply) ≡ true
 
 -- MUTUAL in stage 1 with its 32 bytes: UNSEAL gives the random and 9000, and the card is in stage 2
 pub record ToStage2 (c : Card) (t : Turn) : Type 0 where
@@ -115,9 +116,9 @@ pub record ToStage2 (c : Card) (t : Turn) : Type 0 where
 pub record Together : Type 0 where
   -- SEAL's output opens, whatever the header
   pub opens : (s : Session) (t : Turn) → Keyed s → SealOpens s t (sealedBy s t)
-  -- the headers that name a command in stage 2: class 80, the byte of any instruction over the channel, a P1 that it lists, P2 00
-  pub named : (c : Card) (i : Instruction) (k : Command) (p1 : ℕ) → isSound c ≡ true → c .channel .stage ≡ 2 → isPlain i ≡ false
-      → commandOf i p1 0 ≡ some k → (n : Names c (0x80 ∷ rowOf i .byte ∷ p1 ∷ 0 ∷ [])) × (n .command ≡ k)
+  -- the headers that name a command in stage 2: class 80, the byte of any instruction over the channel, a P1 and a P2 that it lists
+  pub named : (c : Card) (i : Instruction) (k : Command) (p1 p2 : ℕ) → isSound c ≡ true → c .channel .stage ≡ 2 → isPlain i ≡ false
+      → rowOf i .lists p1 p2 ≡ some k → (n : Names c (0x80 ∷ rowOf i .byte ∷ p1 ∷ p2 ∷ [])) × (n .command ≡ k)
   -- SEAL, ANSWER, UNSEAL: in stage 2, and MUTUAL from stage 1 to its success
   pub answers : (c : Card) (t : Turn) (n : Names c (t .header)) → isSound c ≡ true → Typed c → c .channel .stage ≡ 2 → Supplied c t n
       → InStage2 c t n

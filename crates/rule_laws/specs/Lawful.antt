@@ -21,7 +21,7 @@ use Rattle.rules.specs.Supplies.{suits, flagOf}
 use Rattle.rules.specs.Commands.{ruleOf}
 use Rattle.rules.specs.Rows.{rowOf, offered, isPlain}
 use Rattle.rules.specs.Channel.{Outgoing}
-use Rattle.rules.specs.Steps.{nameOf, isInitialised, inStage, begun, checksOf, supplyOf, replyOf}
+use Rattle.rules.specs.Steps.{nameOf, isInitialised, inStage, begun, failed, checksOf, supplyOf, replyOf}
 
 -- ---- a card that is sound, and has its shape where the card g has it
 pub record Fit (g c : Card) : Type 0 where
@@ -100,13 +100,15 @@ pub record Lawful (i : Instruction) (k : Command) : Type 0 where
   pub fresh : offered (rowOf i .offer) false ≡ true → (c : Card) → isInitialised c ≡ false → c .keys .kind ≡ 0 → (d s : List ℕ)
       → Filled (replyOf k c d s .card)
 
--- ---- an instruction: an initialised card knows it by its byte if it goes over the channel, stage 2 is right for it, and each command that it
--- lists is lawful
+-- ---- an instruction: if it goes over the channel, an initialised card knows it by its byte, and in stage 2 it gives nothing up; stage 2 is
+-- right for it, and each command that it lists is lawful
 abbrev pub Each : (Command → Type 0) → Option Command → Type 0
 Each P none = Unit {0}
 Each P (some k) = P k
 
 pub record LawfulRow (i : Instruction) : Type 0 where
   pub known : isPlain i ≡ false → nameOf true 0x80 (rowOf i .byte) ≡ named.Known i
+  pub loss : isPlain i ≡ false → (p1 : ℕ) (c : Card) → c .channel .stage ≡ 2
+      → (begun (rowOf i .loss) c ≡ c) × (failed (rowOf i .loss) p1 c ≡ c)
   pub stage : inStage i 2 ≡ true
   pub lists : (p1 p2 : ℕ) → Each (Lawful i) (rowOf i .lists p1 p2)
