@@ -2,14 +2,17 @@
 -- Assumes nothing.
 use Rattle.rules.specs.Steps.{nameOf}
 use borrow.Author.Needs.{needs}
-use Rattle.instructions.proofs.name.Statement.{statement}
-use Rattle.instructions.proofs.name.Tie as tie
+use Rattle.decode.proofs.name.Statement.{statement}
+use Rattle.decode.proofs.name.Tie as tie
 
 by-class-requires : tie.Need-by-class-requires
 by-class-requires c κs = search needs
 
 enum-known-named : tie.Need-enum-known-named
 enum-known-named c = search needs
+
+offer-of-requires : tie.Need-offer-of-requires
+offer-of-requires c κs = search needs
 
 is-offered-requires : tie.Need-is-offered-requires
 is-offered-requires c κs = search needs
@@ -22,11 +25,11 @@ enum-told-2 c = search needs
 
 returns : tie.Need-returns
 unfolding nameOf
-returns c = rw (← c .before .before .before .before .before .by-class .ensures, c .before .before .before .named .given .1, ← c .before .is-offered .ensures, c .if1 .taken)
+returns c = rw (← c .before .before .before .before .before .before .by-class .ensures, c .before .before .before .before .named .given .1, ← c .before .before .offer-of .ensures, ← c .before .is-offered .ensures, c .if1 .taken)
 
 returns-2 : tie.Need-returns-2
 unfolding nameOf
-returns-2 c = rw (← c .before .before .before .before .before .by-class .ensures, c .before .before .before .named .given .1, ← c .before .is-offered .ensures, c .if1 .left)
+returns-2 c = rw (← c .before .before .before .before .before .before .by-class .ensures, c .before .before .before .before .named .given .1, ← c .before .before .offer-of .ensures, ← c .before .is-offered .ensures, c .if1 .left)
 
 returns-3 : tie.Need-returns-3
 unfolding nameOf
@@ -42,6 +45,7 @@ name-spec =
     (tie.spec
     by-class-requires
     enum-known-named
+    offer-of-requires
     is-offered-requires
     enum-told
     enum-told-2

@@ -2,8 +2,8 @@
 -- Assumes nothing.
 use borrow.Author.Tests.{ne-eqb}
 use borrow.Author.Needs.{needs}
-use Rattle.instructions.proofs.by_class.Statement.{statement}
-use Rattle.instructions.proofs.by_class.Tie as tie
+use Rattle.decode.proofs.by_class.Statement.{statement}
+use Rattle.decode.proofs.by_class.Tie as tie
 
 of-class-80-requires : tie.Need-of-class-80-requires
 of-class-80-requires c κs = search needs

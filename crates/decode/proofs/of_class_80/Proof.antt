@@ -1,10 +1,10 @@
 -- Each instruction byte of class 80, and none of them (`unknown`).
 -- Assumes nothing.
 use mathlib.Core.Path.{sym}
-use Rattle.rules.specs.Steps.{class80}
-use Rattle.instructions.proofs.Decoding.{unknown}
-use Rattle.instructions.proofs.of_class_80.Statement.{statement}
-use Rattle.instructions.proofs.of_class_80.Tie as tie
+use Rattle.rules.specs.Rows.{class80}
+use Rattle.decode.proofs.Decoding.{unknown}
+use Rattle.decode.proofs.of_class_80.Statement.{statement}
+use Rattle.decode.proofs.of_class_80.Tie as tie
 
 returns : tie.Need-returns
 returns c = rw (c .match .keys1)
@@ -49,7 +49,7 @@ returns-14 : tie.Need-returns-14
 returns-14 c = rw (c .match .keys14)
 
 returns-15 : tie.Need-returns-15
-returns-15 c = sym (unknown (c .before .args .ins) class80 (c .match .rest .0 .0 .0 .0 .0 .0 .0 .0 .0 .0 .0 .0 .0 .1, (c .match .rest .0 .0 .0 .0 .0 .0 .0 .0 .0 .0 .0 .0 .1, (c .match .rest .0 .0 .0 .0 .0 .0 .0 .0 .0 .0 .0 .1, (c .match .rest .0 .0 .0 .0 .0 .0 .0 .0 .0 .0 .1, (c .match .rest .0 .0 .0 .0 .0 .0 .0 .0 .0 .1, (c .match .rest .0 .0 .0 .0 .0 .0 .0 .0 .1, (c .match .rest .0 .0 .0 .0 .0 .0 .0 .1, (c .match .rest .0 .0 .0 .0 .0 .0 .1, (c .match .rest .0 .0 .0 .0 .0 .1, (c .match .rest .0 .0 .0 .0 .1, (c .match .rest .0 .0 .0 .1, (c .match .rest .0 .0 .1, (c .match .rest .0 .1, (c .match .rest .1, tt)))))))))))))))
+returns-15 c = sym (unknown (c .before .args .ins) class80 _ (c .match .rest) .1)
 
 pub of-class-80-spec : {M : Type 1} → statement M
 of-class-80-spec =
