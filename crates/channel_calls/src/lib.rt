@@ -13,7 +13,7 @@ pub fn ask(d: Desk, line: &[u8]) {
     if !t.ok {
         return;
     }
-    let room = args::room(line, 2, engine::ASK_ROOM_BYTES);
+    let room = args::room(line, 2, refusals::ASK_ROOM_BYTES);
     if !room.ok {
         return;
     }
@@ -36,7 +36,7 @@ fn answer_to(d: Desk, line: &[u8], cmd: &[u8]) -> Desk {
     if !t.ok {
         return d;
     }
-    let room = args::room(line, 3, engine::ANSWER_ROOM_BYTES);
+    let room = args::room(line, 3, refusals::ANSWER_ROOM_BYTES);
     if !room.ok {
         return d;
     }
@@ -112,10 +112,10 @@ fn exchanged(before: Desk, d: Desk, supply: &[u8]) -> Desk {
     let bytes = last.bytes;
     let n = content::bounded(last.len, &bytes);
     let card = d.card;
-    if !soft_steps::ask(card, &bytes[..n], engine::ASK_ROOM_BYTES) {
+    if !soft_steps::ask(card, &bytes[..n], refusals::ASK_ROOM_BYTES) {
         return session_kept(before, d);
     }
-    let step = soft_steps::answer(d, &bytes[..n], supply, engine::ANSWER_ROOM_BYTES);
+    let step = soft_steps::answer(d, &bytes[..n], supply, refusals::ANSWER_ROOM_BYTES);
     if step.done {
         opened(step.desk)
     } else {

@@ -28,7 +28,7 @@ fn say_data(buf: &[u8], count: usize) {
 fn ask_in(card: [u8; CARD_BYTES], cmd: &[u8], buf: &mut [u8]) -> bool {
     let a = byte_calls::ask(card, cmd, buf);
     if a.refusal != 0 {
-        say_refused(b"ask:", a.refusal, engine::ASK_ROOM_BYTES);
+        say_refused(b"ask:", a.refusal, refusals::ASK_ROOM_BYTES);
         return false;
     }
     say(b"ask: ");
@@ -61,7 +61,7 @@ fn answer_in(d: Desk, cmd: &[u8], supply: &[u8], buf: &mut [u8]) -> Step {
     let found = d.card;
     let r = byte_calls::answer(found, cmd, supply, buf);
     if r.refusal != 0 {
-        say_refused(b"answer:", r.refusal, engine::ANSWER_ROOM_BYTES);
+        say_refused(b"answer:", r.refusal, refusals::ANSWER_ROOM_BYTES);
         return Step {
             done: false,
             desk: d,
