@@ -51,13 +51,13 @@ module _ (i : Instruction) (cmd : List ℕ) (c : Card) (field : List ℕ) where
       held : Holds (openedBy c cmd field) n
       held = holds _ n (sym e ∙ p .told)
 
-      pub open-short : n ≤ 223
+      open-short : n ≤ 223
       open-short = held-short (openedBy c cmd field) n r at p e
 
       pub open-long : 32 ≤ length field
       open-long = field-long (sessionOf (c .channel)) (commandHead (headerOf cmd)) field n r at p e
 
-      pub open-some : fromOpening i cmd c field ≡ fromStep5 i cmd (withMac c (take 16 field)) (take n at)
+      open-some : fromOpening i cmd c field ≡ fromStep5 i cmd (withMac c (take 16 field)) (take n at)
       open-some =
           by-opening (some (held .plain)) (held .is)
           ∙ ap (fromStep5 i cmd (withMac c (take 16 field))) (p .left (held .plain) (held .is) ∙ ap (λ (k : ℕ). take k at) (held .long))

@@ -9,7 +9,7 @@ use Rattle.card.specs.State.{closed}
 use Rattle.rules.specs.Channel.{withMac}
 use Rattle.rules.specs.Words.{securityNotMet}
 use Rattle.route.proofs.Routing.{stored, routes-as, ends-route}
-use Rattle.route.proofs.Opened.{opens-as, open-none, open-short, open-long, open-within, open-goes, open-stored}
+use Rattle.route.proofs.Opened.{opens-as, open-none, open-long, open-within, open-goes, open-stored}
 use borrow.Author.Needs.{needs}
 use Rattle.route.proofs.step_4_opens.Statement.{statement}
 use Rattle.route.proofs.step_4_opens.Tie as tie
