@@ -11,56 +11,58 @@ use lib.Seq.{take-append-seam}
 use Rattle.octets.specs.Bytes.{overwrite}
 use Rattle.card.specs.declared.Card.{Card}
 use Rattle.rules.specs.declared.Replied.{Replied}
-use Rattle.rules.specs.Words.{Reply, fails, Replies}
+use Rattle.refusals.specs.Refusals.{wrongSupply}
+use Rattle.rules.specs.Words.{Reply, fails}
 use Rattle.rules.specs.Supplies.{suits}
-use Rattle.rules.specs.Commands.{supplyOf, replyOf}
-use Rattle.rules.specs.Engine as rules
-use Rattle.last_steps.specs.declared.Way.{Way}
-use Rattle.card_end.specs.Telling.{tellBy}
-use Rattle.last_steps.specs.Routes.{Routes, RoutesIn}
+use Rattle.rules.specs.Channel.{tell}
+use Rattle.rules.specs.Steps.{replyOf, Decision, ends}
+use Rattle.rules.specs.Engine.{AskOut, askRefused, asked, AnswerOut, answerRefused, answered, withSupply}
+use Rattle.rules.specs.Code.{Replies}
+use Rattle.route.specs.declared.Way.{Way}
+use Rattle.route.specs.Routes.{Routes, RoutesIn}
 use Rattle.responses.specs.declared.Answered.{Answered}
 use Rattle.responses.specs.declared.Asked.{Asked}
 use Rattle.responses.specs.Did.{AskDid, AnswerDid, replyWith}
 use Rattle.responses.proofs.Writing.{put-first}
 
 -- ---- ANSWER, past soundness and room
-module _ (c : Card) (want : rules.Decision) (r : Way) (d s : List ℕ) (h : Routes want r d) where
+module _ (c : Card) (want : Decision) (r : Way) (d s : List ℕ) (h : Routes want r d) where
   decided : (b : Bool) → r .goes ≡ b → want ≡ cond b
-      (record { supply = supplyOf (r .command); data′ = d; answer = λ s. tellBy (r .over) (replyOf (r .command) (r .card) d s) })
-      (rules.ends (tellBy (r .over) (fails (r .card) (r .status))))
+      (record { supply = r .supply; data′ = d; answer = λ s. tell (r .over) (replyOf (r .command) (r .card) d s) })
+      (ends (tell (r .over) (fails (r .card) (r .status))))
   decided b e = h .decides ∙ rw (e)
 
-  pub answer-refused : r .goes ≡ true → suits (supplyOf (r .command)) s ≡ false → rules.withSupply c want s ≡ rules.answerRefused c rules.wrongSupply
-  answer-refused g f = ap (λ (x : rules.Decision). rules.withSupply c x s) (decided true g) ∙ rw (f)
+  pub answer-refused : r .goes ≡ true → suits (r .supply) s ≡ false → withSupply c want s ≡ answerRefused c wrongSupply
+  answer-refused g f = ap (λ (x : Decision). withSupply c x s) (decided true g) ∙ rw (f)
 
-  pub answer-taken : r .goes ≡ true → suits (supplyOf (r .command)) s ≡ true
-      → rules.withSupply c want s ≡ rules.answered (tellBy (r .over) (replyOf (r .command) (r .card) d s))
-  answer-taken g f = ap (λ (x : rules.Decision). rules.withSupply c x s) (decided true g) ∙ rw (f)
+  pub answer-taken : r .goes ≡ true → suits (r .supply) s ≡ true
+      → withSupply c want s ≡ answered (tell (r .over) (replyOf (r .command) (r .card) d s))
+  answer-taken g f = ap (λ (x : Decision). withSupply c x s) (decided true g) ∙ rw (f)
 
-  pub answer-ended : r .goes ≡ false → rules.withSupply c want s ≡ rules.answered (tellBy (r .over) (fails (r .card) (r .status)))
+  pub answer-ended : r .goes ≡ false → withSupply c want s ≡ answered (tell (r .over) (fails (r .card) (r .status)))
   unfolding suits
-  answer-ended g = ap (λ (x : rules.Decision). rules.withSupply c x s) (decided false g)
+  answer-ended g = ap (λ (x : Decision). withSupply c x s) (decided false g)
 
   -- ---- ASK
-  pub ask-none : r .goes ≡ true → supplyOf (r .command) .kind ≡ 0 → rules.asked want ≡ rules.askRefused 0
-  ask-none g f = ap rules.asked (decided true g) ∙ rw (f)
+  pub ask-none : r .goes ≡ true → r .supply .kind ≡ 0 → asked want ≡ askRefused 0
+  ask-none g f = ap asked (decided true g) ∙ rw (f)
 
-  pub ask-some : r .goes ≡ true → (supplyOf (r .command) .kind ≡ 0 → ⊥)
-      → rules.asked want ≡ record { refusal = 0; kind = supplyOf (r .command) .kind; bytes = d }
-  ask-some g f = ap rules.asked (decided true g) ∙ rw (ne-eqb (supplyOf (r .command) .kind) 0 f)
+  pub ask-some : r .goes ≡ true → (r .supply .kind ≡ 0 → ⊥)
+      → asked want ≡ record { refusal = 0; kind = r .supply .kind; bytes = d }
+  ask-some g f = ap asked (decided true g) ∙ rw (ne-eqb (r .supply .kind) 0 f)
 
-  pub ask-ended : r .goes ≡ false → rules.asked want ≡ rules.askRefused 0
-  ask-ended g = ap rules.asked (decided false g)
+  pub ask-ended : r .goes ≡ false → asked want ≡ askRefused 0
+  ask-ended g = ap asked (decided false g)
 
 -- ---- another name for what is answered
-pub ask-as : (o o′ : rules.Asked) (r : Asked) (b a : List ℕ) → o′ ≡ o → AskDid o r b a → AskDid o′ r b a
-ask-as o o′ r b a e h = subst (λ (x : rules.Asked). AskDid x r b a) (sym e) h
+pub ask-as : (o o′ : AskOut) (r : Asked) (b a : List ℕ) → o′ ≡ o → AskDid o r b a → AskDid o′ r b a
+ask-as o o′ r b a e h = subst (λ (x : AskOut). AskDid x r b a) (sym e) h
 
 -- ---- refusals: nothing is written
-pub answer-nothing : (c : Card) (n : ℕ) (r : Answered) (b : List ℕ) → r ≡ record { refusal = n; count = 0; card = c } → AnswerDid (rules.answerRefused c n) r b b
+pub answer-nothing : (c : Card) (n : ℕ) (r : Answered) (b : List ℕ) → r ≡ record { refusal = n; count = 0; card = c } → AnswerDid (answerRefused c n) r b b
 answer-nothing c n r b e = record { told = e; left = refl }
 
-pub ask-nothing : (n : ℕ) (r : Asked) (b : List ℕ) → r ≡ record { refusal = n; kind = 0; count = 0 } → AskDid (rules.askRefused n) r b b
+pub ask-nothing : (n : ℕ) (r : Asked) (b : List ℕ) → r ≡ record { refusal = n; kind = 0; count = 0 } → AskDid (askRefused n) r b b
 ask-nothing n r b e = record { told = e; left = refl }
 
 -- ---- a reply and the scratch that holds its response data
@@ -85,7 +87,7 @@ data-part n s = ap (λ (k : ℕ). take k s) same
     same : n - 0 ≡ n
     same = omega arith
 
-pub data-short : (want : rules.Decision) (r : Way) (plain : List ℕ) → RoutesIn want r plain → r .goes ≡ true → r .count ≤ length plain
+pub data-short : (want : Decision) (r : Way) (plain : List ℕ) → RoutesIn want r plain → r .goes ≡ true → r .count ≤ length plain
 data-short want r plain h g = omega (arith, h .ready g .long, length-take (r .count) plain)
 
 -- ---- ASK's data in the buffer

@@ -5,19 +5,23 @@ ghost use mathlib.Core.Path.{_≡_};
 ghost use mathlib.Core.Bool.{true};
 ghost use Prim.Native.Nat.{_≤_};
 ghost use lib.ListN.{length};
-ghost use Rattle.rules.specs.Words.{success, verdict};
+ghost use Rattle.rules.specs.Words.{Hold};
 ghost use Rattle.rules.specs.Supplies.{suits};
-ghost use Rattle.rules.specs.Commands.{checksOf, supplyOf, replyOf};
-ghost use Rattle.rules.specs.Engine.{decide, asked, answered, withSupply};
-ghost use Rattle.commands.specs.Fits.{InRange, PathsFit};
-ghost use Rattle.card_end.specs.Telling.{tellBy};
+ghost use Rattle.rules.specs.Channel.{tell};
+ghost use Rattle.rules.specs.Steps.{checksOf, supplyOf, replyOf, decide};
+ghost use Rattle.rules.specs.Engine.{asked, answered, withSupply};
+ghost use Rattle.commands.specs.Fits.{PathsFit};
 ghost use Rattle.responses.specs.Did.{AskDid, AnswerDid};
 use card::Card;
+use refusals::REFUSAL_NONE;
+use refusals::REFUSAL_SUPPLY;
 use responses::Answered;
 use responses::Asked;
 use rules::Command;
+use rules::Supply;
 
-pub const REFUSAL_SUPPLY: u8 = 3;
+// A supply's flag byte: 00 no, 01 yes.
+const FLAG_YES: u8 = 0x01;
 
 pub fn ask_refused(refusal: u8) -> Asked
     ensures { λ r. ⌜ r ≡ record { refusal = refusal; kind = 0; count = 0 } ⌝ }
@@ -39,6 +43,25 @@ pub fn refused(card: Card, refusal: u8) -> Answered
     }
 }
 
+// Whether a supply has the form that is asked for: its length, and a flag byte of 0 or 1. One that is not read has every form.
+fn supply_suits(k: Supply, s: &[u8]) -> bool
+    ensures { λ r. ⌜ r ≡ suits k (now (s .entry)) ⌝ }
+{
+    if k.kind == 0 {
+        return true;
+    }
+    if s.len() != k.bytes {
+        return false;
+    }
+    if !k.flagged {
+        return true;
+    }
+    if s.len() == 0 {
+        return true;
+    }
+    s[0] <= FLAG_YES
+}
+
 // Past the checks and the supply's form: the command's reply, as it goes out.
 fn perform(
     over: bool,
@@ -48,9 +71,9 @@ fn perform(
     supply: &[u8],
     buf: &mut [u8],
 ) -> Answered
-    requires { ⌜ (verdict (checksOf k card (now «data»)) ≡ success) × (suits (supplyOf k) (now supply) ≡ true) ⌝ }
-    requires { ⌜ InRange k × PathsFit (card .keys) × (258 ≤ length (now buf)) ⌝ }
-    ensures { λ r. ⌜ AnswerDid (answered (tellBy over (replyOf k card (now («data» .entry)) (now (supply .entry))))) r
+    requires { ⌜ Hold (checksOf k card (now «data»)) × (suits (supplyOf k) (now supply) ≡ true) ⌝ }
+    requires { ⌜ PathsFit (card .keys) × (258 ≤ length (now buf)) ⌝ }
+    ensures { λ r. ⌜ AnswerDid (answered (tell over (replyOf k card (now («data» .entry)) (now (supply .entry))))) r
         (now (buf .entry)) (now (buf .exit)) ⌝ }
 {
     let mut out = [0u8; rules::RESPONSE_MAX_BYTES];
@@ -71,8 +94,7 @@ pub fn answer_sound(card: Card, cmd: &[u8], supply: &[u8], buf: &mut [u8]) -> An
     let count = way.count;
     let k = way.command;
     if way.goes {
-        let form = supply_forms::supply_of(k);
-        if supply_forms::supply_suits(form, supply) {
+        if supply_suits(way.supply, supply) {
             return perform(way.over, next, k, &plain[0..count], supply, buf);
         }
         return refused(card, REFUSAL_SUPPLY);
@@ -88,18 +110,17 @@ pub fn ask_sound(card: Card, cmd: &[u8], buf: &mut [u8]) -> Asked
     let mut plain = [0u8; route::DATA_MAX_BYTES];
     let way = route::route(card, cmd, &mut plain);
     let count = way.count;
-    let k = way.command;
+    let kind = way.supply.kind;
     if way.goes {
-        let form = supply_forms::supply_of(k);
-        if form.kind == 0 {
-            return ask_refused(card::REFUSAL_NONE);
+        if kind == 0 {
+            return ask_refused(REFUSAL_NONE);
         }
         octets::put(buf, 0, &plain[0..count]);
         return Asked {
-            refusal: card::REFUSAL_NONE,
-            kind: form.kind,
+            refusal: REFUSAL_NONE,
+            kind,
             count,
         };
     }
-    ask_refused(card::REFUSAL_NONE)
+    ask_refused(REFUSAL_NONE)
 }

@@ -1,8 +1,8 @@
-// The card's end of the channel: its session, the card after a message, and whether an answer goes out over the channel.
+// The card's end of the channel: its session, and the card after a message.
 // Keys and IV are in bytes.
 // Proved: the session and the next card are the rulebook's, for any card.
 ghost use mathlib.Core.Path.{_≡_};
-ghost use Rattle.rules.specs.Engine.{sessionOf, withMac};
+ghost use Rattle.rules.specs.Channel.{sessionOf, withMac};
 use card::Card;
 use card::Channel;
 use message::Session;

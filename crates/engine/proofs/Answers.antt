@@ -7,29 +7,31 @@ use Prim.Native.Nat.{ℕ, _≤_, _<_}
 use borrow.Author.Tests.{lt-ltb, le-ltb}
 use Rattle.card.specs.declared.Card.{Card}
 use Rattle.card.specs.Sound.{isSound}
-use Rattle.rules.specs.Engine as rules
+use Rattle.refusals.specs.Refusals.{unsound, noRoom}
+use Rattle.rules.specs.Steps.{decide}
+use Rattle.rules.specs.Engine.{askOut, askRefused, asked, answerOut, answerRefused, withSupply}
 
 module _ (c : Card) (cmd s : List ℕ) (room : ℕ) where
-  pub answer-unsound : isSound c ≡ false → rules.answerOut c cmd s room ≡ rules.answerRefused c 1
-  unfolding rules.answerOut
+  pub answer-unsound : isSound c ≡ false → answerOut c cmd s room ≡ answerRefused c unsound
+  unfolding answerOut
   answer-unsound e = rw (e)
 
-  pub answer-room : isSound c ≡ true → room < 258 → rules.answerOut c cmd s room ≡ rules.answerRefused c 2
-  unfolding rules.answerOut
+  pub answer-room : isSound c ≡ true → room < 258 → answerOut c cmd s room ≡ answerRefused c noRoom
+  unfolding answerOut
   answer-room e h = rw (e, lt-ltb room 258 h)
 
-  pub answer-sound : isSound c ≡ true → 258 ≤ room → rules.answerOut c cmd s room ≡ rules.withSupply c (rules.decide c cmd) s
-  unfolding rules.answerOut
+  pub answer-sound : isSound c ≡ true → 258 ≤ room → answerOut c cmd s room ≡ withSupply c (decide c cmd) s
+  unfolding answerOut
   answer-sound e h = rw (e, le-ltb room 258 h)
 
-  pub ask-unsound : isSound c ≡ false → rules.askOut c cmd room ≡ rules.askRefused 1
-  unfolding rules.askOut
+  pub ask-unsound : isSound c ≡ false → askOut c cmd room ≡ askRefused unsound
+  unfolding askOut
   ask-unsound e = rw (e)
 
-  pub ask-room : isSound c ≡ true → room < 255 → rules.askOut c cmd room ≡ rules.askRefused 2
-  unfolding rules.askOut
+  pub ask-room : isSound c ≡ true → room < 255 → askOut c cmd room ≡ askRefused noRoom
+  unfolding askOut
   ask-room e h = rw (e, lt-ltb room 255 h)
 
-  pub ask-sound : isSound c ≡ true → 255 ≤ room → rules.askOut c cmd room ≡ rules.asked (rules.decide c cmd)
-  unfolding rules.askOut
+  pub ask-sound : isSound c ≡ true → 255 ≤ room → askOut c cmd room ≡ asked (decide c cmd)
+  unfolding askOut
   ask-sound e h = rw (e, le-ltb room 255 h)

@@ -15,25 +15,23 @@ use Rattle.sealing.specs.declared.Response.{Response}
 use Rattle.sealing.specs.Promise.{ResponseSealed}
 use Rattle.card.specs.declared.Card.{Card}
 use Rattle.rules.specs.Words.{Reply}
-use Rattle.rules.specs.Engine as rules
-use Rattle.card_end.specs.Telling.{tellBy}
+use Rattle.rules.specs.Channel.{sessionOf, withMac, plainText, plainly, sealed, tell}
+use Rattle.rules.specs.Engine.{AnswerOut, answered}
 use Rattle.responses.specs.declared.Answered.{Answered}
 use Rattle.responses.specs.Did.{over, AnswerDid, replyWith}
 
 -- ---- another name for what is answered
-pub answer-as : (o o′ : rules.Answered) (r : Answered) (b a : List ℕ) → o′ ≡ o → AnswerDid o r b a → AnswerDid o′ r b a
-answer-as o o′ r b a e h = subst (λ (x : rules.Answered). AnswerDid x r b a) (sym e) h
+pub answer-as : (o o′ : AnswerOut) (r : Answered) (b a : List ℕ) → o′ ≡ o → AnswerDid o r b a → AnswerDid o′ r b a
+answer-as o o′ r b a e h = subst (λ (x : AnswerOut). AnswerDid x r b a) (sym e) h
 
 -- ---- what goes out
-pub tell-over : (over : Bool) (r : Reply) → (over && eqb (r .card .channel .stage) 2) ≡ true → tellBy over r ≡ rules.sealed r
-unfolding rules.overChannel
-tell-over true r e = rw (e)
-tell-over false r e = absurd (let z : _≡_ {A = ℕ} 0 1 = cc in omega arith)
+pub tell-over : (over : Bool) (r : Reply) → over && eqb (r .card .channel .stage) 2 ≡ true → tell over r ≡ sealed r
+unfolding tell
+tell-over over r e = rw (e)
 
-pub tell-plain : (over : Bool) (r : Reply) → (over && eqb (r .card .channel .stage) 2) ≡ false → tellBy over r ≡ rules.plainly r
-unfolding rules.overChannel
-tell-plain true r e = rw (e)
-tell-plain false r e = refl
+pub tell-plain : (over : Bool) (r : Reply) → over && eqb (r .card .channel .stage) 2 ≡ false → tell over r ≡ plainly r
+unfolding tell
+tell-plain over r e = rw (e)
 
 -- ---- bytes in the buffer
 pub put-first : (b x : List ℕ) → overwrite b 0 x ≡ over x b
@@ -50,26 +48,26 @@ put-behind b x t =
 
 -- ---- the status word's two bytes, as the code works them out
 module _ (w : ℕ) (x : List ℕ) (c : Card) (sw1 sw2 : ℕ) (high : sw1 ≡ w / 256) (low : sw2 ≡ w % 256) where
-  text : x ++ (sw1 ∷ sw2 ∷ []) ≡ rules.plainText (replyWith w x c)
+  text : x ++ (sw1 ∷ sw2 ∷ []) ≡ plainText (replyWith w x c)
   text = rw (high, low)
 
   pub did-plainly : (b m a : List ℕ) → m ≡ overwrite b 0 x → a ≡ overwrite m (length x) (sw1 ∷ sw2 ∷ [])
-      → AnswerDid (rules.answered (rules.plainly (replyWith w x c))) (record { refusal = 0; count = length x + 2; card = c }) b a
+      → AnswerDid (answered (plainly (replyWith w x c))) (record { refusal = 0; count = length x + 2; card = c }) b a
   did-plainly b m a e f = record {
     told = ap (λ (n : ℕ). record { refusal = 0; count = n; card = c }) (sym (length-append x (sw1 ∷ sw2 ∷ [])) ∙ ap length text);
     left = f ∙ ap (λ (y : List ℕ). overwrite y (length x) (sw1 ∷ sw2 ∷ [])) e ∙ put-behind b x (sw1 ∷ sw2 ∷ []) ∙ ap (λ (y : List ℕ). over y b) text;
   }
 
-  pub did-sealed : (s : Session) → s ≡ rules.sessionOf (c .channel) → (t : Response) (b a : List ℕ) → ResponseSealed s (x ++ (sw1 ∷ sw2 ∷ [])) b t a
-      → (next : Card) → next ≡ rules.withMac c (t .session .iv)
-      → AnswerDid (rules.answered (rules.sealed (replyWith w x c))) (record { refusal = 0; count = t .count; card = next }) b a
+  pub did-sealed : (s : Session) → s ≡ sessionOf (c .channel) → (t : Response) (b a : List ℕ) → ResponseSealed s (x ++ (sw1 ∷ sw2 ∷ [])) b t a
+      → (next : Card) → next ≡ withMac c (t .session .iv)
+      → AnswerDid (answered (sealed (replyWith w x c))) (record { refusal = 0; count = t .count; card = next }) b a
   did-sealed s e t b a p next f = record {
-    told = told-as (q .count) (f ∙ ap (λ (y : Session). rules.withMac c (y .iv)) (q .session));
+    told = told-as (q .count) (f ∙ ap (λ (y : Session). withMac c (y .iv)) (q .session));
     left = q .left;
   }
     where
-      q : ResponseSealed (rules.sessionOf (c .channel)) (rules.plainText (replyWith w x c)) b t a
-      q = subst (λ (y : List ℕ). ResponseSealed (rules.sessionOf (c .channel)) y b t a) text
+      q : ResponseSealed (sessionOf (c .channel)) (plainText (replyWith w x c)) b t a
+      q = subst (λ (y : List ℕ). ResponseSealed (sessionOf (c .channel)) y b t a) text
           (subst (λ (y : Session). ResponseSealed y (x ++ (sw1 ∷ sw2 ∷ [])) b t a) e p)
 
       told-as : {n m : ℕ} {u v : Card} → n ≡ m → u ≡ v → _≡_ {A = Answered} (record { refusal = 0; count = n; card = u }) (record { refusal = 0; count = m; card = v })

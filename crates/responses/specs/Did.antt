@@ -5,7 +5,7 @@ use mathlib.Core.List.{List, _++_}
 use lib.ListN.{length, drop}
 use Rattle.card.specs.declared.Card.{Card}
 use Rattle.rules.specs.Words.{Reply}
-use Rattle.rules.specs.Engine as rules
+use Rattle.rules.specs.Engine.{AskOut, AnswerOut}
 use Rattle.responses.specs.declared.Asked.{Asked}
 use Rattle.responses.specs.declared.Answered.{Answered}
 
@@ -14,18 +14,18 @@ abbrev pub over : List ℕ → List ℕ → List ℕ
 over bytes before = bytes ++ drop (length bytes) before
 
 -- ASK: the count is the number of bytes that the rulebook gives
-abbrev pub askReport : rules.Asked → Asked
+abbrev pub askReport : AskOut → Asked
 askReport o = record { refusal = o .refusal; kind = o .kind; count = length (o .bytes) }
 
-pub record AskDid (o : rules.Asked) (r : Asked) (before after : List ℕ) : Type 0 where
+pub record AskDid (o : AskOut) (r : Asked) (before after : List ℕ) : Type 0 where
   pub told : r ≡ askReport o
   pub left : after ≡ over (o .bytes) before
 
 -- ANSWER likewise
-abbrev pub answerReport : rules.Answered → Answered
+abbrev pub answerReport : AnswerOut → Answered
 answerReport o = record { refusal = o .refusal; count = length (o .bytes); card = o .card }
 
-pub record AnswerDid (o : rules.Answered) (r : Answered) (before after : List ℕ) : Type 0 where
+pub record AnswerDid (o : AnswerOut) (r : Answered) (before after : List ℕ) : Type 0 where
   pub told : r ≡ answerReport o
   pub left : after ≡ over (o .bytes) before
 

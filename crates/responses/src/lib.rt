@@ -4,8 +4,8 @@
 ghost use mathlib.Core.Path.{_≡_};
 ghost use Prim.Native.Nat.{_≤_};
 ghost use lib.ListN.{length};
-ghost use Rattle.rules.specs.Engine.{plainly, sealed, answered};
-ghost use Rattle.card_end.specs.Telling.{tellBy};
+ghost use Rattle.rules.specs.Channel.{plainly, sealed, tell};
+ghost use Rattle.rules.specs.Engine.{answered};
 ghost use Rattle.responses.specs.Did.{AnswerDid, replyWith};
 use card::Card;
 
@@ -37,7 +37,7 @@ fn tell_plainly(card: Card, status: u16, response: &[u8], buf: &mut [u8]) -> Ans
     let word = [sw1, sw2];
     octets::put(buf, n, &word);
     Answered {
-        refusal: card::REFUSAL_NONE,
+        refusal: refusals::REFUSAL_NONE,
         count: n + 2,
         card,
     }
@@ -56,7 +56,7 @@ fn tell_sealed(card: Card, status: u16, response: &[u8], buf: &mut [u8]) -> Answ
     let after = told.session;
     let mac = after.iv;
     Answered {
-        refusal: card::REFUSAL_NONE,
+        refusal: refusals::REFUSAL_NONE,
         count,
         card: card_end::with_mac(card, mac),
     }
@@ -65,9 +65,9 @@ fn tell_sealed(card: Card, status: u16, response: &[u8], buf: &mut [u8]) -> Answ
 // An answer as it goes out.
 pub fn tell(over: bool, card: Card, status: u16, response: &[u8], buf: &mut [u8]) -> Answered
     requires { ⌜ (length (now response) ≤ 221) × (258 ≤ length (now buf)) ⌝ }
-    ensures { λ r. ⌜ AnswerDid (answered (tellBy over (replyWith status (now (response .entry)) card))) r (now (buf .entry)) (now (buf .exit)) ⌝ }
+    ensures { λ r. ⌜ AnswerDid (answered (tell over (replyWith status (now (response .entry)) card))) r (now (buf .entry)) (now (buf .exit)) ⌝ }
 {
-    let open = card.channel.stage == 2;
+    let open = card.channel.stage == card::STAGE_AUTHENTICATED;
     if over & open {
         return tell_sealed(card, status, response, buf);
     }

@@ -1,1 +1,2 @@
-mod Routing
+pub mod Routing
+mod Opened

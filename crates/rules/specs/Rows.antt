@@ -56,7 +56,7 @@ row b o n l x = record { byte = b; offer = o; stage = n; lists = l; loss = x }
 abbrev pub sealedRow : ℕ → Listing → Row
 sealedRow b l = row b offer.AfterInit 2 l loss.Nothing
 
-unfoldable pub rowOf : Instruction → Row
+abbrev pub rowOf : Instruction → Row
 rowOf ins.Select = row 0xA4 offer.Always 0 (only 0x04 command.Select) loss.Nothing
 rowOf ins.Init = row 0xFE offer.BeforeInit 0 (only 0x00 command.Init) loss.Nothing
 rowOf ins.Open = row 0x10 offer.AfterInit 0 (slot command.Open) loss.Channel

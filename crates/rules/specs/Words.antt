@@ -1,8 +1,8 @@
 -- The status words by name, the checks that give them, and what a command's rule answers.
 use Prim.Native.Nat.{ℕ, _+_, _/_, _%_}
-use mathlib.Core.Path.{_≡_}
 use mathlib.Core.Bool.{Bool, true, cond}
 use mathlib.Core.List.{List, [], _∷_}
+use mathlib.Core.Path.{_≡_}
 use Rattle.card.specs.declared.Card.{Card}
 use Rattle.rules.specs.declared.Supply.{Supply}
 use Rattle.rules.specs.declared.Verdict.{Verdict}

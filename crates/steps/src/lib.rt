@@ -1,29 +1,41 @@
-// The first steps of the order of checks: what a command's first two bytes cost, and its form. Every length, Lc included, is in bytes.
-// Also the card with its channel closed, and the card without a pending pairing.
-// Proved: each step is the rulebook's, for every command, however short, and every card.
+// What the order of checks asks of a command's bytes, and what it takes from the card: step 1, the form of step 2, and what an instruction gives up.
+// Every length, Lc included, is in bytes.
+// Proved: each answer is the rulebook's, for every command, however short, and every card.
 ghost use mathlib.Core.Path.{_≡_};
 ghost use Prim.Native.Nat.{_<_};
-ghost use Rattle.rules.specs.Steps.{afterStep1, begins, dropped, kept, closed, forgotten, lcFits};
+ghost use Rattle.card.specs.State.{forgotten};
+ghost use Rattle.rules.specs.Steps.{step1, begins, dropping, forgetting, lcFits, begun, failed};
 ghost use Rattle.steps.specs.Form.{FormSays};
 use card::Card;
-use card::Channel;
 use card::wide;
-
-pub const CLASS: u8 = 0x80;
-
-pub const INS_MUTUAL: u8 = 0x11;
-
-pub const INS_PAIR: u8 = 0x12;
+use rules::CLASS;
+use rules::INS_MUTUAL;
+use rules::INS_PAIR;
+use rules::Loss;
 
 // CLA INS P1 P2, and with Lc, in bytes.
 pub const HEADER_BYTES: usize = 4;
 
 pub const FRONT_BYTES: usize = 5;
 
+// P1 of PAIR's final step.
+const P1_FINAL: u8 = 0x01;
+
 // Step 2: where the command's data starts and ends, counted from byte 0, or that the form is wrong.
 pub enum Form {
     Data(usize, usize),
     Wrong,
+}
+
+// The card without a pending pairing.
+fn forget(mut card: Card) -> Card
+    ensures { λ r. ⌜ r ≡ forgotten card ⌝ }
+{
+    let mut pairing = card.pairing;
+    pairing.pending = 0;
+    pairing.expected = [0; card::KEY_BYTES];
+    card.pairing = pairing;
+    card
 }
 
 // Whether the command begins with the class 80 and this instruction byte.
@@ -39,39 +51,19 @@ fn begins_with(cmd: &[u8], ins: u8) -> bool
     class & instruction
 }
 
-// The card with its channel in stage 0.
-pub fn close(mut card: Card) -> Card
-    ensures { λ r. ⌜ r ≡ closed card ⌝ }
-{
-    let channel = Channel::closed();
-    card.channel = channel;
-    card
-}
-
-// The card without a pending pairing.
-pub fn forget(mut card: Card) -> Card
-    ensures { λ r. ⌜ r ≡ forgotten card ⌝ }
-{
-    let mut pairing = card.pairing;
-    pairing.pending = 0;
-    pairing.expected = [0; card::KEY_BYTES];
-    card.pairing = pairing;
-    card
-}
-
 fn drop_channel(card: Card, cmd: &[u8]) -> Card
-    ensures { λ r. ⌜ r ≡ dropped (now (cmd .entry)) card ⌝ }
+    ensures { λ r. ⌜ r ≡ dropping (now (cmd .entry)) card ⌝ }
 {
-    let half_open = card.channel.stage == 1;
+    let half_open = card.channel.stage == card::STAGE_OPENED;
     let other = !begins_with(cmd, INS_MUTUAL);
     if half_open & other {
-        return close(card);
+        return card.close();
     }
     card
 }
 
 fn drop_pending(card: Card, cmd: &[u8]) -> Card
-    ensures { λ r. ⌜ r ≡ kept (now (cmd .entry)) card ⌝ }
+    ensures { λ r. ⌜ r ≡ forgetting (now (cmd .entry)) card ⌝ }
 {
     if begins_with(cmd, INS_PAIR) {
         return card;
@@ -81,7 +73,7 @@ fn drop_pending(card: Card, cmd: &[u8]) -> Card
 
 // Step 1, by the first two bytes: in stage 1 anything but 80 11 drops the channel; anything but 80 12 forgets a pending pairing.
 pub fn step_1(card: Card, cmd: &[u8]) -> Card
-    ensures { λ r. ⌜ r ≡ afterStep1 (now (cmd .entry)) card ⌝ }
+    ensures { λ r. ⌜ r ≡ step1 (now (cmd .entry)) card ⌝ }
 {
     let dropped = drop_channel(card, cmd);
     drop_pending(dropped, cmd)
@@ -114,4 +106,34 @@ pub fn find_data(cmd: &[u8]) -> Form
         return Form::Data(FRONT_BYTES, FRONT_BYTES + lc);
     }
     Form::Wrong
+}
+
+// Step 5: OPEN closes any channel before steps 5 and 6.
+pub fn begun(loss: Loss, card: Card) -> Card
+    ensures { λ r. ⌜ r ≡ begun loss card ⌝ }
+{
+    match loss {
+        Loss::Channel => card.close(),
+        Loss::HalfOpen => card,
+        Loss::Pending => card,
+        Loss::Nothing => card,
+    }
+}
+
+// What an error at step 5 or 6 leaves: MUTUAL in stage 1 gives the channel up; PAIR with P1 01 ends the pending pairing.
+pub fn failed(loss: Loss, p1: u8, card: Card) -> Card
+    ensures { λ r. ⌜ r ≡ failed loss p1 card ⌝ }
+{
+    match loss {
+        Loss::Channel => card,
+        Loss::HalfOpen => {
+            if card.channel.stage == card::STAGE_AUTHENTICATED {
+                card
+            } else {
+                card.close()
+            }
+        }
+        Loss::Pending => { if p1 == P1_FINAL { forget(card) } else { card } }
+        Loss::Nothing => card,
+    }
 }

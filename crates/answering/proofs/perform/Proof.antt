@@ -1,7 +1,7 @@
 -- The command's reply, as it goes out.
 -- Assumes nothing.
 use lib.ListN.{length-take}
-use Rattle.card_end.specs.Telling.{tellBy}
+use Rattle.rules.specs.Channel.{tell}
 use Rattle.rules.specs.Engine.{answered}
 use Rattle.rules.specs.Words.{Reply}
 use Prim.Native.Nat.{_-_}
@@ -33,13 +33,13 @@ part-tell-end c = let d = c .before .before .before .act in
 tell-requires : tie.Need-tell-requires
 tell-requires c κs = let d = c .before .before .before .before .before .act in
     let k = replied-short _ (d .result) _ _ (d .ensures) (d .kept .1 .1 .1 .1 .0) in
-    (omega (arith, k, length-take (d .result .count - 0) (d .last .1 .1 .1 .1 .0)), c .before .before .before .before .before .before .before .before .before .before .pre .1 .2)
+    (omega (arith, k, length-take (d .result .count - 0) (d .last .1 .1 .1 .1 .0)), c .before .before .before .before .before .before .before .before .before .before .pre .1 .1)
 
 same-length : tie.Need-same-length
 same-length c = search needs
 
 returns : tie.Need-returns
-returns c = let g = c .before .before .before .before .before .before .before .before .before .before .before .before .before .args in let d = c .before .before .before .before .before .before .before .before .act in answer-as _ _ _ _ _ (ap (λ (x : Reply). answered (tellBy (g .over) x)) (sym (replied _ (d .result) _ _ (d .ensures) (d .result .count - 0) (omega arith)))) (c .before .before .tell .ensures)
+returns c = let g = c .before .before .before .before .before .before .before .before .before .before .before .before .before .args in let d = c .before .before .before .before .before .before .before .before .act in answer-as _ _ _ _ _ (ap (λ (x : Reply). answered (tell (g .over) x)) (sym (replied _ (d .result) _ _ (d .ensures) (d .result .count - 0) (omega arith)))) (c .before .before .tell .ensures)
 
 pub perform-spec : {M : Type 1} → statement M
 perform-spec =

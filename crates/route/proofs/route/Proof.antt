@@ -1,18 +1,6 @@
--- Data in a right form go on; a wrong form ends with 6700.
+-- Past step 1 the rest is step 2's.
 -- Assumes nothing.
-use lib.ListN.{take, drop}
-use Prim.Native.Nat.{ℕ, _-_}
-use Rattle.rules.specs.Words.{fails}
-use Rattle.rules.specs.Engine.{plainly, ends, step3}
-use Rattle.commands.specs.Fits.{PathsFit}
-use Rattle.card.specs.declared.Card.{Card}
-use native.Mathlib.Omega.{arith}
-use mathlib.Core.Path.{sym, ap, subst, _∙_}
-use Rattle.rules.specs.Steps.{afterStep1}
-use Rattle.rules.specs.Words.{wrongLength}
-use mathlib.Core.Bool.{false}
-use Rattle.last_steps.proofs.Routing.{routes-as, ends-route, paths-by}
-use Rattle.route.proofs.Routing.{part-short, found, lost, step1-keys, decide-data, decide-wrong}
+use Rattle.route.proofs.Routing.{routes-as, past-step1, step1-paths}
 use borrow.Author.Needs.{needs}
 use Rattle.route.proofs.route.Statement.{statement}
 use Rattle.route.proofs.route.Tie as tie
@@ -20,59 +8,15 @@ use Rattle.route.proofs.route.Tie as tie
 step-1-requires : tie.Need-step-1-requires
 step-1-requires c κs = search needs
 
-find-data-requires : tie.Need-find-data-requires
-find-data-requires c κs = search needs
-
-enum-known-form : tie.Need-enum-known-form
-enum-known-form c = search needs
-
-sub-step-3 : tie.Need-sub-step-3
-sub-step-3 c = let f = found (c .before .before .before .before .before .before .before .args .cmd .now) (c .before .before .before .find-data .result) _ _ (c .before .before .before .find-data .ensures) (c .before .form .given .1) in f .ordered
-
-part-step-3-start : tie.Need-part-step-3-start
-part-step-3-start c = let f = found (c .before .before .before .before .before .before .before .args .cmd .now) (c .before .before .before .find-data .result) _ _ (c .before .before .before .find-data .ensures) (c .before .form .given .1) in omega (arith, f .ordered, f .within)
-
-part-step-3-end : tie.Need-part-step-3-end
-part-step-3-end c = let f = found (c .before .before .before .before .before .before .before .args .cmd .now) (c .before .before .before .find-data .result) _ _ (c .before .before .before .find-data .ensures) (c .before .form .given .1) in omega (arith, f .within)
-
-step-3-requires : tie.Need-step-3-requires
-step-3-requires c κs = let g = c .before .before .before .before .before .before .before .before .before .args in
-    let f = found (g .cmd .now) (c .before .before .before .before .before .find-data .result) _ _ (c .before .before .before .before .before .find-data .ensures) (c .before .before .before .form .given .1) in
-    (f .header, part-short _ (f .short), c .before .before .before .before .before .before .before .before .before .pre .0, subst (λ (x : Card). PathsFit (x .keys)) (sym (c .before .before .before .before .before .before .step-1 .ensures)) (paths-by (afterStep1 (g .cmd .now) (g .card)) (g .card) (step1-keys (g .cmd .now) (g .card)) (c .before .before .before .before .before .before .before .before .before .pre .1)))
-
-enum-told : tie.Need-enum-told
-enum-told c = search needs
-
-ends-requires : tie.Need-ends-requires
-ends-requires c κs = search needs
+step-2-requires : tie.Need-step-2-requires
+step-2-requires c κs = let g = c .before .before .before .before .args in (c .before .before .before .before .pre .0, step1-paths (g .cmd .now) (g .card) (c .before .step-1 .result) (c .before .step-1 .ensures) (c .before .before .before .before .pre .1))
 
 same-length : tie.Need-same-length
 same-length c = search needs
 
 returns : tie.Need-returns
-returns c = let g = c .before .before .before .before .before .before .before .before .before .before .before .before .args in
-    let f = found (g .cmd .now) (c .before .before .before .before .before .before .before .before .find-data .result) _ _ (c .before .before .before .before .before .before .before .before .find-data .ensures) (c .before .before .before .before .before .before .form .given .1) in
-    let start : ℕ = c .before .before .before .before .before .before .form .given .0 .0 in
-    let field = take (c .before .before .before .before .before .before .form .given .0 .1 .0 - start) (drop start (g .cmd .now)) in
-    routes-as _ _ _ _ (decide-data (g .cmd .now) (g .card) field (f .holds) ∙ ap (λ (x : Card). step3 (g .cmd .now) x field) (sym (c .before .before .before .before .before .before .before .before .before .step-1 .ensures))) (c .before .before .step-3 .ensures)
-
-returns-2 : tie.Need-returns-2
-returns-2 c = let g = c .before .before .before .before .before .before .before .args in
-    rw (c .ends .ensures) (ends-route false (c .before .before .before .before .step-1 .result) wrongLength _ _ (decide-wrong (g .cmd .now) (g .card) (lost (g .cmd .now) _ (c .before .before .before .find-data .ensures) (c .before .enum-told .given .1)) ∙ ap (λ (x : Card). ends (plainly (fails x wrongLength))) (sym (c .before .before .before .before .step-1 .ensures))) (subst (λ (x : Card). PathsFit (x .keys)) (sym (c .before .before .before .before .step-1 .ensures)) (paths-by (afterStep1 (g .cmd .now) (g .card)) (g .card) (step1-keys (g .cmd .now) (g .card)) (c .before .before .before .before .before .before .before .pre .1))))
+returns c = let g = c .before .before .before .before .before .before .before .args in
+    routes-as _ _ _ _ (past-step1 (g .cmd .now) (g .card) (c .before .before .before .before .step-1 .result) (c .before .before .before .before .step-1 .ensures)) (c .before .before .step-2 .ensures)
 
 pub route-spec : {M : Type 1} → statement M
-route-spec =
-    tie.close
-    (tie.spec
-    step-1-requires
-    find-data-requires
-    enum-known-form
-    sub-step-3
-    part-step-3-start
-    part-step-3-end
-    step-3-requires
-    enum-told
-    ends-requires
-    same-length
-    returns
-    returns-2)
+route-spec = tie.close (tie.spec step-1-requires step-2-requires same-length returns)

@@ -1,11 +1,10 @@
 -- A known instruction goes on; the others end.
 -- Assumes nothing.
+use mathlib.Core.Path.{sym, _∙_}
+use mathlib.Core.Bool.{false}
 use Rattle.rules.specs.declared.Named.the-variants as named
 use Rattle.rules.specs.Words.{unknownClass, unknownInstruction}
-use mathlib.Core.Bool.{false}
-use mathlib.Core.Path.{sym, _∙_}
-use Rattle.last_steps.proofs.Routing.{routes-as, ends-route}
-use Rattle.route.proofs.Routing.{step3-as}
+use Rattle.route.proofs.Routing.{routes-as, ends-route, plain-ends, step3-as}
 use borrow.Author.Needs.{needs}
 use Rattle.route.proofs.step_3.Statement.{statement}
 use Rattle.route.proofs.step_3.Tie as tie
@@ -46,11 +45,11 @@ returns c = let g = c .before .before .before .before .before .before .before .b
 
 returns-2 : tie.Need-returns-2
 returns-2 c = let g = c .before .before .before .before .before .before .before .before .before .before .args in
-    rw (c .ends .ensures) (ends-route false (g .card) unknownClass _ _ (step3-as (g .cmd .now) (g .card) (g .field .now) named.WrongClass (sym (c .before .enum-told .given .1) ∙ c .before .before .before .name .ensures)) (c .before .before .before .before .before .before .before .before .before .before .pre .3))
+    rw (c .ends .ensures) (ends-route false (g .card) unknownClass _ _ (step3-as (g .cmd .now) (g .card) (g .field .now) named.WrongClass (sym (c .before .enum-told .given .1) ∙ c .before .before .before .name .ensures) ∙ plain-ends (g .card) unknownClass))
 
 returns-3 : tie.Need-returns-3
 returns-3 c = let g = c .before .before .before .before .before .before .before .before .before .before .args in
-    rw (c .ends2 .ensures) (ends-route false (g .card) unknownInstruction _ _ (step3-as (g .cmd .now) (g .card) (g .field .now) named.Unknown (sym (c .before .enum-told2 .given .1) ∙ c .before .before .before .name .ensures)) (c .before .before .before .before .before .before .before .before .before .before .pre .3))
+    rw (c .ends2 .ensures) (ends-route false (g .card) unknownInstruction _ _ (step3-as (g .cmd .now) (g .card) (g .field .now) named.Unknown (sym (c .before .enum-told2 .given .1) ∙ c .before .before .before .name .ensures) ∙ plain-ends (g .card) unknownInstruction))
 
 pub step-3-spec : {M : Type 1} → statement M
 step-3-spec =

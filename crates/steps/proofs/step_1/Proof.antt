@@ -1,6 +1,6 @@
 -- First the channel, then the pending pairing.
 -- Assumes nothing.
-use Rattle.rules.specs.Steps.{afterStep1}
+use Rattle.rules.specs.Steps.{step1}
 use borrow.Author.Needs.{needs}
 use Rattle.steps.proofs.step_1.Statement.{statement}
 use Rattle.steps.proofs.step_1.Tie as tie
@@ -12,7 +12,7 @@ drop-pending-requires : tie.Need-drop-pending-requires
 drop-pending-requires c κs = search needs
 
 returns : tie.Need-returns
-unfolding afterStep1
+unfolding step1
 returns c = rw (c .drop-pending .ensures, c .before .drop-channel .ensures)
 
 pub step-1-spec : {M : Type 1} → statement M
