@@ -1,7 +1,8 @@
 -- The status words by name, the checks that give them, and what a command's rule answers.
 use Prim.Native.Nat.{ℕ, _+_, _/_, _%_}
-use mathlib.Core.Bool.{Bool, cond}
+use mathlib.Core.Bool.{Bool, true, cond}
 use mathlib.Core.List.{List, [], _∷_}
+use mathlib.Core.Path.{_≡_}
 use Rattle.card.specs.declared.Card.{Card}
 use Rattle.rules.specs.declared.Supply.{Supply}
 use Rattle.rules.specs.declared.Verdict.{Verdict}
@@ -61,6 +62,11 @@ must b w = record { holds = b; otherwise = w }
 abbrev pub verdict : Supply → List Check → Verdict
 verdict s [] = Reads s
 verdict s (k ∷ more) = cond (k .holds) (verdict s more) (Fails (k .otherwise))
+
+-- each check holds
+abbrev pub Hold : List Check → Type 0
+Hold [] = Unit {0}
+Hold (k ∷ more) = (k .holds ≡ true) × Hold more
 
 -- ---- what a command's rule answers: the status word, the response data, and the next card
 pub record Reply : Type 0 where

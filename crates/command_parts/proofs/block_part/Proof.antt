@@ -3,9 +3,9 @@
 use Prim.Native.Nat.{_+_, _-_}
 use native.Mathlib.Omega.{arith}
 use borrow.Author.Needs.{needs}
-use Rattle.supply_parts.proofs.SupplyFacts.{part-is}
-use Rattle.supply_parts.proofs.block_part.Statement.{statement}
-use Rattle.supply_parts.proofs.block_part.Tie as tie
+use Rattle.command_parts.proofs.SupplyFacts.{part-is}
+use Rattle.command_parts.proofs.block_part.Statement.{statement}
+use Rattle.command_parts.proofs.block_part.Tie as tie
 
 add-end : tie.Need-add-end
 add-end c = search needs

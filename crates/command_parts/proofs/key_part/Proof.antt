@@ -4,9 +4,9 @@ use mathlib.Core.Path.{refl}
 use Prim.Native.Nat.{_+_, _-_}
 use native.Mathlib.Omega.{arith}
 use borrow.Author.Needs.{needs}
-use Rattle.supply_parts.proofs.SupplyFacts.{part-copied}
-use Rattle.supply_parts.proofs.key_part.Statement.{statement}
-use Rattle.supply_parts.proofs.key_part.Tie as tie
+use Rattle.command_parts.proofs.SupplyFacts.{part-copied}
+use Rattle.command_parts.proofs.key_part.Statement.{statement}
+use Rattle.command_parts.proofs.key_part.Tie as tie
 
 add-end : tie.Need-add-end
 add-end c = search needs

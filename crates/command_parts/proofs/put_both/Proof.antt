@@ -1,9 +1,9 @@
 -- Two parts that were put one behind the other are written as one.
 -- Assumes nothing.
 use borrow.Author.Needs.{needs}
-use Rattle.supply_parts.proofs.ReplyFacts.{wrote-two}
-use Rattle.supply_parts.proofs.put_both.Statement.{statement}
-use Rattle.supply_parts.proofs.put_both.Tie as tie
+use Rattle.command_parts.proofs.ReplyFacts.{wrote-two}
+use Rattle.command_parts.proofs.put_both.Statement.{statement}
+use Rattle.command_parts.proofs.put_both.Tie as tie
 
 put-requires : tie.Need-put-requires
 put-requires c κs = search needs
