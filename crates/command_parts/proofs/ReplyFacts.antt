@@ -28,6 +28,11 @@ module _ {r : Replied} {n : ℕ} {a b t : List ℕ} where
         left = w .buffer ∙ from-start a t;
       }
 
+-- what one call of put wrote
+pub put-replies : {r : Replied} {a b : List ℕ} (t : List ℕ) (c c′ : Card) → r ≡ said success (length t) c → c ≡ c′ → b ≡ overwrite a 0 t
+    → Replies (succeeds c′ t) r a b
+put-replies {a = a} t c c′ er e eb = record { told = er ∙ ap (λ (x : Card). said success (length t) x) e; left = eb ∙ from-start a t }
+
 pub silent : (x : Reply) {r : Replied} {b : List ℕ} → x .response ≡ [] → r ≡ repliedOf x → Replies x r b b
 silent x e t = record { told = t; left = rw e }
 
