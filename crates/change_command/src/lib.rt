@@ -51,9 +51,13 @@ fn is_secret(which: SecretKind, data: &[u8]) -> bool
 pub fn change_verdict(pins: Pins, which: SecretKind, data: &[u8]) -> Verdict
     ensures { λ r. ⌜ r ≡ verdict noSupply (changeChecks pins which (now («data» .entry))) ⌝ }
 {
+    let verified = pins.verified != 0;
     let formed = is_secret(which, data);
-    let past_pin = must(formed, WRONG_DATA, reads_none());
-    must(pins.verified != 0, CONDITIONS_NOT_MET, past_pin)
+    must(
+        verified,
+        CONDITIONS_NOT_MET,
+        must(formed, WRONG_DATA, reads_none()),
+    )
 }
 
 fn with_pin(pins: Pins, pin: [u8; PIN_BYTES]) -> Pins

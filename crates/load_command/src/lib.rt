@@ -86,13 +86,17 @@ fn key_with(kind: u8, uid: [u8; KEY_BYTES]) -> Keys
 pub fn load_verdict(pins: Pins, form: KeyForm, data: &[u8]) -> Verdict
     ensures { λ r. ⌜ r ≡ verdict loadSupply (loadChecks pins form (now («data» .entry))) ⌝ }
 {
-    let key_data = is_key_data(form, data);
-    let past_pin = must(
-        key_data,
-        WRONG_DATA,
-        reads(LOAD_SUPPLY, LOAD_SUPPLY_BYTES, true),
-    );
-    must(pins.verified != 0, CONDITIONS_NOT_MET, past_pin)
+    let verified = pins.verified != 0;
+    let formed = is_key_data(form, data);
+    must(
+        verified,
+        CONDITIONS_NOT_MET,
+        must(
+            formed,
+            WRONG_DATA,
+            reads(LOAD_SUPPLY, LOAD_SUPPLY_BYTES, true),
+        ),
+    )
 }
 
 pub fn load(card: Card, form: KeyForm, supply: &[u8], out: &mut [u8]) -> Replied

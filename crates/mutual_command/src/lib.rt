@@ -34,13 +34,17 @@ const RANDOM_BYTES: usize = 32;
 pub fn mutual_verdict(stage: u8, data: &[u8]) -> Verdict
     ensures { λ r. ⌜ r ≡ verdict mutualSupply (mutualChecks stage (now («data» .entry))) ⌝ }
 {
+    let opened = stage == STAGE_OPENED;
     let long = data.len() == CHALLENGE_BYTES;
-    let past_stage = must(
-        long,
-        SECURITY_NOT_MET,
-        reads(MUTUAL_SUPPLY, RANDOM_BYTES, false),
-    );
-    must(stage == STAGE_OPENED, CONDITIONS_NOT_MET, past_stage)
+    must(
+        opened,
+        CONDITIONS_NOT_MET,
+        must(
+            long,
+            SECURITY_NOT_MET,
+            reads(MUTUAL_SUPPLY, RANDOM_BYTES, false),
+        ),
+    )
 }
 
 fn in_stage_2(channel: Channel) -> Channel

@@ -44,9 +44,14 @@ fn is_unblocking(data: &[u8]) -> bool
 pub fn unblock_verdict(pins: Pins, data: &[u8]) -> Verdict
     ensures { λ r. ⌜ r ≡ verdict noSupply (unblockChecks pins (now («data» .entry))) ⌝ }
 {
-    let formed = must(is_unblocking(data), WRONG_DATA, reads_none());
-    let past_pin = must(pins.puk_tries != 0, TRIES_LEFT, formed);
-    must(pins.pin_tries == 0, CONDITIONS_NOT_MET, past_pin)
+    let blocked = pins.pin_tries == 0;
+    let try_left = pins.puk_tries != 0;
+    let formed = is_unblocking(data);
+    must(
+        blocked,
+        CONDITIONS_NOT_MET,
+        must(try_left, TRIES_LEFT, must(formed, WRONG_DATA, reads_none())),
+    )
 }
 
 fn puk_right(pins: Pins, pin: [u8; PIN_BYTES]) -> Pins
