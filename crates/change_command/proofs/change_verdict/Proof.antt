@@ -20,8 +20,7 @@ must-requires-2 c κs = search needs
 returns : tie.Need-returns
 unfolding changeChecks
 returns c = let b3 = c .before .before .before in
-    let b4 = b3 .before in
-    rw (← b4 .is-secret .ensures, ← b3 .reads-none .ensures, ← c .before .before .must .ensures) (c .must2 .ensures)
+    rw (← b3 .is-secret .ensures, ← c .before .before .reads-none .ensures, ← c .before .must .ensures) (c .must2 .ensures)
 
 pub change-verdict-spec : {M : Type 1} → statement M
 change-verdict-spec =

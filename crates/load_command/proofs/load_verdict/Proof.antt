@@ -20,8 +20,7 @@ must-requires-2 c κs = search needs
 returns : tie.Need-returns
 unfolding loadChecks
 returns c = let b3 = c .before .before .before in
-    let b4 = b3 .before in
-    rw (← b4 .is-key-data .ensures, ← b3 .reads .ensures, ← c .before .before .must .ensures) (c .must2 .ensures)
+    rw (← b3 .is-key-data .ensures, ← c .before .before .reads .ensures, ← c .before .must .ensures) (c .must2 .ensures)
 
 pub load-verdict-spec : {M : Type 1} → statement M
 load-verdict-spec =

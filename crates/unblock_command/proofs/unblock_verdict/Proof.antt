@@ -22,10 +22,9 @@ must-requires-3 c κs = search needs
 
 returns : tie.Need-returns
 unfolding unblockChecks
-returns c = let b4 = c .before .before .before .before in
-    let b5 = b4 .before in
-    let b6 = b5 .before in
-    rw (← b6 .is-unblocking .ensures, ← b5 .reads-none .ensures, ← b4 .must .ensures, ← c .before .before .must2 .ensures) (c .must3 .ensures)
+returns c = let b3 = c .before .before .before in
+    let b4 = b3 .before in
+    rw (← b4 .is-unblocking .ensures, ← b3 .reads-none .ensures, ← c .before .before .must .ensures, ← c .before .must2 .ensures) (c .must3 .ensures)
 
 pub unblock-verdict-spec : {M : Type 1} → statement M
 unblock-verdict-spec =

@@ -3,8 +3,8 @@
 use lib.ListN.{length}
 use borrow.Author.Needs.{needs}
 use borrow.Author.Tests.{eq-eqb, ne-eqb}
-use Rattle.init_command.proofs.is_formed.Statement.{statement}
-use Rattle.init_command.proofs.is_formed.Tie as tie
+use Rattle.init_command.proofs.is_init_data.Statement.{statement}
+use Rattle.init_command.proofs.is_init_data.Tie as tie
 
 returns : tie.Need-returns
 returns c = rw (ne-eqb (length (c .before .args .«data» .now)) 146 (c .if1 .taken))
@@ -18,7 +18,7 @@ shared-slice-read-point-form c = search needs
 returns-2 : tie.Need-returns-2
 returns-2 c = rw (eq-eqb (length (c .before .before .before .args .«data» .now)) 146 (c .before .before .if1 .left))
 
-pub is-formed-spec : {M : Type 1} → statement M
-is-formed-spec =
+pub is-init-data-spec : {M : Type 1} → statement M
+is-init-data-spec =
     tie.close
     (tie.spec returns shared-slice-read-point-bytes shared-slice-read-point-form returns-2)
