@@ -53,11 +53,8 @@ pub fn change_verdict(pins: Pins, which: SecretKind, data: &[u8]) -> Verdict
 {
     let verified = pins.verified != 0;
     let formed = is_secret(which, data);
-    must(
-        verified,
-        CONDITIONS_NOT_MET,
-        must(formed, WRONG_DATA, reads_none()),
-    )
+    let read = reads_none();
+    must(verified, CONDITIONS_NOT_MET, must(formed, WRONG_DATA, read))
 }
 
 fn with_pin(pins: Pins, pin: [u8; PIN_BYTES]) -> Pins

@@ -72,11 +72,8 @@ pub fn init_verdict(data: &[u8]) -> Verdict
     ensures { λ r. ⌜ r ≡ verdict initSupply (initChecks (now («data» .entry))) ⌝ }
 {
     let formed = is_init_data(data);
-    must(
-        formed,
-        WRONG_DATA,
-        reads(INIT_SUPPLY, INIT_SUPPLY_BYTES, true),
-    )
+    let read = reads(INIT_SUPPLY, INIT_SUPPLY_BYTES, true);
+    must(formed, WRONG_DATA, read)
 }
 
 // Whether these bytes are a PIN, a PUK and a pairing secret.

@@ -88,15 +88,8 @@ pub fn load_verdict(pins: Pins, form: KeyForm, data: &[u8]) -> Verdict
 {
     let verified = pins.verified != 0;
     let formed = is_key_data(form, data);
-    must(
-        verified,
-        CONDITIONS_NOT_MET,
-        must(
-            formed,
-            WRONG_DATA,
-            reads(LOAD_SUPPLY, LOAD_SUPPLY_BYTES, true),
-        ),
-    )
+    let read = reads(LOAD_SUPPLY, LOAD_SUPPLY_BYTES, true);
+    must(verified, CONDITIONS_NOT_MET, must(formed, WRONG_DATA, read))
 }
 
 pub fn load(card: Card, form: KeyForm, supply: &[u8], out: &mut [u8]) -> Replied

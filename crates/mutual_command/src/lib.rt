@@ -36,14 +36,11 @@ pub fn mutual_verdict(stage: u8, data: &[u8]) -> Verdict
 {
     let opened = stage == STAGE_OPENED;
     let long = data.len() == CHALLENGE_BYTES;
+    let read = reads(MUTUAL_SUPPLY, RANDOM_BYTES, false);
     must(
         opened,
         CONDITIONS_NOT_MET,
-        must(
-            long,
-            SECURITY_NOT_MET,
-            reads(MUTUAL_SUPPLY, RANDOM_BYTES, false),
-        ),
+        must(long, SECURITY_NOT_MET, read),
     )
 }
 

@@ -75,15 +75,8 @@ pub fn open_verdict(slots: [Slot; Card::SLOTS], slot: u8, data: &[u8]) -> Verdic
 {
     let filled = is_filled(slots, slot);
     let point = is_point(data);
-    must(
-        filled,
-        WRONG_PARAMETERS,
-        must(
-            point,
-            WRONG_DATA,
-            reads(OPEN_SUPPLY, OPEN_SUPPLY_BYTES, true),
-        ),
-    )
+    let read = reads(OPEN_SUPPLY, OPEN_SUPPLY_BYTES, true);
+    must(filled, WRONG_PARAMETERS, must(point, WRONG_DATA, read))
 }
 
 // The channel in stage 1 with the session that the supply brings.

@@ -70,15 +70,8 @@ pub fn derive_verdict(pins: Pins, keys: Keys, data: &[u8]) -> Verdict
     let extended = keys.kind == KEY_EXTENDED;
     let allowed = (verified | set) & extended;
     let path = is_path(data);
-    must(
-        allowed,
-        CONDITIONS_NOT_MET,
-        must(
-            path,
-            WRONG_DATA,
-            reads(DERIVE_SUPPLY, DERIVE_SUPPLY_BYTES, true),
-        ),
-    )
+    let read = reads(DERIVE_SUPPLY, DERIVE_SUPPLY_BYTES, true);
+    must(allowed, CONDITIONS_NOT_MET, must(path, WRONG_DATA, read))
 }
 
 // The keys with this current path.
@@ -108,11 +101,8 @@ pub fn pinless_verdict(pins: Pins, data: &[u8]) -> Verdict
 {
     let verified = pins.verified != 0;
     let path = is_path(data);
-    must(
-        verified,
-        CONDITIONS_NOT_MET,
-        must(path, WRONG_DATA, reads_none()),
-    )
+    let read = reads_none();
+    must(verified, CONDITIONS_NOT_MET, must(path, WRONG_DATA, read))
 }
 
 // The keys with this PIN-less path.

@@ -75,15 +75,8 @@ pub fn sign_verdict(pins: Pins, keys: Keys, data: &[u8]) -> Verdict
     let pinless = on_pinless_path(keys);
     let allowed = some & (verified | pinless);
     let hash = data.len() == HASH_BYTES;
-    must(
-        allowed,
-        CONDITIONS_NOT_MET,
-        must(
-            hash,
-            WRONG_DATA,
-            reads(SIGN_SUPPLY, SIGN_SUPPLY_BYTES, false),
-        ),
-    )
+    let read = reads(SIGN_SUPPLY, SIGN_SUPPLY_BYTES, false);
+    must(allowed, CONDITIONS_NOT_MET, must(hash, WRONG_DATA, read))
 }
 
 pub fn sign(card: Card, supply: &[u8], out: &mut [u8]) -> Replied

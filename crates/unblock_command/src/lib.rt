@@ -47,10 +47,11 @@ pub fn unblock_verdict(pins: Pins, data: &[u8]) -> Verdict
     let blocked = pins.pin_tries == 0;
     let try_left = pins.puk_tries != 0;
     let formed = is_unblocking(data);
+    let read = reads_none();
     must(
         blocked,
         CONDITIONS_NOT_MET,
-        must(try_left, TRIES_LEFT, must(formed, WRONG_DATA, reads_none())),
+        must(try_left, TRIES_LEFT, must(formed, WRONG_DATA, read)),
     )
 }
 
