@@ -71,7 +71,7 @@ selected-short c h = by-test (λ (x : List ℕ). length x ≤ 221) (isZero (c .i
     free = freeSlots (c .pairing .slots)
 
 pub select-lawful : Lawful ins.Select command.Select
-unfolding ruleOf rowOf selectReply selectChecks
+unfolding ruleOf selectReply selectChecks
 select-lawful = record {
   keeps = λ g c d s f r v u. record {
     sound = unverified-sound (closed c) (closed-sound c (f .sound));
@@ -155,7 +155,7 @@ init-with-fills c f k (some x) =
     by-test FilledReply (isContent x) (λ e t. record { pin = refl; puk = refl; key = k }) (λ e. not-yet c f)
 
 pub init-lawful : Lawful ins.Init command.Init
-unfolding ruleOf rowOf initReply initChecks
+unfolding ruleOf initReply initChecks
 init-lawful = record {
   keeps = λ g c d s f r v u. init-fit g c f (negated (isInitialised c) (r .offer)) d s;
   short = λ c d s h. by-test Short (saysYes s) (λ e. init-with-short c (initContent (initKey s) d)) (λ e. nothing);
@@ -252,7 +252,7 @@ module _ (g c : Card) (f : Fit g c) (i : isInitialised c ≡ true) where
 
 -- ---- OPEN: its checks and its reply get the closed card
 pub open-lawful : (k : ℕ) → Lawful ins.Open (command.Open k)
-unfolding ruleOf rowOf openReply openChecks
+unfolding ruleOf openReply openChecks
 open-lawful k = record {
   keeps = λ g c d s f r v u. open-fit g (closed c) (closed-fit g c f) (r .offer) s (r .pending (λ e. omega arith));
   short = λ c d s h. by-test Short (saysYes s)
@@ -272,7 +272,7 @@ unfolding mutualChecks
 not-again n d h v = let z = eqb-true n 1 (v .0) in omega arith
 
 pub mutual-lawful : Lawful ins.Mutual command.Mutual
-unfolding ruleOf rowOf mutualReply mutualChecks
+unfolding ruleOf mutualReply mutualChecks
 mutual-lawful = record {
   keeps = λ g c d s f r v u. mutual-fit g c f (r .offer) d s v;
   short = λ c d s h. omega (arith, part-most 0 32 s);
@@ -292,7 +292,7 @@ mutual-lawful = record {
 
 -- ---- PAIR
 pub pair-first-lawful : Lawful ins.Pair command.PairFirst
-unfolding ruleOf rowOf pairFirstReply pairFirstChecks
+unfolding ruleOf pairFirstReply pairFirstChecks
 pair-first-lawful = record {
   keeps = λ g c d s f r v u. pair-first-fit g c f (r .offer) d s (r .half (λ e. omega arith)) v u;
   short = λ c d s h. two-parts (pairCryptogram s) (pairChallenge s) 32 32 (part-most 0 32 s) (part-most 32 32 s) (omega arith);
@@ -316,7 +316,7 @@ into-blind p q c s (free.At i) = refl
 into-blind p q c s free.Full = refl
 
 pub pair-final-lawful : Lawful ins.Pair command.PairFinal
-unfolding ruleOf rowOf pairFinalReply pairFinalChecks
+unfolding ruleOf pairFinalReply pairFinalChecks
 pair-final-lawful = record {
   keeps = λ g c d s f r v u. pair-into-fit g c f (r .offer) s u (firstFree (c .pairing .slots));
   short = λ c d s h. into-short c s (firstFree (c .pairing .slots));
@@ -331,7 +331,7 @@ pair-final-lawful = record {
 
 -- ---- UNPAIR
 pub unpair-lawful : (k : ℕ) → Lawful ins.Unpair (command.Unpair k)
-unfolding ruleOf rowOf unpairReply unpairChecks
+unfolding ruleOf unpairReply unpairChecks
 unpair-lawful k = record {
   keeps = λ g c d s f r v u. unpair-fit g c f (r .offer) k;
   short = λ c d s h. nothing;

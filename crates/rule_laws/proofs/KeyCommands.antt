@@ -95,7 +95,7 @@ PathBytes r = Bytes (r .card .keys .current .bytes)
 
 -- ---- LOAD
 pub load-lawful : (form : KeyForm) → Lawful ins.Load (command.Load form)
-unfolding ruleOf rowOf loadReply loadChecks
+unfolding ruleOf loadReply loadChecks
 load-lawful form = record {
   keeps = λ g c d s f r v u. load-fit g c f (r .offer) form s u;
   short = λ c d s h. by-test Short (saysYes s) (λ e. omega (arith, part-most 1 32 s)) (λ e. nothing);
@@ -116,7 +116,7 @@ load-lawful form = record {
 
 -- ---- DERIVE
 pub derive-lawful : Lawful ins.Derive command.Derive
-unfolding ruleOf rowOf deriveReply deriveChecks
+unfolding ruleOf deriveReply deriveChecks
 derive-lawful = record {
   keeps = λ g c d s f r v u. derive-fit g c f (r .offer) d s v;
   short = λ c d s h. by-test Short (saysYes s) (λ e. nothing) (λ e. nothing);
@@ -137,7 +137,7 @@ derive-lawful = record {
 
 -- ---- REMOVE
 pub remove-lawful : Lawful ins.Remove command.Remove
-unfolding ruleOf rowOf removeReply removeChecks
+unfolding ruleOf removeReply removeChecks
 remove-lawful = record {
   keeps = λ g c d s f r v u. remove-fit g c f (r .offer);
   short = λ c d s h. nothing;
@@ -157,7 +157,7 @@ remove-lawful = record {
 
 -- ---- SET PIN-LESS PATH
 pub pinless-lawful : Lawful ins.SetPinless command.SetPinless
-unfolding ruleOf rowOf pinlessReply pinlessChecks
+unfolding ruleOf pinlessReply pinlessChecks
 pinless-lawful = record {
   keeps = λ g c d s f r v u. pinless-fit g c f (r .offer) d v;
   short = λ c d s h. nothing;
@@ -177,7 +177,7 @@ pinless-lawful = record {
 
 -- ---- SIGN
 pub sign-lawful : Lawful ins.Sign command.Sign
-unfolding ruleOf rowOf signReply signChecks
+unfolding ruleOf signReply signChecks
 sign-lawful = record {
   keeps = λ g c d s f r v u. f;
   short = λ c d s h.

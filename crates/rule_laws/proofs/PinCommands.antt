@@ -82,7 +82,7 @@ module _ (c : Card) where
   status-path status.Path p = p
 
 pub status-lawful : (which : StatusKind) → Lawful ins.Status (command.Status which)
-unfolding ruleOf rowOf
+unfolding ruleOf
 status-lawful which = record {
   keeps = λ g c d s f r v u. status-fit c g f which;
   short = λ c d s h. status-short c h which;
@@ -168,7 +168,7 @@ verify-blind p q true c = refl
 verify-blind p q false c = refl
 
 pub verify-lawful : Lawful ins.Verify command.Verify
-unfolding ruleOf rowOf verifyReply verifyChecks
+unfolding ruleOf verifyReply verifyChecks
 verify-lawful = record {
   keeps = λ g c d s f r v u. verify-fit g c f (r .offer) (rightBy pin (c .pins) d);
   short = λ c d s h. by-test Short (rightBy pin (c .pins) d) (λ e. nothing) (λ e. nothing);
@@ -220,7 +220,7 @@ module _ (c : Card) (d : List ℕ) where
   change-path secret.Pairing p = p
 
 pub change-lawful : (which : SecretKind) → Lawful ins.Change (command.Change which)
-unfolding ruleOf rowOf changeChecks
+unfolding ruleOf changeChecks
 change-lawful which = record {
   keeps = λ g c d s f r v u. change-fit g c f (r .offer) which d v;
   short = λ c d s h. change-short c d which;
@@ -246,7 +246,7 @@ unblock-blind p q true c d = refl
 unblock-blind p q false c d = refl
 
 pub unblock-lawful : Lawful ins.Unblock command.Unblock
-unfolding ruleOf rowOf unblockReply unblockChecks
+unfolding ruleOf unblockReply unblockChecks
 unblock-lawful = record {
   keeps = λ g c d s f r v u. unblock-fit g c f (r .offer) d v (rightBy puk (c .pins) d);
   short = λ c d s h. by-test Short (rightBy puk (c .pins) d) (λ e. nothing) (λ e. nothing);

@@ -45,7 +45,7 @@ abbrev unknown : {A : Type 0} → true ≡ false → A
 unknown e = absurd (false≢true (sym e))
 
 pub row-lawful : (i : Instruction) → LawfulRow i
-unfolding rowOf nameOf
+unfolding nameOf
 row-lawful ins.Select = record { known = λ e. unknown e; loss = λ e. unknown e; stage = refl; lists = one-of (Lawful ins.Select) ((0x04, command.Select) ∷ []) (select-lawful, tt) }
 row-lawful ins.Init = record { known = λ e. unknown e; loss = λ e. unknown e; stage = refl; lists = one-of (Lawful ins.Init) ((0x00, command.Init) ∷ []) (init-lawful, tt) }
 row-lawful ins.Open = record { known = λ e. unknown e; loss = λ e. unknown e; stage = refl; lists = of-slot (Lawful ins.Open) command.Open open-lawful }
