@@ -81,13 +81,13 @@ module _ (c : Card) (cmd : List ℕ) (in2 : c .channel .stage ≡ 2) where
       by-opened (λ (o : Opened). Came c cmd (arrivedAt i cmd o k)) i cmd (step1 cmd c) (x .field) (λ p. absurd (false≢true (sym e ∙ p)))
       (λ p t d o.
       let here = withMac (step1 cmd c) (take 16 (x .field)) in
-      let stays = row-lawful i .loss e (p1Of cmd) here stage-behind .0 in
+      let stays = row-lawful i .begins e here in
       record {
         instruction = i;
         sealed′ = e;
         law = lawful i (p1Of cmd) (p2Of cmd) k l;
-        lost = row-lawful i .loss e (p1Of cmd) (cardAt i (record { card = here; data′ = d }))
-            (ap (λ (y : Card). y .channel .stage) stays ∙ stage-behind) .1;
+        lost = row-lawful i .fails e (p1Of cmd) (cardAt i (record { card = here; data′ = d }))
+            (ap (λ (y : Card). y .channel .stage) stays ∙ stage-behind);
         card = λ field f. stays ∙ ap (λ (y : List ℕ). withMac (step1 cmd c) (take 16 y)) (some-same (sym (x .form) ∙ f));
       })
       (x .opened) (x .opens)

@@ -46,21 +46,21 @@ unknown e = absurd (false≢true (sym e))
 
 pub row-lawful : (i : Instruction) → LawfulRow i
 unfolding rowOf nameOf
-row-lawful ins.Select = record { known = λ e. unknown e; loss = λ e. unknown e; stage = refl; lists = one-of (Lawful ins.Select) ((0x04, command.Select) ∷ []) (select-lawful, tt) }
-row-lawful ins.Init = record { known = λ e. unknown e; loss = λ e. unknown e; stage = refl; lists = one-of (Lawful ins.Init) ((0x00, command.Init) ∷ []) (init-lawful, tt) }
-row-lawful ins.Open = record { known = λ e. unknown e; loss = λ e. unknown e; stage = refl; lists = of-slot (Lawful ins.Open) command.Open open-lawful }
-row-lawful ins.Mutual = record { known = λ e. refl; loss = λ e p1 c h. (refl, rw h); stage = refl; lists = one-of (Lawful ins.Mutual) ((0x00, command.Mutual) ∷ []) (mutual-lawful, tt) }
-row-lawful ins.Pair = record { known = λ e. unknown e; loss = λ e. unknown e; stage = refl; lists = one-of (Lawful ins.Pair) ((0x00, command.PairFirst) ∷ (0x01, command.PairFinal) ∷ []) (pair-first-lawful, (pair-final-lawful, tt)) }
-row-lawful ins.Unpair = record { known = λ e. refl; loss = λ e p1 c h. (refl, refl); stage = refl; lists = of-slot (Lawful ins.Unpair) command.Unpair unpair-lawful }
-row-lawful ins.Status = record { known = λ e. refl; loss = λ e p1 c h. (refl, refl); stage = refl; lists = one-of (Lawful ins.Status) ((0x00, command.Status status.Application) ∷ (0x01, command.Status status.Path) ∷ []) (status-lawful status.Application, (status-lawful status.Path, tt)) }
-row-lawful ins.Verify = record { known = λ e. refl; loss = λ e p1 c h. (refl, refl); stage = refl; lists = one-of (Lawful ins.Verify) ((0x00, command.Verify) ∷ []) (verify-lawful, tt) }
-row-lawful ins.Change = record { known = λ e. refl; loss = λ e p1 c h. (refl, refl); stage = refl; lists = one-of (Lawful ins.Change) ((0x00, command.Change secret.Pin) ∷ (0x01, command.Change secret.Puk) ∷ (0x02, command.Change secret.Pairing) ∷ []) (change-lawful secret.Pin, (change-lawful secret.Puk, (change-lawful secret.Pairing, tt))) }
-row-lawful ins.Unblock = record { known = λ e. refl; loss = λ e p1 c h. (refl, refl); stage = refl; lists = one-of (Lawful ins.Unblock) ((0x00, command.Unblock) ∷ []) (unblock-lawful, tt) }
-row-lawful ins.Load = record { known = λ e. refl; loss = λ e p1 c h. (refl, refl); stage = refl; lists = one-of (Lawful ins.Load) ((0x01, command.Load key.Keypair) ∷ (0x02, command.Load key.Extended) ∷ (0x03, command.Load key.Seed) ∷ []) (load-lawful key.Keypair, (load-lawful key.Extended, (load-lawful key.Seed, tt))) }
-row-lawful ins.Derive = record { known = λ e. refl; loss = λ e p1 c h. (refl, refl); stage = refl; lists = one-of (Lawful ins.Derive) ((0x00, command.Derive) ∷ []) (derive-lawful, tt) }
-row-lawful ins.Remove = record { known = λ e. refl; loss = λ e p1 c h. (refl, refl); stage = refl; lists = one-of (Lawful ins.Remove) ((0x00, command.Remove) ∷ []) (remove-lawful, tt) }
-row-lawful ins.SetPinless = record { known = λ e. refl; loss = λ e p1 c h. (refl, refl); stage = refl; lists = one-of (Lawful ins.SetPinless) ((0x00, command.SetPinless) ∷ []) (pinless-lawful, tt) }
-row-lawful ins.Sign = record { known = λ e. refl; loss = λ e p1 c h. (refl, refl); stage = refl; lists = one-of (Lawful ins.Sign) ((0x00, command.Sign) ∷ []) (sign-lawful, tt) }
+row-lawful ins.Select = record { known = λ e. unknown e; begins = λ e. unknown e; fails = λ e. unknown e; stage = refl; lists = one-of (Lawful ins.Select) ((0x04, command.Select) ∷ []) (select-lawful, tt) }
+row-lawful ins.Init = record { known = λ e. unknown e; begins = λ e. unknown e; fails = λ e. unknown e; stage = refl; lists = one-of (Lawful ins.Init) ((0x00, command.Init) ∷ []) (init-lawful, tt) }
+row-lawful ins.Open = record { known = λ e. unknown e; begins = λ e. unknown e; fails = λ e. unknown e; stage = refl; lists = of-slot (Lawful ins.Open) command.Open open-lawful }
+row-lawful ins.Mutual = record { known = λ e. refl; begins = λ e c. refl; fails = λ e p1 c h. rw h; stage = refl; lists = one-of (Lawful ins.Mutual) ((0x00, command.Mutual) ∷ []) (mutual-lawful, tt) }
+row-lawful ins.Pair = record { known = λ e. unknown e; begins = λ e. unknown e; fails = λ e. unknown e; stage = refl; lists = one-of (Lawful ins.Pair) ((0x00, command.PairFirst) ∷ (0x01, command.PairFinal) ∷ []) (pair-first-lawful, (pair-final-lawful, tt)) }
+row-lawful ins.Unpair = record { known = λ e. refl; begins = λ e c. refl; fails = λ e p1 c h. refl; stage = refl; lists = of-slot (Lawful ins.Unpair) command.Unpair unpair-lawful }
+row-lawful ins.Status = record { known = λ e. refl; begins = λ e c. refl; fails = λ e p1 c h. refl; stage = refl; lists = one-of (Lawful ins.Status) ((0x00, command.Status status.Application) ∷ (0x01, command.Status status.Path) ∷ []) (status-lawful status.Application, (status-lawful status.Path, tt)) }
+row-lawful ins.Verify = record { known = λ e. refl; begins = λ e c. refl; fails = λ e p1 c h. refl; stage = refl; lists = one-of (Lawful ins.Verify) ((0x00, command.Verify) ∷ []) (verify-lawful, tt) }
+row-lawful ins.Change = record { known = λ e. refl; begins = λ e c. refl; fails = λ e p1 c h. refl; stage = refl; lists = one-of (Lawful ins.Change) ((0x00, command.Change secret.Pin) ∷ (0x01, command.Change secret.Puk) ∷ (0x02, command.Change secret.Pairing) ∷ []) (change-lawful secret.Pin, (change-lawful secret.Puk, (change-lawful secret.Pairing, tt))) }
+row-lawful ins.Unblock = record { known = λ e. refl; begins = λ e c. refl; fails = λ e p1 c h. refl; stage = refl; lists = one-of (Lawful ins.Unblock) ((0x00, command.Unblock) ∷ []) (unblock-lawful, tt) }
+row-lawful ins.Load = record { known = λ e. refl; begins = λ e c. refl; fails = λ e p1 c h. refl; stage = refl; lists = one-of (Lawful ins.Load) ((0x01, command.Load key.Keypair) ∷ (0x02, command.Load key.Extended) ∷ (0x03, command.Load key.Seed) ∷ []) (load-lawful key.Keypair, (load-lawful key.Extended, (load-lawful key.Seed, tt))) }
+row-lawful ins.Derive = record { known = λ e. refl; begins = λ e c. refl; fails = λ e p1 c h. refl; stage = refl; lists = one-of (Lawful ins.Derive) ((0x00, command.Derive) ∷ []) (derive-lawful, tt) }
+row-lawful ins.Remove = record { known = λ e. refl; begins = λ e c. refl; fails = λ e p1 c h. refl; stage = refl; lists = one-of (Lawful ins.Remove) ((0x00, command.Remove) ∷ []) (remove-lawful, tt) }
+row-lawful ins.SetPinless = record { known = λ e. refl; begins = λ e c. refl; fails = λ e p1 c h. refl; stage = refl; lists = one-of (Lawful ins.SetPinless) ((0x00, command.SetPinless) ∷ []) (pinless-lawful, tt) }
+row-lawful ins.Sign = record { known = λ e. refl; begins = λ e c. refl; fails = λ e p1 c h. refl; stage = refl; lists = one-of (Lawful ins.Sign) ((0x00, command.Sign) ∷ []) (sign-lawful, tt) }
 
 pub lawful : (i : Instruction) (p1 p2 : ℕ) (k : Command) → rowOf i .lists p1 p2 ≡ some k → Lawful i k
 lawful i p1 p2 k e = subst (Each (Lawful i)) e (row-lawful i .lists p1 p2)
