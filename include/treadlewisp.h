@@ -21,6 +21,13 @@ extern "C" {
 #define TW_CHECK(fact, text) _Static_assert(fact, text)
 #endif
 
+/* The version: one number for this header, the library, the Rust crate and the crates that they are proved from. CHANGELOG.md says what it
+   promises about the card's layout and the stored record. */
+#define TW_VERSION_MAJOR 0
+#define TW_VERSION_MINOR 1
+#define TW_VERSION_PATCH 0
+#define TW_VERSION "0.1.0"
+
 /* Lengths, in bytes. */
 enum {
     TW_UID_BYTES = 16,

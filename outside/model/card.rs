@@ -1,7 +1,7 @@
 //! The card of document 01: its state, FRESH, RESET and when a state is sound. Every field is made of bytes and may hold any value, so that
 //! unsound states can be told as well; lengths are in bytes.
 
-use super::plain::{Block, Key, BLOCK_BYTES, KEY_BYTES};
+use super::cipher::{Block, Key, BLOCK_BYTES, KEY_BYTES};
 
 pub const UID_BYTES: usize = 16;
 pub const POINT_BYTES: usize = 65;

@@ -2,8 +2,8 @@
 //! A command changes the card that it is given; lengths are in bytes.
 
 use super::card::*;
+use super::cipher::{Block, Key, BLOCK_BYTES, KEY_BYTES};
 use super::message::{decrypt, unpad, HEADER_BYTES};
-use super::plain::{Block, Key, BLOCK_BYTES, KEY_BYTES};
 use super::sealed_commands;
 use super::status::*;
 use super::template::field;
@@ -221,16 +221,16 @@ fn steps_2_to_6(card: &mut Card, command: &[u8], caller: &Caller) -> Outcome {
 
 /// Step 2: the form.
 fn form(command: &[u8]) -> Option<Apdu<'_>> {
-    let (header, behind) = command.split_at_checked(HEADER_BYTES)?;
+    let (header, after) = command.split_at_checked(HEADER_BYTES)?;
     let header = header.try_into().ok()?;
-    if behind.len() <= 1 {
+    if after.len() <= 1 {
         return Some(Apdu { header, data: &[] });
     }
-    let lc = behind[0] as usize;
-    let right = lc != 0 && (behind.len() == 1 + lc || behind.len() == 2 + lc);
+    let lc = after[0] as usize;
+    let right = lc != 0 && (after.len() == 1 + lc || after.len() == 2 + lc);
     right.then(|| Apdu {
         header,
-        data: &behind[1..1 + lc],
+        data: &after[1..1 + lc],
     })
 }
 
@@ -289,8 +289,8 @@ fn init(card: &mut Card, apdu: &Apdu, caller: &Caller) -> Outcome {
     let opened = unpad(&decrypt(&key(&supply[1..]), &block(iv), ciphertext));
     let content = opened.ok_or(End::Status(WRONG_DATA))?;
     require(content.len() == INIT_CONTENT_BYTES, WRONG_DATA)?;
-    let (pin, behind_pin) = content.split_at(PIN_BYTES);
-    let (puk, secret) = behind_pin.split_at(PUK_BYTES);
+    let (pin, after_pin) = content.split_at(PIN_BYTES);
+    let (puk, secret) = after_pin.split_at(PUK_BYTES);
     require(is_digits(pin) && is_digits(puk), WRONG_DATA)?;
     card.initialised = YES;
     card.pin.copy_from_slice(pin);
@@ -308,9 +308,9 @@ fn open(card: &mut Card, apdu: &Apdu, caller: &Caller) -> Outcome {
     require(is_point(apdu.data), WRONG_DATA)?;
     let supply = caller.supply(FOR_OPEN, apdu.data)?;
     require(supply[0] == YES, WRONG_DATA)?;
-    let (enc_key, behind_enc_key) = supply[1..].split_at(KEY_BYTES);
-    let (mac_key, behind_mac_key) = behind_enc_key.split_at(KEY_BYTES);
-    let (salt, iv) = behind_mac_key.split_at(SALT_BYTES);
+    let (enc_key, after_enc_key) = supply[1..].split_at(KEY_BYTES);
+    let (mac_key, after_mac_key) = after_enc_key.split_at(KEY_BYTES);
+    let (salt, iv) = after_mac_key.split_at(SALT_BYTES);
     card.stage = OPENED;
     card.session = Session {
         enc_key: key(enc_key),

@@ -2,7 +2,7 @@
 //! is no padding between them. Lengths are in bytes.
 
 use super::card::*;
-use super::plain::{BLOCK_BYTES, KEY_BYTES};
+use super::cipher::{BLOCK_BYTES, KEY_BYTES};
 
 pub const CARD_BYTES: usize = 529;
 pub const SESSION_BYTES: usize = 2 * KEY_BYTES + BLOCK_BYTES;

@@ -1,8 +1,8 @@
 //! The sealed message of document 01: padding, the MAC, and sealing and opening at either end. The field is the MAC of 16 bytes and the
-//! ciphertext behind it; lengths are in bytes.
+//! ciphertext after it; lengths are in bytes.
 
 use super::card::Session;
-use super::plain::{Aes, Block, Key, BLOCK_BYTES};
+use super::cipher::{Aes, Block, Key, BLOCK_BYTES};
 use std::sync::LazyLock;
 
 pub const HEADER_BYTES: usize = 4;
@@ -88,7 +88,7 @@ pub fn open_command(session: &mut Session, header: [u8; HEADER_BYTES], field: &[
     open(session, &command_head(header, field.len()), field)
 }
 
-/// Opening at the terminal: also requires the plain 9000 behind the field, and two bytes inside.
+/// Opening at the terminal: also requires the plain 9000 after the field, and two bytes inside.
 pub fn open_response(session: &mut Session, response: &[u8]) -> Option<Vec<u8>> {
     let field = response.strip_suffix(&[0x90, 0x00])?;
     is_field_length(field.len()).then_some(())?;

@@ -11,5 +11,5 @@ pub mod sealed_commands;
 pub mod status;
 pub mod template;
 
-/// The cipher beneath: the module of this name beside the model.
-use super::plain;
+/// The cipher beneath: the module of this name beside the model, in lib.rs or in by_word_tables.rs.
+use super::cipher;

@@ -2,7 +2,7 @@
 //! content; lengths are in bytes.
 
 use super::card::{Card, Path, Slot, EXTENDED_KEY, KEY_UID_BYTES, NO_KEY, PATH_BYTES, SLOTS, YES};
-use super::plain::KEY_BYTES;
+use super::cipher::KEY_BYTES;
 
 const INITIALISED: u8 = 0x10;
 const UID: u8 = 0x11;
@@ -68,7 +68,7 @@ pub fn card_of(record: &[u8]) -> Option<Card> {
     (left.is_empty() && card.is_sound()).then_some(card)
 }
 
-/// The fields that an initialised card has behind the first three.
+/// The fields that an initialised card has after the first three.
 fn take_initialised(left: &mut &[u8], card: &mut Card) -> Option<()> {
     card.pin = take_array(left, PIN)?;
     card.puk = take_array(left, PUK)?;

@@ -7,7 +7,7 @@ const MAX_DEPTH: usize = 4;
 const TEMPLATE_BIT: u8 = 0x20;
 const LONG_LENGTH: u8 = 0x81;
 
-/// A field's tag and content, and what stands behind it.
+/// A field's tag and content, and what stands after it.
 pub struct Field<'a> {
     pub tag: u8,
     pub content: &'a [u8],

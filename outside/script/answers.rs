@@ -2,7 +2,7 @@
 
 use super::call::length_text;
 use super::fields::card_field;
-use crate::model::status::*;
+use outside::model::status::*;
 
 /// What it is, its length, and the bytes where there are any.
 pub fn bytes_text(what: &str, bytes: &[u8]) -> String {

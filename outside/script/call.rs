@@ -4,10 +4,10 @@
 use super::bytes::{bytes_of, number_of, Fault, MOST_BYTES};
 use super::fields::{card_field, Field};
 use super::lines::words_of;
-use crate::model::card::{POINT_BYTES, UID_BYTES};
-use crate::model::engine::*;
-use crate::model::message::HEADER_BYTES;
-use crate::plain::{Block, Key};
+use outside::ciphers::plain::{Block, Key};
+use outside::model::card::{POINT_BYTES, UID_BYTES};
+use outside::model::engine::*;
+use outside::model::message::HEADER_BYTES;
 
 /// A call with its arguments, in the order of the words; a room stands last.
 #[derive(PartialEq, Eq, Debug)]
@@ -65,7 +65,7 @@ pub fn length_text(bytes: usize) -> String {
     }
 }
 
-/// The words behind a call's name that are still to be read, and what `last` means in them.
+/// The words after a call's name that are still to be read, and what `last` means in them.
 struct Arguments<'a> {
     words: std::slice::Iter<'a, &'a [u8]>,
     last: &'a [u8],

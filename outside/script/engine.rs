@@ -1,11 +1,11 @@
 //! The two engines that a script can be played on: the plain model of document 01, and the library, whose card and session lie as their bytes
 //! and are changed in place. Each holds one card and the terminal's session; lengths and counts are in bytes.
 
-use crate::boundary::{self, CARD_BYTES, SESSION_BYTES};
-use crate::model::card::{Card, Session, POINT_BYTES, UID_BYTES};
-use crate::model::engine::{self, Asked, Told};
-use crate::model::message::HEADER_BYTES;
-use crate::plain::KEY_BYTES;
+use outside::ciphers::plain::KEY_BYTES;
+use outside::ffi::treadlewisp::{self, CARD_BYTES, SESSION_BYTES};
+use outside::model::card::{Card, Session, POINT_BYTES, UID_BYTES};
+use outside::model::engine::{self, Asked, Told};
+use outside::model::message::HEADER_BYTES;
 
 pub trait Engine {
     /// The card as its 529 bytes, and the session as its 80 bytes.
@@ -45,20 +45,20 @@ impl Model {
 
 impl Engine for Model {
     fn card(&self) -> Vec<u8> {
-        boundary::card_bytes(&self.card)
+        treadlewisp::card_bytes(&self.card)
     }
 
     fn put_card(&mut self, card: &[u8]) {
-        self.card = boundary::card_of(card);
+        self.card = treadlewisp::card_of(card);
     }
 
     fn session(&self) -> Vec<u8> {
-        boundary::session_bytes(&self.session)
+        treadlewisp::session_bytes(&self.session)
     }
 
     fn put_session(&mut self, session: &[u8]) {
-        let (enc_key, behind_enc_key) = session.split_at(KEY_BYTES);
-        let (mac_key, iv) = behind_enc_key.split_at(KEY_BYTES);
+        let (enc_key, after_enc_key) = session.split_at(KEY_BYTES);
+        let (mac_key, iv) = after_enc_key.split_at(KEY_BYTES);
         self.session.enc_key.copy_from_slice(enc_key);
         self.session.mac_key.copy_from_slice(mac_key);
         self.session.iv.copy_from_slice(iv);
@@ -124,7 +124,7 @@ impl Library {
     }
 }
 
-fn told(library: boundary::Told) -> Told {
+fn told(library: treadlewisp::Told) -> Told {
     Told {
         refusal: library.refusal,
         count: library.count,
@@ -149,43 +149,43 @@ impl Engine for Library {
     }
 
     fn fresh(&mut self, uid: [u8; UID_BYTES], public_key: [u8; POINT_BYTES]) {
-        boundary::fresh(&mut self.card, &uid, &public_key);
+        treadlewisp::fresh(&mut self.card, &uid, &public_key);
     }
 
     fn sound(&self) -> bool {
-        boundary::sound(&self.card) == 1
+        treadlewisp::sound(&self.card) == 1
     }
 
     fn reset(&mut self) -> u8 {
-        boundary::reset(&mut self.card)
+        treadlewisp::reset(&mut self.card)
     }
 
     fn ask(&self, command: &[u8], buffer: &mut [u8]) -> Asked {
-        let boundary::Asked { refusal, kind, count } = boundary::ask(&self.card, command, buffer);
+        let treadlewisp::Asked { refusal, kind, count } = treadlewisp::ask(&self.card, command, buffer);
         Asked { refusal, kind, count }
     }
 
     fn answer(&mut self, command: &[u8], supply: &[u8], buffer: &mut [u8]) -> Told {
-        told(boundary::answer(&mut self.card, command, supply, buffer))
+        told(treadlewisp::answer(&mut self.card, command, supply, buffer))
     }
 
     fn seal(&mut self, header: [u8; HEADER_BYTES], data: &[u8], buffer: &mut [u8]) -> Told {
-        told(boundary::seal(&mut self.session, &header, data, buffer))
+        told(treadlewisp::seal(&mut self.session, &header, data, buffer))
     }
 
     fn unseal(&mut self, response: &[u8], buffer: &mut [u8]) -> Told {
-        told(boundary::unseal(&mut self.session, response, buffer))
+        told(treadlewisp::unseal(&mut self.session, response, buffer))
     }
 
     fn walk(&self, input: &[u8]) -> Told {
-        told(boundary::walk(input))
+        told(treadlewisp::walk(input))
     }
 
     fn write(&self, buffer: &mut [u8]) -> Told {
-        told(boundary::write(&self.card, buffer))
+        told(treadlewisp::write(&self.card, buffer))
     }
 
     fn read(&mut self, record: &[u8]) -> u8 {
-        boundary::read(&mut self.card, record)
+        treadlewisp::read(&mut self.card, record)
     }
 }

@@ -1,7 +1,7 @@
 //! The fields of the card record by their names in a script, in the order of docs/LAYOUT.md. Sizes and places are in bytes.
 
-use crate::model::card::*;
-use crate::plain::{BLOCK_BYTES, KEY_BYTES};
+use outside::ciphers::plain::{BLOCK_BYTES, KEY_BYTES};
+use outside::model::card::*;
 use std::ops::Range;
 
 /// The fields of a session, which the record ends with.

@@ -1,14 +1,14 @@
-//! Plays a script on an engine: every line is written again, and behind each call what comes of it. Lengths and counts are in bytes.
+//! Plays a script on an engine: every line is written again, and after each call what comes of it. Lengths and counts are in bytes.
 
 use super::answers::*;
 use super::call::{call_of, Call};
 use super::engine::Engine;
 use super::fields::{card_fields, session_fields, Field};
 use super::lines::{lines_of, Line, MOST_LINE_BYTES};
-use crate::boundary::{CARD_BYTES, SESSION_BYTES};
-use crate::model::engine::*;
-use crate::model::message::HEADER_BYTES;
-use crate::model::status::NOT_REFUSED;
+use outside::ffi::treadlewisp::{CARD_BYTES, SESSION_BYTES};
+use outside::model::engine::*;
+use outside::model::message::HEADER_BYTES;
+use outside::model::status::NOT_REFUSED;
 
 /// What a buffer holds before a call.
 const UNWRITTEN: u8 = 0xee;

@@ -6,7 +6,7 @@ use super::engine::{Engine, Library, Model};
 use super::fields::{card_fields, session_fields};
 use super::lines::{lines_of, words_of, Line};
 use super::play::{AsksForHelp, Player};
-use crate::boundary::{CARD_BYTES, SESSION_BYTES};
+use outside::ffi::treadlewisp::{CARD_BYTES, SESSION_BYTES};
 
 fn bytes(word: &str) -> Result<Vec<u8>, Fault> {
     bytes_of(word.as_bytes(), &[0xd1, 0xd2])

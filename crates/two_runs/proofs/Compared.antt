@@ -96,19 +96,24 @@ pub record Compared (c : Card) (cmd : List ℕ) (x : Comparison) : Type 0 where
   pub decides : decide c cmd ≡ record { supply = noSupply; data′ = data′; answer = λ _. told }
 
 module _ (c : Card) (cmd : List ℕ) (x : Comparison) where
-  not-plain : (i : Instruction) (k : Command) → Lawful i k → ruleOf k .compares ≡ some (x .of) → (b : Bool) → isPlain i ≡ b → b ≡ false
-  not-plain i k l e true p = never (x .of) (sym (l .plain p) ∙ e)
-  not-plain i k l e false p = refl
+  -- no plain command compares
+  over-channel : (i : Instruction) (k : Command) → Lawful i k → ruleOf k .compares ≡ some (x .of) → isPlain i ≡ false
+  over-channel i k l e = go (isPlain i) refl
+    where
+      go : (b : Bool) → isPlain i ≡ b → b ≡ false
+      go true p = never (x .of) (sym (l .plain p) ∙ e)
+      go false p = refl
 
   made-at : (y : At cmd (step1 cmd c)) (k : Command) → rowOf (y .instruction) .lists (p1Of cmd) (p2Of cmd) ≡ some k
       → arrival c cmd ≡ goes (arrivedAt (y .instruction) cmd (y .opened) k)
       → comparedAt6 (c .pins) (arrivedAt (y .instruction) cmd (y .opened) k) ≡ some x
       → Compared c cmd x
   unfolding decide
-  made-at y k l e m =
+  made-at y k listed e m =
       let a : Arrived = arrivedAt (y .instruction) cmd (y .opened) k in
       let h : At6 (c .pins) a x = at6 (c .pins) a x m in
-      let over : isPlain (y .instruction) ≡ false = not-plain (y .instruction) k (lawful (y .instruction) (p1Of cmd) (p2Of cmd) k l) (h .compares) (isPlain (y .instruction)) refl in
+      let l : Lawful (y .instruction) k = lawful (y .instruction) (p1Of cmd) (p2Of cmd) k listed in
+      let over : isPlain (y .instruction) ≡ false = over-channel (y .instruction) k l (h .compares) in
       let opened : Card = withMac (step1 cmd c) (take 16 (y .field)) in
       let pins : step1 cmd c .pins ≡ c .pins = step1-pins cmd c in
       record {

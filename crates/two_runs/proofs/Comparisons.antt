@@ -112,7 +112,8 @@ module _ (c : Card) (cmd : List ℕ) where
   pub none-compared : (a : Arrived) → arrival c cmd ≡ goes a → ruleOf (a .command) .compares ≡ none → comparison c cmd ≡ none
   none-compared a e n = compared-at a e ∙ none-at6 a (c .pins) n
 
-  others : (a : Arrived) → arrival c cmd ≡ goes a → (a .command ≡ command.Verify → ⊥) → (a .command ≡ command.Unblock → ⊥) → comparison c cmd ≡ none
+  others : (a : Arrived) → arrival c cmd ≡ goes a → (a .command ≡ command.Verify → ⊥) → (a .command ≡ command.Unblock → ⊥)
+      → comparison c cmd ≡ none
   others a e v u = go (ruleOf (a .command) .compares) refl
     where
       go : (o : Option Secret) → ruleOf (a .command) .compares ≡ o → comparison c cmd ≡ none

@@ -41,7 +41,7 @@ use Rattle.rules.specs.Supplies.{initSupply, suits}
 use Rattle.rules.specs.Rows.{rowOf, isPlain}
 use Rattle.rules.specs.Commands.{mutualChecks, mutualReply, verifyChecks, verifyReply, loadChecks, loadReply, keyWith, openChecks, openReply, pairFinalChecks, pairInto, pairFinalReply, pendingWith, pairFirstChecks, pairFirstReply, withSlot, filledWith, initChecks, initContent, initWith, initReply, initialisedWith, ruleOf}
 use Rattle.rules.specs.Channel.{Outgoing, plainly, tell}
-use Rattle.rules.specs.Steps.{step1, dataOf, nameOf, inStage, failed, step4, step5, pastStep1, arrival, checksOf, supplyOf, replyOf, step6, finish, decide}
+use Rattle.rules.specs.Steps.{step1, dataOf, nameOf, Arrived, inStage, failed, step4, step5, pastStep1, arrival, checksOf, supplyOf, replyOf, step6, finish, decide}
 use Rattle.rules.specs.Engine.{AnswerOut, answered, answerOut}
 use Rattle.two_runs.specs.Runs.{Call, answer, nextAt, endOf}
 use Rattle.two_runs.proofs.Over.{kept-over}
@@ -250,13 +250,16 @@ module _ (n verified : ℕ) (keys : Keys) (b p1 : ℕ) (b-byte : b < 256) (p1-by
     abbrev opened : Card
     opened = inChannel n (take 16 field) verified keys
 
+    abbrev arrived : Arrived
+    arrived = record { command = k; data′ = d; card = opened; lost = failed (rowOf i .loss) p1 opened; over = true }
+
     decides : decide c cmd ≡ record { supply = supplyOf k; data′ = d; answer = λ y. tell true (replyOf k opened d y) }
     unfolding decide
     decides =
         ap finish (sealed-arrives c c cmd field d i k (first iv (p1 ∷ 0 ∷ lc (length (ciphertext s d)) ∷ field))
         (sealed-data s keyed b p1 b-byte p1-byte d bytes fits) name plain staged
         (command-opens s keyed header d (header-is b p1 b-byte p1-byte) bytes fits) listed)
-        ∙ rw (kept-over i opened plain, plain) (step6-replies (record { command = k; data′ = d; card = opened; lost = failed (rowOf i .loss) p1 opened; over = true }) (checks (take 16 field)))
+        ∙ rw (kept-over i opened plain, plain) (step6-replies arrived (checks (take 16 field)))
 
     opened-keyed : Keyed (sessionWith (take 16 field))
     opened-keyed =

@@ -5,15 +5,14 @@ use mathlib.Core.Path.{_≡_}
 use mathlib.Core.Bool.{Bool, _&&_, not, cond}
 use mathlib.Core.List.{List}
 use mathlib.Core.Option.{Option, none, some}
-use lib.Dec.{eqb}
-use lib.ListN.{length, take, drop}
+use lib.ListN.{take}
 use Rattle.octets.specs.Bytes.{sameBytes}
 use Rattle.card.specs.declared.Pins.{Pins}
 use Rattle.card.specs.declared.Card.{Card}
-use Rattle.card.specs.Slots.{allOf, isZero}
-use Rattle.card.specs.Sound.{isDigit}
+use Rattle.card.specs.Slots.{isZero}
 use Rattle.rules.specs.declared.Command.the-variants as command
 use Rattle.rules.specs.Rules.{Secret, pin, puk}
+use Rattle.rules.specs.Commands.{isUnblocking}
 use Rattle.rules.specs.Channel.{Outgoing}
 use Rattle.rules.specs.Steps.{goes, stops, Arrived, arrival}
 use Rattle.rules.specs.Comparison.{Comparison, comparison}
@@ -27,8 +26,7 @@ pinComparison p d = cond (isZero (p .«pin_tries»)) none (some (comparing pin (
 
 -- UNBLOCK past its data check: no PIN tries are left, PUK tries are, and the data are 18 bytes whose last six are digits
 abbrev pub pastDataCheck : Pins → List ℕ → Bool
-pastDataCheck p d =
-    isZero (p .«pin_tries») && not (isZero (p .«puk_tries»)) && (eqb (length d) 18 && allOf isDigit (drop 12 d))
+pastDataCheck p d = isZero (p .«pin_tries») && not (isZero (p .«puk_tries»)) && isUnblocking d
 
 -- it compares there, and it comes out right exactly when the first 12 bytes are the PUK
 unfoldable pub pukComparison : Pins → List ℕ → Option Comparison

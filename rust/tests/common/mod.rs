@@ -2,7 +2,7 @@
 
 #![allow(dead_code)]
 
-#[path = "../../../outside/plain.rs"]
+#[path = "../../../outside/ciphers/plain.rs"]
 pub mod plain;
 
 use plain::Aes;

@@ -1,0 +1,268 @@
+//! What document 01 lets occur, as tables: the refusals of each operation, the status words of each command in each situation, the supplies.
+//! A run has to meet every row, and nothing beside them. Lengths are in bytes.
+
+use outside::model::card::{Card, AUTHENTICATED, NO, OPENED, YES};
+use outside::model::commands::*;
+use outside::model::engine::*;
+use outside::model::status::*;
+
+#[derive(Clone, Copy, PartialEq, Eq, PartialOrd, Ord, Debug)]
+pub enum Operation {
+    Fresh,
+    Sound,
+    Reset,
+    Ask,
+    Answer,
+    Seal,
+    Unseal,
+    Walk,
+    Write,
+    Read,
+}
+
+/// The refusals that each operation can give, 0 being none.
+pub const REFUSALS: [(Operation, &[u8]); 10] = [
+    (Operation::Fresh, &[NOT_REFUSED]),
+    (Operation::Sound, &[NOT_REFUSED]),
+    (Operation::Reset, &[NOT_REFUSED, UNSOUND]),
+    (Operation::Ask, &[NOT_REFUSED, UNSOUND, SHORT_BUFFER]),
+    (Operation::Answer, &[NOT_REFUSED, UNSOUND, SHORT_BUFFER, WRONG_SUPPLY]),
+    (Operation::Seal, &[NOT_REFUSED, SHORT_BUFFER, LONG_DATA]),
+    (Operation::Unseal, &[NOT_REFUSED, SHORT_BUFFER, NOT_GENUINE]),
+    (Operation::Walk, &[NOT_REFUSED, MALFORMED, TOO_DEEP]),
+    (Operation::Write, &[NOT_REFUSED, UNSOUND, SHORT_BUFFER]),
+    (Operation::Read, &[NOT_REFUSED, NOT_A_RECORD]),
+];
+
+/// The operations with a buffer, and the least room that each takes.
+pub const ROOMS: [(Operation, usize); 5] = [
+    (Operation::Ask, ASK_ROOM_BYTES),
+    (Operation::Answer, ANSWER_ROOM_BYTES),
+    (Operation::Seal, SEAL_ROOM_BYTES),
+    (Operation::Unseal, UNSEAL_ROOM_BYTES),
+    (Operation::Write, WRITE_ROOM_BYTES),
+];
+
+/// A buffer beside the least room of its operation.
+#[derive(Clone, Copy, PartialEq, Eq, PartialOrd, Ord, Debug)]
+pub enum Room {
+    Empty,
+    Under,
+    OneUnder,
+    Least,
+    Over,
+}
+
+pub const EVERY_ROOM: [Room; 5] = [Room::Empty, Room::Under, Room::OneUnder, Room::Least, Room::Over];
+
+pub fn room_of(operation: Operation, bytes: usize) -> Option<Room> {
+    let least_bytes = ROOMS.iter().find(|row| row.0 == operation)?.1;
+    Some(match bytes {
+        0 => Room::Empty,
+        _ if bytes > least_bytes => Room::Over,
+        _ if bytes == least_bytes => Room::Least,
+        _ if bytes == least_bytes - 1 => Room::OneUnder,
+        _ => Room::Under,
+    })
+}
+
+/// Where a sound card stands when a call comes.
+#[derive(Clone, Copy, PartialEq, Eq, PartialOrd, Ord, Debug)]
+pub enum Situation {
+    PreInitialised,
+    /// Stage 0, no pairing pending.
+    Closed,
+    /// Stage 0, a pairing pending.
+    Pending,
+    /// Stage 1.
+    Opened,
+    /// Stage 2.
+    Authenticated,
+}
+
+pub const EVERY_SITUATION: [Situation; 5] = [
+    Situation::PreInitialised,
+    Situation::Closed,
+    Situation::Pending,
+    Situation::Opened,
+    Situation::Authenticated,
+];
+
+pub fn situation_of(card: &Card) -> Situation {
+    match card.stage {
+        _ if card.initialised == NO => Situation::PreInitialised,
+        OPENED => Situation::Opened,
+        AUTHENTICATED => Situation::Authenticated,
+        _ if card.pending == YES => Situation::Pending,
+        _ => Situation::Closed,
+    }
+}
+
+/// A command by its first two bytes; none where they name none.
+pub fn name_of(command: &[u8]) -> Option<Name> {
+    let wanted_class = |name| if name == Name::Select { 0x00 } else { 0x80 };
+    let known = INSTRUCTIONS
+        .iter()
+        .find(|known| command.starts_with(&[wanted_class(known.0), known.1]));
+    known.map(|known| known.0)
+}
+
+/// Every command, and none for what is no command.
+pub fn every_name() -> Vec<Option<Name>> {
+    INSTRUCTIONS.iter().map(|known| Some(known.0)).chain([None]).collect()
+}
+
+/// The plain status words that a command can get in this situation.
+pub fn plain_words(situation: Situation, name: Option<Name>) -> &'static [u16] {
+    use Situation::*;
+    match (situation, name) {
+        (_, None) => &[0x6700, 0x6d00, 0x6e00],
+        (_, Some(Name::Select)) => &[0x6700, 0x6a82, 0x6a86, 0x9000],
+        (PreInitialised, Some(Name::Init)) | (Closed | Pending | Opened | Authenticated, Some(Name::Open)) => {
+            &[0x6700, 0x6a80, 0x6a86, 0x9000]
+        }
+        (PreInitialised, _) | (_, Some(Name::Init)) => &[0x6700, 0x6d00],
+        // Without a pending pairing nothing is compared; with one there is a free slot.
+        (Closed | Opened, Some(Name::Pair)) => &[0x6700, 0x6a80, 0x6a84, 0x6a86, 0x9000],
+        (Pending, Some(Name::Pair)) => &[0x6700, 0x6982, 0x6a80, 0x6a86, 0x9000],
+        (Authenticated, Some(Name::Pair)) => &[0x6700, 0x6985, 0x6a86],
+        (Opened, Some(Name::Mutual)) => &[0x6700, 0x6982, 0x6a86],
+        (Authenticated, _) => &[0x6700, 0x6982],
+        _ => &[0x6700, 0x6985],
+    }
+}
+
+/// The sealed status words. 63C5 is none: a wrong entry has cost a try, and 5 are the most.
+pub fn sealed_words(situation: Situation, name: Option<Name>) -> &'static [u16] {
+    match (situation, name) {
+        (Situation::Opened, Some(Name::Mutual)) => &[0x9000],
+        (Situation::Authenticated, Some(name)) => sealed_words_of(name),
+        _ => &[],
+    }
+}
+
+fn sealed_words_of(name: Name) -> &'static [u16] {
+    match name {
+        Name::Select | Name::Init | Name::Open | Name::Pair => &[],
+        Name::Mutual => &[0x6985, 0x6a86],
+        Name::Status => &[0x6a86, 0x9000],
+        Name::Verify => &[0x63c0, 0x63c1, 0x63c2, 0x6a86, 0x9000],
+        Name::Unblock => &[0x63c0, 0x63c1, 0x63c2, 0x63c3, 0x63c4, 0x6985, 0x6a80, 0x6a86, 0x9000],
+        Name::Unpair | Name::Remove => &[0x6985, 0x6a86, 0x9000],
+        Name::Derive => &[0x6984, 0x6985, 0x6a80, 0x6a86, 0x9000],
+        Name::Change | Name::Load | Name::SetPinlessPath | Name::Sign => &[0x6985, 0x6a80, 0x6a86, 0x9000],
+    }
+}
+
+/// How a command is made, by its length and byte 4.
+#[derive(Clone, Copy, PartialEq, Eq, PartialOrd, Ord, Debug)]
+pub enum Form {
+    /// Under 4 bytes, and how many.
+    Short(usize),
+    /// 4 bytes.
+    Header,
+    /// 5 bytes: byte 4 is Le.
+    HeaderLe,
+    Data,
+    DataLe,
+    /// More than 5 bytes, and byte 4 is 00.
+    LcZero,
+    /// Lc tells another length.
+    LcWrong,
+}
+
+pub const EVERY_FORM: [Form; 10] = [
+    Form::Short(0),
+    Form::Short(1),
+    Form::Short(2),
+    Form::Short(3),
+    Form::Header,
+    Form::HeaderLe,
+    Form::Data,
+    Form::DataLe,
+    Form::LcZero,
+    Form::LcWrong,
+];
+
+pub fn form_of(command: &[u8]) -> Form {
+    match command.len() {
+        bytes @ 0..=3 => Form::Short(bytes),
+        4 => Form::Header,
+        5 => Form::HeaderLe,
+        _ if command[4] == 0 => Form::LcZero,
+        bytes if bytes == 5 + command[4] as usize => Form::Data,
+        bytes if bytes == 6 + command[4] as usize => Form::DataLe,
+        _ => Form::LcWrong,
+    }
+}
+
+/// A supply beside the one that is read.
+#[derive(Clone, Copy, PartialEq, Eq, PartialOrd, Ord, Debug)]
+pub enum Supplied {
+    /// Right, with flag 01 where there is a flag.
+    Right,
+    /// Right, with flag 00.
+    No,
+    BadFlag,
+    Empty,
+    /// Flag 00 alone where more is wanted.
+    LoneNo,
+    Short,
+    Long,
+}
+
+pub fn supplied(kind: u8, supply: &[u8]) -> Supplied {
+    let wanted = supply_of_kind(kind);
+    match supply {
+        [] => Supplied::Empty,
+        _ if supply.len() > wanted.bytes => Supplied::Long,
+        [0] if wanted.has_flag && wanted.bytes > 1 => Supplied::LoneNo,
+        _ if supply.len() < wanted.bytes => Supplied::Short,
+        [0, ..] if wanted.has_flag => Supplied::No,
+        [2..=255, ..] if wanted.has_flag => Supplied::BadFlag,
+        _ => Supplied::Right,
+    }
+}
+
+/// How a supply of this kind can be.
+pub fn every_supplied(kind: u8) -> Vec<Supplied> {
+    let wanted = supply_of_kind(kind);
+    let mut ways = vec![Supplied::Right, Supplied::Empty, Supplied::Long];
+    if wanted.has_flag {
+        ways.extend([Supplied::No, Supplied::BadFlag]);
+    }
+    if wanted.bytes > 1 {
+        ways.push(Supplied::Short);
+    }
+    if wanted.has_flag && wanted.bytes > 1 {
+        ways.push(Supplied::LoneNo);
+    }
+    ways
+}
+
+pub const MOST_KIND: u8 = 8;
+
+/// The kinds that ASK can tell in this situation, 0 being none.
+pub fn kinds(situation: Situation) -> &'static [u8] {
+    match situation {
+        Situation::PreInitialised => &[0, 1],
+        Situation::Closed => &[0, 2, 4],
+        Situation::Pending => &[0, 2, 4, 5],
+        Situation::Opened => &[0, 2, 3, 4],
+        Situation::Authenticated => &[0, 2, 6, 7, 8],
+    }
+}
+
+/// The command that reads this kind of supply.
+pub fn reader(kind: u8) -> Name {
+    match kind {
+        FOR_INIT => Name::Init,
+        FOR_OPEN => Name::Open,
+        FOR_MUTUAL => Name::Mutual,
+        FOR_PAIR_FIRST | FOR_PAIR_FINAL => Name::Pair,
+        FOR_LOAD => Name::Load,
+        FOR_DERIVE => Name::Derive,
+        FOR_SIGN => Name::Sign,
+        _ => panic!("document 01 has no kind {kind}"),
+    }
+}

@@ -1,0 +1,238 @@
+//! How often each operation was called and what came of it, beside the tables of what can occur: a row that never occurred is missing, and
+//! an answer that has no row is one too many.
+
+use crate::may_occur::*;
+use outside::model::card::Card;
+use outside::model::commands::{Comparison, Name};
+use outside::model::engine::{Answered, Asked};
+use outside::model::status::*;
+use std::collections::BTreeMap;
+use std::fmt::Debug;
+
+const COMPARISONS: [Comparison; 4] = [
+    Comparison::Pin(true),
+    Comparison::Pin(false),
+    Comparison::Puk(true),
+    Comparison::Puk(false),
+];
+
+/// An answer: the command, where the card stood, the status word, and whether it was sealed.
+pub type Row = (Option<Name>, Situation, u16, bool);
+
+#[derive(Default)]
+pub struct Tally {
+    operations: BTreeMap<(Operation, u8), usize>,
+    rooms: BTreeMap<(Operation, Room), usize>,
+    /// Calls on a sound card by where it stood.
+    situations: BTreeMap<(Operation, Situation), usize>,
+    /// ASK's kinds by where the card stood.
+    kinds: BTreeMap<(Situation, u8), usize>,
+    comparisons: BTreeMap<Comparison, usize>,
+    answers: BTreeMap<Row, usize>,
+    forms: BTreeMap<(Situation, Form), usize>,
+    /// Supplies by the kind that was read.
+    supplies: BTreeMap<(u8, Supplied), usize>,
+}
+
+impl Tally {
+    pub fn calls(&self) -> usize {
+        self.operations.values().sum()
+    }
+
+    pub fn operation(&mut self, operation: Operation, refusal: u8) {
+        *self.operations.entry((operation, refusal)).or_default() += 1;
+    }
+
+    pub fn room(&mut self, operation: Operation, bytes: usize) {
+        if let Some(room) = room_of(operation, bytes) {
+            *self.rooms.entry((operation, room)).or_default() += 1;
+        }
+    }
+
+    /// A call that this card, as it was before, did not refuse as unsound.
+    pub fn card(&mut self, operation: Operation, refusal: u8, card: &Card) {
+        if refusal != UNSOUND {
+            *self.situations.entry((operation, situation_of(card))).or_default() += 1;
+        }
+    }
+
+    /// The kind that ASK told on this card, where it was not refused.
+    pub fn kind(&mut self, card: &Card, asked: Asked) {
+        if asked.refusal == NOT_REFUSED {
+            *self.kinds.entry((situation_of(card), asked.kind)).or_default() += 1;
+        }
+    }
+
+    /// A supply that was read, for a command that reads this kind.
+    pub fn supply(&mut self, kind: u8, supply: &[u8]) {
+        *self.supplies.entry((kind, supplied(kind, supply))).or_default() += 1;
+    }
+
+    /// What ANSWER gave on this card, as it was before.
+    pub fn answer(&mut self, card: &Card, command: &[u8], answered: &Answered) {
+        let Some(status) = answered.status else { return };
+        let situation = situation_of(card);
+        *self
+            .answers
+            .entry((name_of(command), situation, status, answered.sealed))
+            .or_default() += 1;
+        *self.forms.entry((situation, form_of(command))).or_default() += 1;
+        if let Some(comparison) = answered.comparison {
+            *self.comparisons.entry(comparison).or_default() += 1;
+        }
+    }
+
+    /// What has to occur and did not.
+    pub fn missing(&self) -> Vec<String> {
+        let mut missing = Vec::new();
+        for (operation, refusals) in REFUSALS {
+            missing.extend(lacking(
+                "refusal",
+                &self.operations,
+                refusals.iter().map(|&refusal| (operation, refusal)),
+            ));
+        }
+        for (operation, _) in ROOMS {
+            missing.extend(lacking("buffer", &self.rooms, EVERY_ROOM.map(|room| (operation, room))));
+        }
+        for operation in [Operation::Reset, Operation::Ask, Operation::Answer, Operation::Write] {
+            missing.extend(lacking(
+                "sound card",
+                &self.situations,
+                EVERY_SITUATION.map(|situation| (operation, situation)),
+            ));
+        }
+        missing.extend(lacking("comparison", &self.comparisons, COMPARISONS));
+        missing.extend(lacking("answer", &self.answers, every_row()));
+        for situation in EVERY_SITUATION {
+            missing.extend(lacking("kind", &self.kinds, kinds(situation).iter().map(|&kind| (situation, kind))));
+            missing.extend(lacking("form", &self.forms, EVERY_FORM.map(|form| (situation, form))));
+        }
+        for kind in 1..=MOST_KIND {
+            missing.extend(lacking(
+                "supply",
+                &self.supplies,
+                every_supplied(kind).into_iter().map(|way| (kind, way)),
+            ));
+        }
+        missing
+    }
+
+    /// Answers and kinds that the tables do not have.
+    pub fn too_many(&self) -> Vec<String> {
+        let rows = every_row();
+        let answers = self
+            .answers
+            .keys()
+            .filter(|row| !rows.contains(row))
+            .map(|row| format!("answer {row:x?}"));
+        let asked = self.kinds.keys().filter(|(situation, kind)| !kinds(*situation).contains(kind));
+        answers.chain(asked.map(|row| format!("kind {row:?}"))).collect()
+    }
+
+    pub fn print(&self) {
+        println!("calls per operation, and of them per refusal (0: none):");
+        for (operation, _) in REFUSALS {
+            let of_it = self.operations.iter().filter(|((o, _), _)| *o == operation);
+            let all: usize = of_it.clone().map(|(_, count)| count).sum();
+            let parts = listed(of_it.map(|((_, refusal), count)| format!("{refusal}: {count}")));
+            println!("  {:<8}{all:>9}   {parts}", format!("{operation:?}"));
+        }
+        let refusals = summed(&self.operations, |(_, refusal)| *refusal);
+        let refusals = refusals.iter().filter(|(refusal, _)| **refusal != NOT_REFUSED);
+        println!(
+            "refusals: {}",
+            listed(refusals.map(|(refusal, count)| format!("{refusal}: {count}")))
+        );
+        let words = summed(&self.answers, |(_, _, status, _)| *status);
+        println!(
+            "status words: {}",
+            listed(words.iter().map(|(word, count)| format!("{word:04x}: {count}")))
+        );
+        let kinds = summed(&self.kinds, |(_, kind)| *kind);
+        println!("kinds: {}", listed(shown(&kinds)));
+        println!("comparisons: {}", listed(shown(&self.comparisons)));
+        println!("calls that a sound card got, by where it stood:");
+        for (operation, _) in REFUSALS {
+            print_part(&self.situations, operation);
+        }
+        println!("buffers beside the least room:");
+        for (operation, _) in ROOMS {
+            print_part(&self.rooms, operation);
+        }
+        println!("supplies that were read, by kind:");
+        for kind in 1..=MOST_KIND {
+            print_part(&self.supplies, kind);
+        }
+        println!("forms of commands, by where the card stood:");
+        for situation in EVERY_SITUATION {
+            print_part(&self.forms, situation);
+        }
+    }
+
+    /// The answers of each command.
+    pub fn print_commands(&self) {
+        println!("answers per command and status word (s: sealed):");
+        for name in every_name() {
+            let of_it = self.answers.iter().filter(|((n, ..), _)| *n == name);
+            let of_it: BTreeMap<Row, usize> = of_it.map(|(row, count)| (*row, *count)).collect();
+            let words = summed(&of_it, |(_, _, status, sealed)| (*status, *sealed));
+            let parts = words
+                .iter()
+                .map(|((status, sealed), count)| format!("{status:04x}{}: {count}", if *sealed { "s" } else { "" }));
+            let name = name.map_or("unknown".to_string(), |name| format!("{name:?}"));
+            println!("  {name:<15} {}", listed(parts));
+        }
+        let rows = every_row();
+        let least = rows.iter().filter_map(|row| self.answers.get(row)).min();
+        println!(
+            "{} rows of command, situation and status word, each at least {} times",
+            rows.len(),
+            least.unwrap_or(&0)
+        );
+    }
+}
+
+/// Every answer that document 01 lets occur.
+pub fn every_row() -> Vec<Row> {
+    let mut rows = Vec::new();
+    for name in every_name() {
+        for situation in EVERY_SITUATION {
+            let row = |sealed| move |&status: &u16| (name, situation, status, sealed);
+            rows.extend(plain_words(situation, name).iter().map(row(false)));
+            rows.extend(sealed_words(situation, name).iter().map(row(true)));
+        }
+    }
+    rows
+}
+
+/// The wanted keys that were not counted.
+pub fn lacking<K: Ord + Debug>(what: &str, counts: &BTreeMap<K, usize>, wanted: impl IntoIterator<Item = K>) -> Vec<String> {
+    let lacks = wanted.into_iter().filter(|key| !counts.contains_key(key));
+    lacks.map(|key| format!("{what} {key:x?}")).collect()
+}
+
+fn summed<K, S: Ord>(counts: &BTreeMap<K, usize>, by: impl Fn(&K) -> S) -> BTreeMap<S, usize> {
+    let mut sums = BTreeMap::new();
+    for (key, count) in counts {
+        *sums.entry(by(key)).or_default() += count;
+    }
+    sums
+}
+
+fn shown<K: Debug>(counts: &BTreeMap<K, usize>) -> impl Iterator<Item = String> + '_ {
+    counts.iter().map(|(key, count)| format!("{key:?}: {count}"))
+}
+
+/// The counts under one first part of the key, if there are any.
+fn print_part<A: PartialEq + Debug, B: Debug>(counts: &BTreeMap<(A, B), usize>, part: A) {
+    let of_it = counts.iter().filter(|((a, _), _)| *a == part);
+    let parts = listed(of_it.map(|((_, b), count)| format!("{b:?}: {count}")));
+    if !parts.is_empty() {
+        println!("  {:<15}{parts}", format!("{part:?}"));
+    }
+}
+
+fn listed(parts: impl Iterator<Item = String>) -> String {
+    parts.collect::<Vec<_>>().join(", ")
+}

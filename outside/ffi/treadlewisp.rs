@@ -1,0 +1,134 @@
+//! The functions that the library `treadlewisp` exports to C, for Rust. Cards and sessions lie at that boundary as the bytes that the model's layout
+//! gives. Lengths and counts are in bytes; a slice is passed as its start and its length.
+
+use crate::model::card::{POINT_BYTES, UID_BYTES};
+use crate::model::message::HEADER_BYTES;
+
+pub use crate::model::layout::{card_bytes, card_of, session_bytes, CARD_BYTES, SESSION_BYTES};
+
+#[repr(C)]
+#[derive(Clone, Copy, PartialEq, Eq, Debug)]
+pub struct Asked {
+    pub refusal: u8,
+    pub kind: u8,
+    pub count: usize,
+}
+
+#[repr(C)]
+#[derive(Clone, Copy, PartialEq, Eq, Debug)]
+pub struct Told {
+    pub refusal: u8,
+    pub count: usize,
+}
+
+mod c {
+    use super::{Asked, Told};
+
+    extern "C" {
+        pub fn tw_fresh(card: *mut u8, uid: *const u8, public_key: *const u8);
+        pub fn tw_sound(card: *const u8) -> u8;
+        pub fn tw_reset(card: *mut u8) -> u8;
+        pub fn tw_ask(card: *const u8, cmd: *const u8, cmd_bytes: usize, buf: *mut u8, buf_bytes: usize) -> Asked;
+        pub fn tw_answer(
+            card: *mut u8,
+            cmd: *const u8,
+            cmd_bytes: usize,
+            supply: *const u8,
+            supply_bytes: usize,
+            buf: *mut u8,
+            buf_bytes: usize,
+        ) -> Told;
+        pub fn tw_seal(session: *mut u8, header: *const u8, data: *const u8, data_bytes: usize, buf: *mut u8, buf_bytes: usize) -> Told;
+        pub fn tw_unseal(session: *mut u8, response: *const u8, response_bytes: usize, buf: *mut u8, buf_bytes: usize) -> Told;
+        pub fn tw_walk(input: *const u8, input_bytes: usize) -> Told;
+        pub fn tw_write(card: *const u8, buf: *mut u8, buf_bytes: usize) -> Told;
+        pub fn tw_read(card: *mut u8, record: *const u8, record_bytes: usize) -> u8;
+    }
+}
+
+// Safe: a card or session has the length that the library takes it for, which `sized` and `writable` see to; slices are borrowed for the
+// call, a mutable one from no other.
+fn sized(bytes: &[u8], wanted_bytes: usize) -> *const u8 {
+    assert_eq!(bytes.len(), wanted_bytes);
+    bytes.as_ptr()
+}
+
+fn writable(bytes: &mut [u8], wanted_bytes: usize) -> *mut u8 {
+    assert_eq!(bytes.len(), wanted_bytes);
+    bytes.as_mut_ptr()
+}
+
+pub fn fresh(card: &mut [u8], uid: &[u8; UID_BYTES], public_key: &[u8; POINT_BYTES]) {
+    unsafe { c::tw_fresh(writable(card, CARD_BYTES), uid.as_ptr(), public_key.as_ptr()) }
+}
+
+pub fn sound(card: &[u8]) -> u8 {
+    unsafe { c::tw_sound(sized(card, CARD_BYTES)) }
+}
+
+pub fn reset(card: &mut [u8]) -> u8 {
+    unsafe { c::tw_reset(writable(card, CARD_BYTES)) }
+}
+
+pub fn ask(card: &[u8], command: &[u8], buffer: &mut [u8]) -> Asked {
+    unsafe {
+        c::tw_ask(
+            sized(card, CARD_BYTES),
+            command.as_ptr(),
+            command.len(),
+            buffer.as_mut_ptr(),
+            buffer.len(),
+        )
+    }
+}
+
+pub fn answer(card: &mut [u8], command: &[u8], supply: &[u8], buffer: &mut [u8]) -> Told {
+    unsafe {
+        c::tw_answer(
+            writable(card, CARD_BYTES),
+            command.as_ptr(),
+            command.len(),
+            supply.as_ptr(),
+            supply.len(),
+            buffer.as_mut_ptr(),
+            buffer.len(),
+        )
+    }
+}
+
+pub fn seal(session: &mut [u8], header: &[u8; HEADER_BYTES], data: &[u8], buffer: &mut [u8]) -> Told {
+    unsafe {
+        c::tw_seal(
+            writable(session, SESSION_BYTES),
+            header.as_ptr(),
+            data.as_ptr(),
+            data.len(),
+            buffer.as_mut_ptr(),
+            buffer.len(),
+        )
+    }
+}
+
+pub fn unseal(session: &mut [u8], response: &[u8], buffer: &mut [u8]) -> Told {
+    unsafe {
+        c::tw_unseal(
+            writable(session, SESSION_BYTES),
+            response.as_ptr(),
+            response.len(),
+            buffer.as_mut_ptr(),
+            buffer.len(),
+        )
+    }
+}
+
+pub fn walk(input: &[u8]) -> Told {
+    unsafe { c::tw_walk(input.as_ptr(), input.len()) }
+}
+
+pub fn write(card: &[u8], buffer: &mut [u8]) -> Told {
+    unsafe { c::tw_write(sized(card, CARD_BYTES), buffer.as_mut_ptr(), buffer.len()) }
+}
+
+pub fn read(card: &mut [u8], record: &[u8]) -> u8 {
+    unsafe { c::tw_read(writable(card, CARD_BYTES), record.as_ptr(), record.len()) }
+}

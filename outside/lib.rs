@@ -1,0 +1,13 @@
+//! What the programs of this package share: the plain model of document 01, two ciphers, the proved libraries' functions, and a seeded
+//! generator. Lengths are in bytes.
+
+pub mod ciphers;
+pub mod ffi;
+pub mod model;
+pub mod random;
+
+#[path = "model/by_word_tables.rs"]
+pub mod by_word_tables;
+
+/// The cipher beneath the model.
+use ciphers::plain as cipher;
