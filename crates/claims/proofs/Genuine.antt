@@ -20,7 +20,7 @@ use Rattle.padding.specs.Padding.{unpad}
 use Rattle.padding.proofs.Laws.{unpad-front}
 use Rattle.message.specs.declared.Session.{Session}
 use Rattle.message.specs.Message.{Keyed, responseHead, macOf, fieldForm, openField}
-use Rattle.message.specs.Terminal.{Out, refused, plainSuccess, sealedResponse, fieldOf, unsealed, unsealOut}
+use Rattle.message.specs.Terminal.{Out, refused, plainSuccess, sealedResponse, sealedField, unsealed, unsealOut}
 use Rattle.message.proofs.Fields.{provided-some, provided-is, form-is, opened-short}
 use Rattle.message.proofs.Trips.{unseal-seals}
 use Rattle.message.proofs.Accepted.{unseal-sound}
@@ -60,7 +60,7 @@ judged s field true (some p) = by-test (Judged s (some p)) (ltb (length p) 2) (�
 
 module _ (s : Session) (response : List ℕ) (room : ℕ) where
   abbrev field : List ℕ
-  field = fieldOf response
+  field = sealedField response
 
   abbrev opening : Option (List ℕ)
   opening = openField s responseHead field

@@ -27,7 +27,7 @@ use Rattle.rules.specs.Steps.{step1, Arrived, checksOf, supplyOf}
 use Rattle.rules.specs.Engine.{AnswerOut, answered, answerOut}
 use Rattle.engine_laws.proofs.Sound.{step1-keeps, answer-sound}
 use Rattle.exchange_laws.specs.Opens.{outcome}
-use Rattle.exchange_laws.proofs.Answers.{came, result-channel, answer-stage2}
+use Rattle.exchange_laws.proofs.Answers.{arrived-in2, result-channel, answer-stage2}
 use Rattle.claims.specs.Rows.{Sent, Gives, Entry, entered, after, Entries}
 
 -- ---- any command over the channel
@@ -36,7 +36,7 @@ pub here-keeps : (P : Card → Type 0) → ((x : Card) → P x → P (closed x))
     → ((x : Card) (mac : List ℕ) → P x → P (withMac x mac))
     → (c : Card) → c .channel .stage ≡ 2 → (v : Sent c) → P c → P (v .opens .arrived .card)
 here-keeps P close forget mac c in2 v h =
-    subst P (sym (came c (v .bytes) in2 (v .opens) .card (v .opens .field) (v .opens .form)))
+    subst P (sym (arrived-in2 c (v .bytes) in2 (v .opens) .card (v .opens .field) (v .opens .form)))
     (mac (step1 (v .bytes) c) (take 16 (v .opens .field)) (step1-keeps P close forget (v .bytes) c h))
 
 module _ (c : Card) (sound : isSound c ≡ true) (in2 : c .channel .stage ≡ 2) (v : Sent c) where

@@ -9,6 +9,7 @@ use native.Mathlib.Omega.{arith}
 use borrow.Author.Tests.{ltb-true, ltb-false}
 use lib.Dec.{ltb}
 use lib.ListN.{length}
+use Rattle.refusals.specs.Refusals.{writeRoom}
 use Rattle.message.specs.declared.Session.{Session}
 use Rattle.message.specs.Terminal.{sealOut}
 use Rattle.walk.specs.declared.Fault.the-variants as fault
@@ -21,7 +22,7 @@ use Rattle.card.specs.Shape.{Shaped}
 use Rattle.sound.specs.declared.Answer.{Answer}
 use Rattle.sound.specs.Reset.{resetAnswer}
 use Rattle.record.specs.Parse.{slotsFrom, cardOf}
-use Rattle.record.specs.Answers.{writeRoom, writeRefusal, writeBytes, readAnswer}
+use Rattle.record.specs.Answers.{writeRefusal, writeBytes, readAnswer}
 use Rattle.record.proofs.ReadFacts.{read-cases, read-refuses}
 use Rattle.engine_laws.proofs.Refusals.{ask-refused, ask-unsound, ask-room, ask-numbers, answer-refused, answer-unsound, answer-room, answer-supply, answer-numbers}
 use Rattle.claims.specs.Refusals.{ResetRefuses, WriteRefuses, IsRecord, ReadRefuses, SealRefuses, WalkRefuses, Refusals}

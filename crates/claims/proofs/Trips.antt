@@ -9,7 +9,7 @@ use Rattle.message.proofs.Trips.{unseal-seals}
 use Rattle.walk.specs.declared.Fault.the-variants as fault
 use Rattle.walk.specs.declared.Walked.{Walked}
 use Rattle.walk.specs.declared.Walked.the-variants as walked
-use Rattle.walk.specs.Walk.{walkOf, Report, report, WALK}
+use Rattle.walk.specs.Walk.{walkOf, WalkOut, report, WALK}
 use Rattle.walk.proofs.Joining.{walk-sum}
 use Rattle.answer_templates.proofs.Walks.{walk-pre-initialised, walk-application-info, walk-status, walk-signature}
 use Rattle.card.specs.declared.Card.{Card}
@@ -41,9 +41,9 @@ written-sound c room h = go (isSound c) refl
 
 -- ---- WALK
 counted : (w : Walked) (n : ℕ) → report w ≡ record { refusal = 0; count = n } → w ≡ walked.Fields n
-counted (walked.Fields m) n e = ap (λ (r : Report). walked.Fields (r .count)) e
-counted (walked.Refused fault.Malformed) n e = absurd (omega (arith, ap (λ (r : Report). r .refusal) e))
-counted (walked.Refused fault.TooDeep) n e = absurd (omega (arith, ap (λ (r : Report). r .refusal) e))
+counted (walked.Fields m) n e = ap (λ (r : WalkOut). walked.Fields (r .count)) e
+counted (walked.Refused fault.Malformed) n e = absurd (omega (arith, ap (λ (r : WalkOut). r .refusal) e))
+counted (walked.Refused fault.TooDeep) n e = absurd (omega (arith, ap (λ (r : WalkOut). r .refusal) e))
 
 joined : (s t : List ℕ) (m n : ℕ) → WALK s ≡ record { refusal = 0; count = m } → WALK t ≡ record { refusal = 0; count = n }
     → WALK (s ++ t) ≡ record { refusal = 0; count = m + n }
@@ -58,10 +58,10 @@ trips = record {
   };
   walks = record {
     joined = joined;
-    preinitialised = λ key k. ap report (walk-pre-initialised key);
-    application = λ uid key free keyUid u k x. ap report (walk-application-info uid key free keyUid);
+    preinitialised = λ key k. ap report (walk-pre-initialised key k);
+    application = λ uid key free keyUid u k x. ap report (walk-application-info uid key free keyUid u k x);
     status = λ pin puk key. ap report (walk-status pin puk key);
-    signature = λ key r s k m n. ap report (walk-signature key r s);
+    signature = λ key r s k m n. ap report (walk-signature key r s k m n);
   };
   agree = λ c cmd asks answers e a b. record {
     kind = kind-is c cmd asks e a;

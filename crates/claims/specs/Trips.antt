@@ -1,6 +1,6 @@
 -- Demand 2: what goes out comes back, what ASK says ANSWER does, soundness is kept, and the room asked for is enough. Terminal and card
 -- together stand in crate `exchange_laws`, Exchange. Every length, room and count is in bytes.
-use Prim.Native.Nat.{ℕ, _+_, _≤_}
+use Prim.Native.Nat.{ℕ, _+_, _≤_, _<_}
 use mathlib.Core.Path.{_≡_}
 use mathlib.Core.Bool.{Bool, true, false}
 use mathlib.Core.List.{List, [], _++_}
@@ -34,12 +34,12 @@ pub record Records : Type 0 where
   pub writeread : (s : List ℕ) (room : ℕ) → readAnswer s .refusal ≡ 0 → 448 ≤ room
       → (writeRefusal (readAnswer s .card) room ≡ 0) × (writeBytes (readAnswer s .card) room ≡ s)
 
--- ---- WALK: fields one behind the other add up, and each template that a command answers has the fields that it is made of. Its parts are no
--- longer than a card or a supply has them, so that every length fits its byte
+-- ---- WALK: fields one behind the other add up, and each template that a command answers has the fields that it is made of, where each length
+-- fits its byte: its parts are at most as long as those of a card and of a supply
 pub record Walks : Type 0 where
   pub joined : (s t : List ℕ) (m n : ℕ) → WALK s ≡ record { refusal = 0; count = m } → WALK t ≡ record { refusal = 0; count = n }
       → WALK (s ++ t) ≡ record { refusal = 0; count = m + n }
-  pub preinitialised : (key : List ℕ) → length key ≤ 65 → WALK (preInitialised key) ≡ record { refusal = 0; count = 1 }
+  pub preinitialised : (key : List ℕ) → length key < 256 → WALK (preInitialised key) ≡ record { refusal = 0; count = 1 }
   pub application : (uid key : List ℕ) (free : ℕ) (keyUid : List ℕ) → length uid ≤ 16 → length key ≤ 65 → length keyUid ≤ 32
       → WALK (applicationInfo uid key free keyUid) ≡ record { refusal = 0; count = 5 }
   pub status : (pin puk : ℕ) (key : Bool) → WALK (status pin puk key) ≡ record { refusal = 0; count = 3 }

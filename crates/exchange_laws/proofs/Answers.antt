@@ -15,14 +15,13 @@ use Rattle.card.specs.declared.Card.{Card}
 use Rattle.card.specs.State.{withChannel, closed}
 use Rattle.card.specs.Sound.{isSound}
 use Rattle.rules.specs.declared.Instruction.{Instruction}
-use Rattle.rules.specs.declared.Named.the-variants as named
 use Rattle.rules.specs.declared.Command.{Command}
 use Rattle.rules.specs.declared.Verdict.{Verdict}
 use Rattle.rules.specs.Words.{Hold, Reply, fails}
 use Rattle.rules.specs.Supplies.{suits}
 use Rattle.rules.specs.Rows.{rowOf, isPlain}
 use Rattle.rules.specs.Channel.{withMac, sealed, tell}
-use Rattle.rules.specs.Steps.{Step, goes, stops, begins, dropping, step1, dataOf, claOf, insOf, p1Of, p2Of, nameOf, isInitialised, Opened, inStage, openedBy, step4, Arrived, step5, pastStep1, arrival, checksOf, supplyOf, replyOf, byVerdict, step6, decide}
+use Rattle.rules.specs.Steps.{Step, goes, stops, begins, dropping, step1, dataOf, p1Of, p2Of, Opened, Arrived, arrival, checksOf, supplyOf, replyOf, byVerdict, step6, decide}
 use Rattle.rules.specs.Engine.{answered, withSupply, answerOut}
 use Rattle.rule_laws.specs.Lawful.{Lawful}
 use Rattle.rule_laws.proofs.Arrival.{At, cardAt, arrivedAt, by-step5, by-opened, by-pastStep1}
@@ -43,19 +42,11 @@ module _ (cmd : List ℕ) (c : Card) where
   pub stays-2 : c .channel .stage ≡ 2 → (eqb (c .channel .stage) 1 && not (begins 0x11 cmd)) ≡ false
   stays-2 e = ap (λ (n : ℕ). eqb n 1 && not (begins 0x11 cmd)) e
 
--- ---- a command whose field opens arrives, if step 1 leaves the card as it is
-pub arrives : (c : Card) (cmd field d : List ℕ) (i : Instruction) (k : Command) → step1 cmd c ≡ c → dataOf cmd ≡ some field
-    → nameOf (isInitialised c) (claOf cmd) (insOf cmd) ≡ named.Known i → isPlain i ≡ false → inStage i (c .channel .stage) ≡ true
-    → openedBy c cmd field ≡ some d → rowOf i .lists (p1Of cmd) (p2Of cmd) ≡ some k
-    → arrival c cmd ≡ goes (arrivedAt i cmd (record { card = withMac c (take 16 field); data′ = d }) k)
-unfolding arrival pastStep1 step4 step5
-arrives c cmd field d i k same form name sealed′ stage opens listed =
-    ap (pastStep1 cmd) same ∙ rw (form, name, sealed′, stage, opens, listed)
-
--- ---- and where one arrives in stage 2, its command is lawful, an error gives nothing up, and the card's IV is the MAC of the command
-pub record Came (c : Card) (cmd : List ℕ) (a : Arrived) : Type 0 where
+-- ---- where a command over the channel arrives in stage 2, it is lawful, an error gives nothing up, and the card's IV is the MAC of the
+-- command
+pub record ArrivedIn2 (c : Card) (cmd : List ℕ) (a : Arrived) : Type 0 where
   pub instruction : Instruction
-  pub sealed′ : isPlain instruction ≡ false
+  pub over : isPlain instruction ≡ false
   pub law : Lawful instruction (a .command)
   pub lost : a .lost ≡ a .card
   pub card : (field : List ℕ) → dataOf cmd ≡ some field → a .card ≡ withMac (step1 cmd c) (take 16 field)
@@ -68,26 +59,26 @@ some-same {A} {x} {y} e = ap (λ (o : Option A). or-x o) e
     or-x (some z) = z
 
 module _ (c : Card) (cmd : List ℕ) (in2 : c .channel .stage ≡ 2) where
-  abbrev CameBy : Step Arrived → Type 0
-  CameBy (goes a) = a .over ≡ true → Came c cmd a
-  CameBy (stops t) = Unit {0}
+  abbrev ArrivedBy : Step Arrived → Type 0
+  ArrivedBy (goes a) = a .over ≡ true → ArrivedIn2 c cmd a
+  ArrivedBy (stops t) = Unit {0}
 
   stage-behind : step1 cmd c .channel .stage ≡ 2
   stage-behind = ap (λ (k : Channel). k .stage) (step1-channel cmd c (stays-2 cmd c in2)) ∙ in2
 
-  came-at : (x : At cmd (step1 cmd c)) (k : Command) → rowOf (x .instruction) .lists (p1Of cmd) (p2Of cmd) ≡ some k
-      → isPlain (x .instruction) ≡ false → Came c cmd (arrivedAt (x .instruction) cmd (x .opened) k)
-  came-at x k l e =
-      by-opened (λ (o : Opened). Came c cmd (arrivedAt i cmd o k)) i cmd (step1 cmd c) (x .field) (λ p. absurd (false≢true (sym e ∙ p)))
+  arrived-at : (x : At cmd (step1 cmd c)) (k : Command) → rowOf (x .instruction) .lists (p1Of cmd) (p2Of cmd) ≡ some k
+      → isPlain (x .instruction) ≡ false → ArrivedIn2 c cmd (arrivedAt (x .instruction) cmd (x .opened) k)
+  arrived-at x k l e =
+      by-opened (λ (o : Opened). ArrivedIn2 c cmd (arrivedAt i cmd o k)) i cmd (step1 cmd c) (x .field) (λ p. absurd (false≢true (sym e ∙ p)))
       (λ p t d o.
       let here = withMac (step1 cmd c) (take 16 (x .field)) in
-      let stays = row-lawful i .loss e (p1Of cmd) here stage-behind .0 in
+      let stays = row-lawful i .begins e here in
       record {
         instruction = i;
-        sealed′ = e;
+        over = e;
         law = lawful i (p1Of cmd) (p2Of cmd) k l;
-        lost = row-lawful i .loss e (p1Of cmd) (cardAt i (record { card = here; data′ = d }))
-            (ap (λ (y : Card). y .channel .stage) stays ∙ stage-behind) .1;
+        lost = row-lawful i .fails e (p1Of cmd) (cardAt i (record { card = here; data′ = d }))
+            (ap (λ (y : Card). y .channel .stage) stays ∙ stage-behind);
         card = λ field f. stays ∙ ap (λ (y : List ℕ). withMac (step1 cmd c) (take 16 y)) (some-same (sym (x .form) ∙ f));
       })
       (x .opened) (x .opens)
@@ -95,13 +86,13 @@ module _ (c : Card) (cmd : List ℕ) (in2 : c .channel .stage ≡ 2) where
       i : Instruction
       i = x .instruction
 
-  came-by : CameBy (arrival c cmd)
+  arrived-by : ArrivedBy (arrival c cmd)
   unfolding arrival
-  came-by = by-pastStep1 CameBy cmd (step1 cmd c) (λ w. tt) tt
-      (λ x. by-step5 CameBy (x .instruction) cmd (x .opened) tt (λ k l o. came-at x k l (not-true (isPlain (x .instruction)) o)))
+  arrived-by = by-pastStep1 ArrivedBy cmd (step1 cmd c) (λ w. tt) tt
+      (λ x. by-step5 ArrivedBy (x .instruction) cmd (x .opened) tt (λ k l o. arrived-at x k l (not-true (isPlain (x .instruction)) o)))
 
-  pub came : (x : Opens c cmd) → Came c cmd (x .arrived)
-  came x = subst CameBy (x .there) came-by (x .over)
+  pub arrived-in2 : (x : Opens c cmd) → ArrivedIn2 c cmd (x .arrived)
+  arrived-in2 x = subst ArrivedBy (x .there) arrived-by (x .over)
 
 -- ---- ANSWER to a command that arrives
 sealed-in-2 : (over : Bool) (r : Reply) → over ≡ true → r .card .channel .stage ≡ 2 → tell over r ≡ sealed r
@@ -131,13 +122,13 @@ module _ (c : Card) (cmd s : List ℕ) (room : ℕ) (sound : isSound c ≡ true)
     result = outcome (at6 .command) (at6 .card) (at6 .data′) s
 
     arrived-channel : at6 .card .channel ≡ withMac c (take 16 (x .field)) .channel
-    arrived-channel = ap (λ (y : Card). y .channel) (came c cmd in2 x .card (x .field) (x .form))
+    arrived-channel = ap (λ (y : Card). y .channel) (arrived-in2 c cmd in2 x .card (x .field) (x .form))
         ∙ ap (λ (k : Channel). withMac (withChannel c k) (take 16 (x .field)) .channel) (step1-channel cmd c (stays-2 cmd c in2))
 
     pub result-channel : result .card .channel ≡ withMac c (take 16 (x .field)) .channel
     result-channel =
-        let y = came c cmd in2 x in
-        outcome-channel (y .instruction) (at6 .command) (y .law) (y .sealed′) (at6 .card) (at6 .data′) s
+        let y = arrived-in2 c cmd in2 x in
+        outcome-channel (y .instruction) (at6 .command) (y .law) (y .over) (at6 .card) (at6 .data′) s
         (ap (λ (k : Channel). k .stage) arrived-channel ∙ in2) ∙ arrived-channel
 
     pub answer-stage2 : (Hold (checksOf (at6 .command) (at6 .card) (at6 .data′)) → suits (supplyOf (at6 .command)) s ≡ true)
@@ -148,5 +139,5 @@ module _ (c : Card) (cmd s : List ℕ) (room : ℕ) (sound : isSound c ≡ true)
         ∙ by-verdict (λ (v : Verdict). withSupply c (byVerdict at6 v) s
         ≡ answered (tell (at6 .over) (outcomeBy (at6 .command) (at6 .card) (at6 .data′) s v))) (supplyOf (at6 .command))
         (checksOf (at6 .command) (at6 .card) (at6 .data′)) (λ h. rw (right h))
-        (λ w. ap (λ (y : Card). answered (tell (at6 .over) (fails y w))) (came c cmd in2 x .lost))
+        (λ w. ap (λ (y : Card). answered (tell (at6 .over) (fails y w))) (arrived-in2 c cmd in2 x .lost))
         ∙ ap answered (sealed-in-2 (at6 .over) result (x .over) (ap (λ (k : Channel). k .stage) result-channel ∙ in2))

@@ -33,13 +33,13 @@ use Rattle.rules.specs.Channel.{sessionOf, withMac, plainText, sealed}
 use Rattle.rules.specs.Steps.{goes, begins, step1, claOf, insOf, p1Of, p2Of, nameOf, isInitialised, inStage, Arrived, arrival, checksOf, supplyOf, replyOf}
 use Rattle.rules.specs.Engine.{AnswerOut, answered, answerOut}
 use Rattle.rule_laws.specs.Lawful.{Lawful}
-use Rattle.rule_laws.proofs.Arrival.{arrivedAt}
+use Rattle.rule_laws.proofs.Arrival.{arrivedAt, sealed-arrives}
 use Rattle.rule_laws.proofs.Table.{row-lawful, lawful}
 use Rattle.engine_laws.proofs.Sound.{mac-sound, mac-shaped, answer-shaped}
 use Rattle.exchange_laws.specs.Opens.{Opens, outcome}
 use Rattle.exchange_laws.specs.Exchange.{Typed, Turn, sealedBy, answeredBy, Names, opened, Exchange, InStage2, Supplied, ToStage2, Together}
 use Rattle.exchange_laws.proofs.Outcomes.{outcome-channel, outcome-short, outcome-path, reply-bytes, outcome-bytes}
-use Rattle.exchange_laws.proofs.Answers.{stays-2, arrives, came, answer-stage2, answer-right}
+use Rattle.exchange_laws.proofs.Answers.{stays-2, arrived-in2, answer-stage2, answer-right}
 use Rattle.exchange_laws.proofs.Seals.{cmd, field, mac, gives, form, opens, mac-is, sealed-keyed, seal-opens, is-after, step1-itself}
 
 -- ---- a card, and a turn that it takes part in
@@ -116,7 +116,7 @@ module _ (c : Card) (t : Turn) (w : Typed c) (n : Names c (t .header)) (sound : 
 
   pub goes-there : arrival c command′ ≡ goes arrived′
   goes-there =
-      arrives c command′ field′ (t .data′) (n .instruction) (n .command) itself (form (s c t w) t (w .keyed))
+      sealed-arrives c c command′ field′ (t .data′) (n .instruction) (n .command) itself (form (s c t w) t (w .keyed))
       (ap₂ (λ (a b : ℕ). nameOf (isInitialised c) a b) (at 0 (omega arith)) (at 1 (omega arith)) ∙ n .name)
       (n .sealed)
       (n .stage)
@@ -157,7 +157,7 @@ module _ (c : Card) (t : Turn) (n : Names c (t .header)) (sound : isSound c ≡ 
     law = lawful (n .instruction) (p1Of (t .header)) (p2Of (t .header)) (n .command) (n .listed)
 
     here2 : opens2 .arrived .card ≡ opened c t
-    here2 = came c command2 in2 opens2 .card (field (s c t w) t (w .keyed)) (form (s c t w) t (w .keyed))
+    here2 = arrived-in2 c command2 in2 opens2 .card (field (s c t w) t (w .keyed)) (form (s c t w) t (w .keyed))
         ∙ ap (λ (x : Card). withMac x (take 16 (field (s c t w) t (w .keyed)))) (itself c t w n sound open2 (stays-2 command2 c in2))
         ∙ mac-opened c t w n sound open2 (stays-2 command2 c in2)
 

@@ -2,15 +2,14 @@
 -- Assumes nothing.
 use mathlib.Core.Path.{_≡_, refl, sym, ap, ap₂, _∙_}
 use mathlib.Core.Bool.{Bool, true, false, _&&_, _||_, not, cond, false≢true}
-use mathlib.Core.List.{List, [], _∷_, _++_}
+use mathlib.Core.List.{List}
 use mathlib.Core.Logic.{⊎-elim}
 use mathlib.Core.Option.{some}
-use Prim.Native.Nat.{ℕ, _+_, _≤_}
+use Prim.Native.Nat.{ℕ}
 use native.Mathlib.Omega.{arith}
-use borrow.Author.Tests.{le-ltb, lt-leb, eq-eqb, ne-eqb, eqb-true}
+use borrow.Author.Tests.{ne-eqb, eqb-true}
 use lib.Dec.{eqb}
 use lib.ListN.{length, take, drop}
-use lib.Seq.{take-length}
 use Rattle.template.proofs.HeadFacts.{by-test}
 use Rattle.message.specs.declared.Session.{Session}
 use Rattle.message.specs.Message.{Keyed, withIv, lc, commandHead, ciphertext, fieldMac, sealField, openField}
@@ -25,25 +24,8 @@ use Rattle.card.specs.Shape.{Shaped}
 use Rattle.card.proofs.Tests.{both, zero-list}
 use Rattle.card.proofs.Rules.{After, PartsRules, pairing-rules, parts-rules, blank-rules, sound-cases}
 use Rattle.rules.specs.Steps.{begins, forgetting, step1, dataOf}
+use Rattle.rule_laws.proofs.Arrival.{data-filled}
 use Rattle.exchange_laws.specs.Exchange.{Turn, sealedBy, SealOpens}
-
--- ---- the form: Lc and then as many bytes
-data-filled : (h : List ℕ) → length h ≡ 4 → (n : ℕ) (f : List ℕ) → n ≡ length f → 1 ≤ n → dataOf (h ++ (n ∷ f)) ≡ some f
-unfolding dataOf
-data-filled [] l n f e p = absurd (omega arith)
-data-filled (a ∷ []) l n f e p = absurd (omega arith)
-data-filled (a ∷ b ∷ []) l n f e p = absurd (omega arith)
-data-filled (a ∷ b ∷ c ∷ []) l n f e p = absurd (omega arith)
-data-filled (a ∷ b ∷ c ∷ d ∷ []) l n f e p =
-    rw (
-      le-ltb (length (a ∷ b ∷ c ∷ d ∷ n ∷ f)) 4 (omega arith),
-      lt-leb (length (a ∷ b ∷ c ∷ d ∷ n ∷ f)) 5 (omega arith),
-      ne-eqb n 0 (λ z. omega arith),
-      eq-eqb (length (a ∷ b ∷ c ∷ d ∷ n ∷ f)) (5 + n) (omega arith),
-      e,
-      take-length f,
-    )
-data-filled (a ∷ b ∷ c ∷ d ∷ x ∷ more) l n f e p = absurd (omega arith)
 
 module _ (s : Session) (t : Turn) (k : Keyed s) where
   abbrev header : List ℕ

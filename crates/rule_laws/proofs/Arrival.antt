@@ -1,14 +1,16 @@
--- Steps 1 to 5 by cases: where they stop and with what, and what they have seen to where a command comes to its own checks.
+-- Steps 1 to 5 by cases: where they stop and with what, and what they have seen to where a command comes to its own checks; and that a sealed
+-- command which each of them passes comes there.
 -- Assumes nothing.
-use mathlib.Core.Path.{_≡_, refl, sym, _∙_, subst}
+use mathlib.Core.Path.{_≡_, refl, sym, ap, _∙_, subst}
 use mathlib.Core.Bool.{Bool, true, false, _&&_, not, false≢true}
-use mathlib.Core.List.{List, [], _∷_}
+use mathlib.Core.List.{List, [], _∷_, _++_}
 use mathlib.Core.Option.{Option, none, some}
-use Prim.Native.Nat.{ℕ}
+use Prim.Native.Nat.{ℕ, _+_, _≤_}
 use native.Mathlib.Omega.{arith}
-use lib.Dec.{leb, eqb}
-use lib.ListN.{take}
-use borrow.Author.Tests.{eqb-true}
+use lib.Dec.{eqb}
+use lib.ListN.{length, take}
+use lib.Seq.{take-length}
+use borrow.Author.Tests.{le-ltb, lt-leb, eq-eqb, ne-eqb, eqb-true}
 use Rattle.octets.specs.Bytes.{sameBytes}
 use Rattle.template.proofs.HeadFacts.{by-test}
 use Rattle.card.specs.declared.Card.{Card}
@@ -18,8 +20,6 @@ use Rattle.rules.specs.declared.Instruction.{Instruction}
 use Rattle.rules.specs.declared.Instruction.the-variants as ins
 use Rattle.rules.specs.declared.Named.{Named}
 use Rattle.rules.specs.declared.Named.the-variants as named
-use Rattle.rules.specs.declared.Loss.{Loss}
-use Rattle.rules.specs.declared.Loss.the-variants as loss
 use Rattle.rules.specs.declared.Command.{Command}
 use Rattle.rules.specs.Words.{wrongLength, securityNotMet, conditionsNotMet, wrongParameters, unknownInstruction, unknownClass, fails}
 use Rattle.rules.specs.Rows.{rowOf, class80, offered, isPlain}
@@ -199,3 +199,29 @@ module _ (cmd : List ℕ) (c : Card) (x : At cmd (step1 cmd c)) where
       let r = first-ready (λ _. t) in
       record { offer = r .offer; pending = r .pending; half = r .half; stage = r .stage })
       (x .opened) (x .opens)
+
+-- ---- a command that is filled: Lc and then as many bytes
+pub data-filled : (h : List ℕ) → length h ≡ 4 → (n : ℕ) (f : List ℕ) → n ≡ length f → 1 ≤ n → dataOf (h ++ (n ∷ f)) ≡ some f
+unfolding dataOf
+data-filled [] l n f e p = absurd (omega arith)
+data-filled (a ∷ []) l n f e p = absurd (omega arith)
+data-filled (a ∷ b ∷ []) l n f e p = absurd (omega arith)
+data-filled (a ∷ b ∷ c ∷ []) l n f e p = absurd (omega arith)
+data-filled (a ∷ b ∷ c ∷ d ∷ []) l n f e p =
+    rw (
+      le-ltb (length (a ∷ b ∷ c ∷ d ∷ n ∷ f)) 4 (omega arith),
+      lt-leb (length (a ∷ b ∷ c ∷ d ∷ n ∷ f)) 5 (omega arith),
+      ne-eqb n 0 (λ z. omega arith),
+      eq-eqb (length (a ∷ b ∷ c ∷ d ∷ n ∷ f)) (5 + n) (omega arith),
+      e,
+      take-length f,
+    )
+data-filled (a ∷ b ∷ c ∷ d ∷ x ∷ more) l n f e p = absurd (omega arith)
+
+-- ---- a sealed command that opens to d, in a stage that it goes in, where step 1 leaves the card x
+pub sealed-arrives : (c x : Card) (cmd field d : List ℕ) (i : Instruction) (k : Command) → step1 cmd c ≡ x → dataOf cmd ≡ some field
+    → nameOf (isInitialised x) (claOf cmd) (insOf cmd) ≡ named.Known i → isPlain i ≡ false → inStage i (x .channel .stage) ≡ true
+    → openedBy x cmd field ≡ some d → rowOf i .lists (p1Of cmd) (p2Of cmd) ≡ some k
+    → arrival c cmd ≡ goes (arrivedAt i cmd (record { card = withMac x (take 16 field); data′ = d }) k)
+unfolding arrival pastStep1 step4 step5
+sealed-arrives c x cmd field d i k a f n p t o l = ap (pastStep1 cmd) a ∙ rw (f, n, p, t, o, l)

@@ -1,6 +1,6 @@
 -- Every instruction is lawful, and so is every command that one lists.
 -- Assumes nothing.
-use mathlib.Core.Path.{_≡_, refl, sym, subst}
+use mathlib.Core.Path.{_≡_, refl, sym, _∙_, subst}
 use mathlib.Core.Bool.{Bool, true, false, cond, false≢true}
 use mathlib.Core.List.{List, [], _∷_}
 use mathlib.Core.Option.{Option, none, some}
@@ -18,7 +18,7 @@ use Rattle.rules.specs.declared.KeyForm.the-variants as key
 use Rattle.rules.specs.declared.Command.{Command}
 use Rattle.rules.specs.declared.Command.the-variants as command
 use Rattle.rules.specs.Rows.{atP1, oneOf, slot, rowOf, isPlain}
-use Rattle.rules.specs.Steps.{nameOf}
+use Rattle.rules.specs.Steps.{nameOf, inStage}
 use Rattle.rule_laws.specs.Lawful.{Lawful, Each, LawfulRow}
 use Rattle.rule_laws.proofs.ChannelCommands.{select-lawful, init-lawful, open-lawful, mutual-lawful, pair-first-lawful, pair-final-lawful, unpair-lawful}
 use Rattle.rule_laws.proofs.PinCommands.{status-lawful, verify-lawful, change-lawful, unblock-lawful}
@@ -40,27 +40,34 @@ module _ (P : Command → Type 0) where
   of-slot : (k : ℕ → Command) → ((n : ℕ) → P (k n)) → (p1 p2 : ℕ) → Each P (slot k p1 p2)
   of-slot k h p1 p2 = by-test (Each P) (isZero p2) (λ e. by-test (Each P) (ltb p1 slotCount) (λ t. h p1) (λ t. tt)) (λ e. tt)
 
--- ---- the table
-abbrev unknown : {A : Type 0} → true ≡ false → A
-unknown e = absurd (false≢true (sym e))
+-- ---- a row of a plain instruction: what is said of those over the channel does not concern it
+plain-row : (i : Instruction) → isPlain i ≡ true → inStage i 2 ≡ true → ((p1 p2 : ℕ) → Each (Lawful i) (rowOf i .lists p1 p2)) → LawfulRow i
+plain-row i p t l = record {
+  known = λ e. absurd (false≢true (sym e ∙ p));
+  begins = λ e. absurd (false≢true (sym e ∙ p));
+  fails = λ e. absurd (false≢true (sym e ∙ p));
+  stage = t;
+  lists = l;
+}
 
+-- ---- the table
 pub row-lawful : (i : Instruction) → LawfulRow i
 unfolding nameOf
-row-lawful ins.Select = record { known = λ e. unknown e; loss = λ e. unknown e; stage = refl; lists = one-of (Lawful ins.Select) ((0x04, command.Select) ∷ []) (select-lawful, tt) }
-row-lawful ins.Init = record { known = λ e. unknown e; loss = λ e. unknown e; stage = refl; lists = one-of (Lawful ins.Init) ((0x00, command.Init) ∷ []) (init-lawful, tt) }
-row-lawful ins.Open = record { known = λ e. unknown e; loss = λ e. unknown e; stage = refl; lists = of-slot (Lawful ins.Open) command.Open open-lawful }
-row-lawful ins.Mutual = record { known = λ e. refl; loss = λ e p1 c h. (refl, rw h); stage = refl; lists = one-of (Lawful ins.Mutual) ((0x00, command.Mutual) ∷ []) (mutual-lawful, tt) }
-row-lawful ins.Pair = record { known = λ e. unknown e; loss = λ e. unknown e; stage = refl; lists = one-of (Lawful ins.Pair) ((0x00, command.PairFirst) ∷ (0x01, command.PairFinal) ∷ []) (pair-first-lawful, (pair-final-lawful, tt)) }
-row-lawful ins.Unpair = record { known = λ e. refl; loss = λ e p1 c h. (refl, refl); stage = refl; lists = of-slot (Lawful ins.Unpair) command.Unpair unpair-lawful }
-row-lawful ins.Status = record { known = λ e. refl; loss = λ e p1 c h. (refl, refl); stage = refl; lists = one-of (Lawful ins.Status) ((0x00, command.Status status.Application) ∷ (0x01, command.Status status.Path) ∷ []) (status-lawful status.Application, (status-lawful status.Path, tt)) }
-row-lawful ins.Verify = record { known = λ e. refl; loss = λ e p1 c h. (refl, refl); stage = refl; lists = one-of (Lawful ins.Verify) ((0x00, command.Verify) ∷ []) (verify-lawful, tt) }
-row-lawful ins.Change = record { known = λ e. refl; loss = λ e p1 c h. (refl, refl); stage = refl; lists = one-of (Lawful ins.Change) ((0x00, command.Change secret.Pin) ∷ (0x01, command.Change secret.Puk) ∷ (0x02, command.Change secret.Pairing) ∷ []) (change-lawful secret.Pin, (change-lawful secret.Puk, (change-lawful secret.Pairing, tt))) }
-row-lawful ins.Unblock = record { known = λ e. refl; loss = λ e p1 c h. (refl, refl); stage = refl; lists = one-of (Lawful ins.Unblock) ((0x00, command.Unblock) ∷ []) (unblock-lawful, tt) }
-row-lawful ins.Load = record { known = λ e. refl; loss = λ e p1 c h. (refl, refl); stage = refl; lists = one-of (Lawful ins.Load) ((0x01, command.Load key.Keypair) ∷ (0x02, command.Load key.Extended) ∷ (0x03, command.Load key.Seed) ∷ []) (load-lawful key.Keypair, (load-lawful key.Extended, (load-lawful key.Seed, tt))) }
-row-lawful ins.Derive = record { known = λ e. refl; loss = λ e p1 c h. (refl, refl); stage = refl; lists = one-of (Lawful ins.Derive) ((0x00, command.Derive) ∷ []) (derive-lawful, tt) }
-row-lawful ins.Remove = record { known = λ e. refl; loss = λ e p1 c h. (refl, refl); stage = refl; lists = one-of (Lawful ins.Remove) ((0x00, command.Remove) ∷ []) (remove-lawful, tt) }
-row-lawful ins.SetPinless = record { known = λ e. refl; loss = λ e p1 c h. (refl, refl); stage = refl; lists = one-of (Lawful ins.SetPinless) ((0x00, command.SetPinless) ∷ []) (pinless-lawful, tt) }
-row-lawful ins.Sign = record { known = λ e. refl; loss = λ e p1 c h. (refl, refl); stage = refl; lists = one-of (Lawful ins.Sign) ((0x00, command.Sign) ∷ []) (sign-lawful, tt) }
+row-lawful ins.Select = plain-row ins.Select refl refl (one-of (Lawful ins.Select) ((0x04, command.Select) ∷ []) (select-lawful, tt))
+row-lawful ins.Init = plain-row ins.Init refl refl (one-of (Lawful ins.Init) ((0x00, command.Init) ∷ []) (init-lawful, tt))
+row-lawful ins.Open = plain-row ins.Open refl refl (of-slot (Lawful ins.Open) command.Open open-lawful)
+row-lawful ins.Mutual = record { known = λ e. refl; begins = λ e c. refl; fails = λ e p1 c h. rw h; stage = refl; lists = one-of (Lawful ins.Mutual) ((0x00, command.Mutual) ∷ []) (mutual-lawful, tt) }
+row-lawful ins.Pair = plain-row ins.Pair refl refl (one-of (Lawful ins.Pair) ((0x00, command.PairFirst) ∷ (0x01, command.PairFinal) ∷ []) (pair-first-lawful, (pair-final-lawful, tt)))
+row-lawful ins.Unpair = record { known = λ e. refl; begins = λ e c. refl; fails = λ e p1 c h. refl; stage = refl; lists = of-slot (Lawful ins.Unpair) command.Unpair unpair-lawful }
+row-lawful ins.Status = record { known = λ e. refl; begins = λ e c. refl; fails = λ e p1 c h. refl; stage = refl; lists = one-of (Lawful ins.Status) ((0x00, command.Status status.Application) ∷ (0x01, command.Status status.Path) ∷ []) (status-lawful status.Application, (status-lawful status.Path, tt)) }
+row-lawful ins.Verify = record { known = λ e. refl; begins = λ e c. refl; fails = λ e p1 c h. refl; stage = refl; lists = one-of (Lawful ins.Verify) ((0x00, command.Verify) ∷ []) (verify-lawful, tt) }
+row-lawful ins.Change = record { known = λ e. refl; begins = λ e c. refl; fails = λ e p1 c h. refl; stage = refl; lists = one-of (Lawful ins.Change) ((0x00, command.Change secret.Pin) ∷ (0x01, command.Change secret.Puk) ∷ (0x02, command.Change secret.Pairing) ∷ []) (change-lawful secret.Pin, (change-lawful secret.Puk, (change-lawful secret.Pairing, tt))) }
+row-lawful ins.Unblock = record { known = λ e. refl; begins = λ e c. refl; fails = λ e p1 c h. refl; stage = refl; lists = one-of (Lawful ins.Unblock) ((0x00, command.Unblock) ∷ []) (unblock-lawful, tt) }
+row-lawful ins.Load = record { known = λ e. refl; begins = λ e c. refl; fails = λ e p1 c h. refl; stage = refl; lists = one-of (Lawful ins.Load) ((0x01, command.Load key.Keypair) ∷ (0x02, command.Load key.Extended) ∷ (0x03, command.Load key.Seed) ∷ []) (load-lawful key.Keypair, (load-lawful key.Extended, (load-lawful key.Seed, tt))) }
+row-lawful ins.Derive = record { known = λ e. refl; begins = λ e c. refl; fails = λ e p1 c h. refl; stage = refl; lists = one-of (Lawful ins.Derive) ((0x00, command.Derive) ∷ []) (derive-lawful, tt) }
+row-lawful ins.Remove = record { known = λ e. refl; begins = λ e c. refl; fails = λ e p1 c h. refl; stage = refl; lists = one-of (Lawful ins.Remove) ((0x00, command.Remove) ∷ []) (remove-lawful, tt) }
+row-lawful ins.SetPinless = record { known = λ e. refl; begins = λ e c. refl; fails = λ e p1 c h. refl; stage = refl; lists = one-of (Lawful ins.SetPinless) ((0x00, command.SetPinless) ∷ []) (pinless-lawful, tt) }
+row-lawful ins.Sign = record { known = λ e. refl; begins = λ e c. refl; fails = λ e p1 c h. refl; stage = refl; lists = one-of (Lawful ins.Sign) ((0x00, command.Sign) ∷ []) (sign-lawful, tt) }
 
 pub lawful : (i : Instruction) (p1 p2 : ℕ) (k : Command) → rowOf i .lists p1 p2 ≡ some k → Lawful i k
 lawful i p1 p2 k e = subst (Each (Lawful i)) e (row-lawful i .lists p1 p2)

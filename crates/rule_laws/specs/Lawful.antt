@@ -100,15 +100,15 @@ pub record Lawful (i : Instruction) (k : Command) : Type 0 where
   pub fresh : offered (rowOf i .offer) false ≡ true → (c : Card) → isInitialised c ≡ false → c .keys .kind ≡ 0 → (d s : List ℕ)
       → Filled (replyOf k c d s .card)
 
--- ---- an instruction: if it goes over the channel, an initialised card knows it by its byte, and in stage 2 it gives nothing up; stage 2 is
--- right for it, and each command that it lists is lawful
+-- ---- an instruction: if it goes over the channel, an initialised card knows it by its byte, it begins with the card as it is, and an error in
+-- stage 2 leaves the card as it is; stage 2 is right for it, and each command that it lists is lawful
 abbrev pub Each : (Command → Type 0) → Option Command → Type 0
 Each P none = Unit {0}
 Each P (some k) = P k
 
 pub record LawfulRow (i : Instruction) : Type 0 where
   pub known : isPlain i ≡ false → nameOf true 0x80 (rowOf i .byte) ≡ named.Known i
-  pub loss : isPlain i ≡ false → (p1 : ℕ) (c : Card) → c .channel .stage ≡ 2
-      → (begun (rowOf i .loss) c ≡ c) × (failed (rowOf i .loss) p1 c ≡ c)
+  pub begins : isPlain i ≡ false → (c : Card) → begun (rowOf i .loss) c ≡ c
+  pub fails : isPlain i ≡ false → (p1 : ℕ) (c : Card) → c .channel .stage ≡ 2 → failed (rowOf i .loss) p1 c ≡ c
   pub stage : inStage i 2 ≡ true
   pub lists : (p1 p2 : ℕ) → Each (Lawful i) (rowOf i .lists p1 p2)

@@ -33,11 +33,11 @@ returns c = let b2 = c .before .before in
     let b5 = b3 .before .before in
     let b10 = b5 .before .before .before .before .before in
     final-refused (b10 .args .card) (b10 .args .supply .now) (b2 .not-pending .result) _ (c .before .with-pairing .ensures)
-    (sym (b3 .enum-told .given .1) ∙ b5 .first-free .ensures) (b2 .not-pending .ensures) (c .failed .ensures)
+    (sym (b3 .enum-told .given .1) ∙ b5 .first-free .ensures .0) (b2 .not-pending .ensures) (c .failed .ensures)
 
 index-byte-requires : tie.Need-index-byte-requires
 index-byte-requires c κs = let b3 = c .before .before .before in
-    sym (c .before .i .given .1) ∙ b3 .first-free .ensures
+    sym (c .before .i .given .1) ∙ b3 .first-free .ensures .0
 
 key-part-requires : tie.Need-key-part-requires
 key-part-requires c κs = let b9 = c .before .before .before .before .before .before .before .before .before in
@@ -78,7 +78,7 @@ returns-2 c = let b2 = c .before .before in
     let b15 = b13 .before .before in
     let b20 = b15 .before .before .before .before .before in
     final-replied (b20 .args .card) (b20 .args .supply .now) (b2 .filled-at .result) _ (c .before .with-pairing2 .ensures) (b13 .i .given .0 .0)
-    (b11 .index-byte .result) (b10 .key-part .result) (b9 .key-part2 .result) (sym (b13 .i .given .1) ∙ b15 .first-free .ensures)
+    (b11 .index-byte .result) (b10 .key-part .result) (b9 .key-part2 .result) (sym (b13 .i .given .1) ∙ b15 .first-free .ensures .0)
     (b11 .index-byte .ensures .0) (b10 .key-part .ensures) (b9 .key-part2 .ensures) (b2 .filled-at .ensures) (b5 .put-both .ensures)
     (c .replied .ensures)
 
