@@ -67,13 +67,13 @@ module _ (g : Card) where
 
   named-init : (cmd : List ℕ) → isInitialised g ≡ false → claOf cmd ≡ 0x80 → insOf cmd ≡ 0xFE
       → nameOf (isInitialised g) (claOf cmd) (insOf cmd) ≡ named.Known ins.Init
-  unfolding nameOf rowOf
+  unfolding nameOf
   named-init cmd f a b =
       ap (λ (t : Bool). nameOf t (claOf cmd) (insOf cmd)) f ∙ ap₂ (λ (x y : ℕ). nameOf false x y) a b
 
   form-says : (cmd : List ℕ) → isInitialised g ≡ false → claOf cmd ≡ 0x80 → insOf cmd ≡ 0xFE → (o : Option (List ℕ))
       → Yes (finish (then (byForm g o) (λ field. then (step3 cmd g) (λ i. then (step4 i cmd g field) (λ y. step5 i cmd y)))))
-  unfolding step4 step5 rowOf
+  unfolding step4 step5
   form-says cmd f a b none = λ s. other 0x67 0x00 (λ z. omega arith)
   form-says cmd f a b (some d) = rw (named-init cmd f a b) (choice-says d (isZero (p2Of cmd)) (eqb (p1Of cmd) 0))
 

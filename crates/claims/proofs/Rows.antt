@@ -58,7 +58,7 @@ bare-step1 c z = ap (λ (n : ℕ). forgetting bare (cond (eqb n 1 && not (begins
 
 bare-stops : (c : Card) → isInitialised c ≡ true → c .channel .stage ≡ 0 → pastStep1 bare (forgotten c)
     ≡ stopsWith (forgotten c) conditionsNotMet
-unfolding pastStep1 dataOf nameOf step4 rowOf
+unfolding pastStep1 dataOf nameOf step4
 bare-stops c i z =
     ap (λ (b : Bool). then (byName (forgotten c) (nameOf b 0x80 0xF2)) (λ j. then (step4 j bare (forgotten c) []) (λ o. step5 j bare o))) i
     ∙ rw z

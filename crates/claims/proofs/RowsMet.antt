@@ -62,15 +62,12 @@ header-bytes b e = (omega arith, (omega (arith, leb-true b 255 e), (omega arith,
 
 -- ---- an entry, sealed for the card
 verify-sealed : isPlain ins.Verify ≡ false
-unfolding rowOf
 verify-sealed = refl
 
 verify-listed : rowOf ins.Verify .lists 0 0 ≡ some command.Verify
-unfolding rowOf
 verify-listed = refl
 
 verify-bytes : Bytes (0x80 ∷ rowOf ins.Verify .byte ∷ 0 ∷ 0 ∷ [])
-unfolding rowOf
 verify-bytes = header-bytes 0x20 refl
 
 record Ready (c : Card) : Type 0 where
@@ -192,7 +189,7 @@ statusTurn = turnOf 0xF2 [] (header-bytes 0xF2 refl) tt (omega arith)
 
 reads : unsealedBy opened statusTurn .bytes
     ≡ 0xA3 ∷ 0x09 ∷ 0x02 ∷ 0x01 ∷ 0x03 ∷ 0x02 ∷ 0x01 ∷ 0x05 ∷ 0x01 ∷ 0x01 ∷ 0x00 ∷ 0x90 ∷ 0x00 ∷ []
-unfolding rowOf ruleOf suits statusReply
+unfolding ruleOf suits statusReply
 reads =
     in-stage2 opened statusTurn
     (names opened ins.Status (command.Status status.Application) 0 0 (reached-sound (stage2-reached .iv) .0) refl refl refl)

@@ -45,17 +45,17 @@ abbrev paired : Card
 paired = withPairing card (withSlot (card .pairing) 0 (filledWith (zeros 32)))
 
 first-answer : answerOut card pairFirst (zeros 96) 258 ≡ record { refusal = 0; card = pending; bytes = zeros 64 ++ (0x90 ∷ 0x00 ∷ []) }
-unfolding answerOut isSound allOf someOf decide arrival step1 pastStep1 dataOf nameOf rowOf step4 step5 step6 ruleOf pairFirstChecks suits pairFirstReply tell
+unfolding answerOut isSound allOf someOf decide arrival step1 pastStep1 dataOf nameOf step4 step5 step6 ruleOf pairFirstChecks suits pairFirstReply tell
 first-answer = refl
 
 second-answer : answerOut pending pairFinal (zeros 64) 258
     ≡ record { refusal = 0; card = paired; bytes = 0 ∷ zeros 32 ++ (0x90 ∷ 0x00 ∷ []) }
-unfolding answerOut isSound allOf someOf decide arrival step1 pastStep1 dataOf nameOf rowOf step4 step5 step6 ruleOf pairFinalChecks suits pairFinalReply pairInto firstFree tell
+unfolding answerOut isSound allOf someOf decide arrival step1 pastStep1 dataOf nameOf step4 step5 step6 ruleOf pairFinalChecks suits pairFinalReply pairInto firstFree tell
 second-answer = refl
 
 -- without the first step: 6A86
 alone-answer : answerOut card pairFinal (zeros 64) 258 .bytes ≡ 0x6A ∷ 0x86 ∷ []
-unfolding answerOut isSound allOf someOf decide arrival step1 pastStep1 dataOf nameOf rowOf step4 step5 step6 ruleOf pairFinalChecks suits tell
+unfolding answerOut isSound allOf someOf decide arrival step1 pastStep1 dataOf nameOf step4 step5 step6 ruleOf pairFinalChecks suits tell
 alone-answer = refl
 
 -- lists of other lengths are not the same

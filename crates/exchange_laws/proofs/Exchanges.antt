@@ -201,20 +201,16 @@ module _ (c : Card) (t : Turn) (sound : isSound c ≡ true) (w : Typed c) (in1 :
   open1 z = omega (arith, in1)
 
   sealed1 : isPlain ins.Mutual ≡ false
-  unfolding rowOf
   sealed1 = refl
 
   name1 : nameOf (isInitialised c) (claOf (t .header)) (insOf (t .header)) ≡ named.Known ins.Mutual
-  unfolding rowOf
   name1 = ap (λ (h : List ℕ). nameOf (isInitialised c) (claOf h) (insOf h)) header
       ∙ ap (λ (m : ℕ). nameOf (not (isZero m)) 0x80 0x11) (is-after c sound open1 .flag) ∙ row-lawful ins.Mutual .known sealed1
 
   stage1 : inStage ins.Mutual (c .channel .stage) ≡ true
-  unfolding rowOf
   stage1 = ap (λ (m : ℕ). inStage ins.Mutual m) in1
 
   listed1 : rowOf ins.Mutual .lists (p1Of (t .header)) (p2Of (t .header)) ≡ some command.Mutual
-  unfolding rowOf
   listed1 = ap (λ (h : List ℕ). rowOf ins.Mutual .lists (p1Of h) (p2Of h)) header
 
   abbrev names1 : Names c (t .header)
@@ -231,7 +227,6 @@ module _ (c : Card) (t : Turn) (sound : isSound c ≡ true) (w : Typed c) (in1 :
   opens1 = opens-of c t w names1 sound open1 stays1
 
   here1 : opens1 .arrived .card ≡ opened c t
-  unfolding rowOf
   here1 = mac-opened c t w names1 sound open1 stays1
 
   abbrev replied1 : Reply

@@ -39,7 +39,7 @@ Passes named.WrongClass = Unit {0}
 Passes named.Unknown = Unit {0}
 
 class80-passes : allOf plainOrKeeps class80 ≡ true
-unfolding allOf rowOf
+unfolding allOf
 class80-passes = refl
 
 listed-passes : (b : ℕ) (l : List Instruction) → allOf plainOrKeeps l ≡ true → Passes (onCard true (withByte b l))

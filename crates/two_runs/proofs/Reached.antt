@@ -114,7 +114,7 @@ unfolding initReply initWith allOf
 init-replies = ap (λ (o : Option (List ℕ)). initWith fresh o) init-opens
 
 init-decides : decide fresh initCommand ≡ record { supply = initSupply; data′ = initData; answer = λ s. plainly (initReply fresh initData s) }
-unfolding decide arrival step1 pastStep1 nameOf rowOf step4 step5 step6 ruleOf initChecks tell
+unfolding decide arrival step1 pastStep1 nameOf step4 step5 step6 ruleOf initChecks tell
 init-decides = rw (init-form, init-long)
 
 fresh-is-sound : isSound fresh ≡ true
@@ -176,15 +176,15 @@ abbrev stage1Card : Card
 stage1Card = withChannel pairedCard (record { stage = 1; «enc_key» = zeros 32; «mac_key» = zeros 32; iv = zeros 16 })
 
 pair-first-next : nextAt initialisedCard pairFirstCall ≡ pendingCard
-unfolding nextAt answerOut isSound allOf someOf decide arrival step1 pastStep1 dataOf nameOf rowOf step4 step5 step6 ruleOf pairFirstChecks suits pairFirstReply tell
+unfolding nextAt answerOut isSound allOf someOf decide arrival step1 pastStep1 dataOf nameOf step4 step5 step6 ruleOf pairFirstChecks suits pairFirstReply tell
 pair-first-next = refl
 
 pair-final-next : nextAt pendingCard pairFinalCall ≡ pairedCard
-unfolding nextAt answerOut isSound allOf someOf decide arrival step1 pastStep1 dataOf nameOf rowOf step4 step5 step6 ruleOf pairFinalChecks suits pairFinalReply pairInto firstFree tell
+unfolding nextAt answerOut isSound allOf someOf decide arrival step1 pastStep1 dataOf nameOf step4 step5 step6 ruleOf pairFinalChecks suits pairFinalReply pairInto firstFree tell
 pair-final-next = refl
 
 open-next : nextAt pairedCard openCall ≡ stage1Card
-unfolding nextAt answerOut isSound allOf someOf decide arrival step1 pastStep1 dataOf nameOf rowOf step4 step5 step6 ruleOf openChecks suits openReply tell
+unfolding nextAt answerOut isSound allOf someOf decide arrival step1 pastStep1 dataOf nameOf step4 step5 step6 ruleOf openChecks suits openReply tell
 open-next = refl
 
 pub stage1-reached : Reachable stage1Card
@@ -300,7 +300,7 @@ module _ (n verified : ℕ) (keys : Keys) (b p1 : ℕ) (b-byte : b < 256) (p1-by
 
 -- ---- MUTUAL: stage 2
 pub stage2-reached : Reaching 2 0 noKeys
-unfolding nameOf rowOf ruleOf suits isSound allOf someOf step1 mutualChecks mutualReply
+unfolding nameOf ruleOf suits isSound allOf someOf step1 mutualChecks mutualReply
 stage2-reached =
     sealed-step 1 0 noKeys 0x11 0 (omega arith) (omega arith) (zeros 32) (zeros 32) (bytes-replicate 32 0 (omega arith)) (omega arith) ins.Mutual
     command.Mutual refl refl refl refl refl (λ iv. refl) (λ iv more. refl) (λ iv. (refl, (refl, tt))) 0 noKeys (zeros 32) (bytes-replicate 32 0 (omega arith))
@@ -309,7 +309,7 @@ stage2-reached =
 
 -- VERIFY with the right PIN
 pub verified-reached : Reaching 2 1 noKeys
-unfolding nameOf rowOf ruleOf suits isSound allOf someOf step1 verifyChecks verifyReply
+unfolding nameOf ruleOf suits isSound allOf someOf step1 verifyChecks verifyReply
 verified-reached =
     sealed-step 2 0 noKeys 0x20 0 (omega arith) (omega arith) (replicate 6 0x30) [] (bytes-replicate 6 0x30 (omega arith)) (omega arith) ins.Verify
     command.Verify refl refl refl refl refl (λ iv. refl) (λ iv more. refl) (λ iv. (refl, tt)) 1 noKeys [] tt (omega arith) (λ iv. refl) stage2-reached
@@ -322,14 +322,14 @@ keypair-bytes : Bytes keypairData
 keypair-bytes = (omega arith, (omega arith, (omega arith, (omega arith, bytes-replicate 32 0 (omega arith)))))
 
 pub kind1-reached : Reaching 2 1 (keyWith 1 (zeros 32))
-unfolding nameOf rowOf ruleOf suits isSound allOf someOf step1 loadChecks loadReply
+unfolding nameOf ruleOf suits isSound allOf someOf step1 loadChecks loadReply
 kind1-reached =
     sealed-step 2 1 noKeys 0xD0 1 (omega arith) (omega arith) keypairData (1 ∷ zeros 32) keypair-bytes (omega arith) ins.Load
     (command.Load key.Keypair) refl refl refl refl refl (λ iv. refl) (λ iv more. refl) (λ iv. (refl, (refl, tt))) 1 (keyWith 1 (zeros 32)) (zeros 32)
     (bytes-replicate 32 0 (omega arith)) (omega arith) (λ iv. refl) verified-reached
 
 pub kind2-reached : Reaching 2 1 (keyWith 2 (zeros 32))
-unfolding nameOf rowOf ruleOf suits isSound allOf someOf step1 loadChecks loadReply
+unfolding nameOf ruleOf suits isSound allOf someOf step1 loadChecks loadReply
 kind2-reached =
     sealed-step 2 1 noKeys 0xD0 3 (omega arith) (omega arith) (zeros 64) (1 ∷ zeros 32) (bytes-replicate 64 0 (omega arith)) (omega arith) ins.Load
     (command.Load key.Seed) refl refl refl refl refl (λ iv. refl) (λ iv more. refl) (λ iv. (refl, (refl, tt))) 1 (keyWith 2 (zeros 32)) (zeros 32)

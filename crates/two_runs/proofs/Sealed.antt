@@ -93,11 +93,11 @@ record Names (b : ℕ) (i : Instruction) (k : Command) : Type 0 where
   pub forgets : (c : Card) → forgetting (headerWith b) c ≡ forgotten c
 
 verify-named : Names 0x20 ins.Verify command.Verify
-unfolding nameOf rowOf
+unfolding nameOf
 verify-named = record { byte = omega arith; name = refl; plain = refl; staged = refl; listed = refl; forgets = λ c. refl }
 
 unblock-named : Names 0x22 ins.Unblock command.Unblock
-unfolding nameOf rowOf
+unfolding nameOf
 unblock-named = record { byte = omega arith; name = refl; plain = refl; staged = refl; listed = refl; forgets = λ c. refl }
 
 pub header-is : (b p1 : ℕ) → b < 256 → p1 < 256 → Header (0x80 ∷ b ∷ p1 ∷ 0 ∷ [])
