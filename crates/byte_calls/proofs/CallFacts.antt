@@ -21,7 +21,7 @@ pub answer-flat : {a o : Answer} {card : List ℕ} → a ≡ o → card ≡ card
     → _≡_ {A = CardAnswered} (record { refusal = a .refusal; count = 0; card = card }) (answerFlat o)
 answer-flat {a} p q = ap {B = CardAnswered} (λ (x : List ℕ). record { refusal = a .refusal; count = 0; card = x }) q ∙ ap answerFlat p
 
-pub card-did : {o : rules.Answered} {a : responses.Answered} {card before after : List ℕ} → AnswerDid o a before after → card ≡ cardFlat (a .card)
+pub card-did : {o : rules.AnswerOut} {a : responses.Answered} {card before after : List ℕ} → AnswerDid o a before after → card ≡ cardFlat (a .card)
     → CardDid o (record { refusal = a .refusal; count = a .count; card = card }) before after
 card-did {o} {a} d q = record {
   told =

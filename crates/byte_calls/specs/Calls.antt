@@ -23,10 +23,10 @@ abbrev pub writtenOf : CountAnswered → Written
 writtenOf r = record { refusal = r .refusal; count = r .count }
 
 -- ANSWER: refusal, count, next card, and every byte of the buffer
-abbrev pub reportFlat : rules.Answered → CardAnswered
+abbrev pub reportFlat : rules.AnswerOut → CardAnswered
 reportFlat o = record { refusal = o .refusal; count = length (o .bytes); card = cardFlat (o .card) }
 
-pub record CardDid (o : rules.Answered) (r : CardAnswered) (before after : List ℕ) : Type 0 where
+pub record CardDid (o : rules.AnswerOut) (r : CardAnswered) (before after : List ℕ) : Type 0 where
   pub told : r ≡ reportFlat o
   pub left : after ≡ over (o .bytes) before
 
