@@ -1,5 +1,5 @@
 // UNPAIR: the verdict of its check, and its reply where that holds.
-// A slot's index counts slots from 0; an index that no slot has is none's, and changes nothing.
+// A slot's index counts slots from 0; an index that no slot has changes nothing.
 // Proved: the verdict and the reply are what the command's rule gives, for every card and every index.
 ghost use mathlib.Core.Path.{_≡_};
 ghost use lib.ListN.{set};

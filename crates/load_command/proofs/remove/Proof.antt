@@ -16,7 +16,7 @@ done-requires c κs = search needs
 
 returns : tie.Need-returns
 unfolding removeReply
-returns c = rw (c .done .ensures, c .before .with-keys .ensures, c .before .before .key-with .ensures)
+returns c = rw (← c .before .before .key-with .ensures, ← c .before .with-keys .ensures) (c .done .ensures)
 
 pub remove-spec : {M : Type 1} → statement M
 remove-spec = tie.close (tie.spec key-with-requires with-keys-requires done-requires returns)

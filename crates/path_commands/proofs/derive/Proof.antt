@@ -42,11 +42,11 @@ returns-2 c = let b3 = c .before .before .before in
     let b5 = b4 .before in
     rw (
       sym (b5 .says-yes .ensures) ∙ not-false _ (b4 .if1 .left),
-      c .done .ensures,
-      c .before .with-keys .ensures,
-      c .before .before .with-current .ensures,
-      b3 .path-of .ensures,
+      ← b3 .path-of .ensures,
+      ← c .before .before .with-current .ensures,
+      ← c .before .with-keys .ensures,
     )
+    (c .done .ensures)
 
 pub derive-spec : {M : Type 1} → statement M
 derive-spec =
