@@ -1,34 +1,30 @@
--- What a verdict of 9000 says of the parts that it was decided from. Lengths are in bytes.
+-- What CHANGE's checks say of the data. Lengths are in bytes.
 -- Assumes nothing.
-use mathlib.Core.Path.{_≡_}
+use mathlib.Core.Path.{_≡_, subst}
 use mathlib.Core.Bool.{true}
-use mathlib.Core.List.{List, [], _∷_}
+use mathlib.Core.List.{List}
 use Prim.Native.Nat.{ℕ}
-use lib.Dec.{eqb}
 use lib.ListN.{length}
 use borrow.Author.Tests.{eqb-true}
 use Rattle.card.specs.declared.Pins.{Pins}
-use Rattle.card.specs.Slots.{allOf}
-use Rattle.card.specs.Sound.{isDigit}
 use Rattle.card.proofs.Tests.{both}
-use Rattle.rules.specs.declared.Secret.{Secret}
-use Rattle.rules.specs.declared.Secret.the-variants as secret
-use Rattle.rules.specs.Words.{success, conditionsNotMet, wrongData, must, verdict}
-use Rattle.rules.specs.Commands.{isVerified, isSecret, changeChecks}
-use Rattle.pin_parts.proofs.CheckFacts.{conditions, first-holds, wrong}
+use Rattle.rules.specs.declared.SecretKind.{SecretKind}
+use Rattle.rules.specs.declared.SecretKind.the-variants as secret
+use Rattle.rules.specs.Words.{Hold}
+use Rattle.rules.specs.Commands.{isSecret, changeChecks}
 
--- ---- CHANGE: the data have the secret's form
-pub change-form : (p : Pins) (which : Secret) (d : List ℕ) → verdict (changeChecks p which d) ≡ success → isSecret which d ≡ true
+-- ---- changeChecks: the data have the length of the secret
+abbrev pub secret-bytes : SecretKind → ℕ
+secret-bytes secret.Pin = 6
+secret-bytes secret.Puk = 12
+secret-bytes secret.Pairing = 32
+
+secret-long : (which : SecretKind) (d : List ℕ) → isSecret which d ≡ true → length d ≡ secret-bytes which
+secret-long secret.Pin d e = eqb-true _ _ (both _ _ e .0)
+secret-long secret.Puk d e = eqb-true _ _ (both _ _ e .0)
+secret-long secret.Pairing d e = eqb-true _ _ e
+
+pub change-long : (p : Pins) (which known : SecretKind) (d : List ℕ) → which ≡ known → Hold (changeChecks p which d)
+    → length d ≡ secret-bytes known
 unfolding changeChecks
-change-form p which d e =
-    first-holds (isSecret which d) wrongData [] wrong
-    (first-holds (isVerified p) conditionsNotMet (must (isSecret which d) wrongData ∷ []) conditions e .1) .0
-
-pub pin-long : (d : List ℕ) → isSecret secret.Pin d ≡ true → length d ≡ 6
-pin-long d e = eqb-true (length d) 6 (both (eqb (length d) 6) (allOf isDigit d) e .0)
-
-pub puk-long : (d : List ℕ) → isSecret secret.Puk d ≡ true → length d ≡ 12
-puk-long d e = eqb-true (length d) 12 (both (eqb (length d) 12) (allOf isDigit d) e .0)
-
-pub secret-long : (d : List ℕ) → isSecret secret.Pairing d ≡ true → length d ≡ 32
-secret-long d e = eqb-true (length d) 32 e
+change-long p which known d e h = subst (λ (k : SecretKind). length d ≡ secret-bytes k) e (secret-long which d (h .1 .0))

@@ -1,2 +1,1 @@
 mod Facts
-pub mod Ranged

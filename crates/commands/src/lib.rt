@@ -1,22 +1,24 @@
-// Any command, once it is decoded: the status word of its checks, and its reply.
+// Any command, once it is decoded: the verdict of its checks, and its reply.
 // Every length is in bytes.
-// Proved: for every command, the answer is the one that the rulebook's table gives it.
+// Proved: for every command, verdict and reply are what its rule gives.
 ghost use mathlib.Core.Path.{_≡_};
 ghost use mathlib.Core.Bool.{true};
 ghost use Prim.Native.Nat.{_≤_};
 ghost use lib.ListN.{length};
-ghost use Rattle.rules.specs.Words.{success, verdict, reportOf, Replies};
+ghost use Rattle.rules.specs.Words.{Hold, verdict};
+ghost use Rattle.rules.specs.Code.{Replies};
 ghost use Rattle.rules.specs.Supplies.{suits};
-ghost use Rattle.rules.specs.Commands.{checksOf, supplyOf, replyOf};
-ghost use Rattle.commands.specs.Fits.{InRange, PathsFit};
+ghost use Rattle.rules.specs.Steps.{checksOf, supplyOf, replyOf};
+ghost use Rattle.commands.specs.Fits.{PathsFit};
 use card::Card;
 use rules::Command;
 use rules::Replied;
+use rules::Verdict;
 
-// Step 6: the status word of the first check that does not hold, or 9000.
-pub fn judge(card: Card, k: Command, data: &[u8]) -> u16
-    requires { ⌜ InRange k × PathsFit (card .keys) ⌝ }
-    ensures { λ r. ⌜ r ≡ verdict (checksOf k card (now («data» .entry))) ⌝ }
+// Step 6: the supply that is read where all checks hold, or the status word of the first check that does not.
+pub fn judge(card: Card, k: Command, data: &[u8]) -> Verdict
+    requires { ⌜ PathsFit (card .keys) ⌝ }
+    ensures { λ r. ⌜ r ≡ verdict (supplyOf k) (checksOf k card (now («data» .entry))) ⌝ }
 {
     let pins = card.pins;
     let pairing = card.pairing;
@@ -31,7 +33,7 @@ pub fn judge(card: Card, k: Command, data: &[u8]) -> u16
         Command::PairFirst => pair_command::pair_first_verdict(pairing, stage, data),
         Command::PairFinal => pair_command::pair_final_verdict(pairing, stage, data),
         Command::Unpair(_) => unpair_command::unpair_verdict(pins),
-        Command::Status(_) => rules::SUCCESS,
+        Command::Status(_) => status_command::status_verdict(),
         Command::Verify => verify_command::verify_verdict(pins),
         Command::Change(which) => change_command::change_verdict(pins, which, data),
         Command::Unblock => unblock_command::unblock_verdict(pins, data),
@@ -43,10 +45,10 @@ pub fn judge(card: Card, k: Command, data: &[u8]) -> u16
     }
 }
 
-// Past the checks: the reply, with its response data from the start of `out`.
+// Where all checks hold: the reply, with its response data from the start of `out`.
 pub fn act(card: Card, k: Command, data: &[u8], supply: &[u8], out: &mut [u8]) -> Replied
-    requires { ⌜ (verdict (checksOf k card (now «data»)) ≡ success) × (suits (supplyOf k) (now supply) ≡ true) ⌝ }
-    requires { ⌜ InRange k × PathsFit (card .keys) × (221 ≤ length (now out)) ⌝ }
+    requires { ⌜ Hold (checksOf k card (now «data»)) × (suits (supplyOf k) (now supply) ≡ true) ⌝ }
+    requires { ⌜ PathsFit (card .keys) × (221 ≤ length (now out)) ⌝ }
     ensures { λ r. ⌜ Replies (replyOf k card (now («data» .entry)) (now (supply .entry))) r (now (out .entry)) (now (out .exit)) ⌝ }
 {
     match k {

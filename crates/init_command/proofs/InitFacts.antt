@@ -7,7 +7,7 @@ use mathlib.Core.Option.{Option, none, some}
 use Prim.Native.Nat.{ℕ, _≤_}
 use native.Mathlib.Omega.{arith}
 use lib.ListN.{length, take}
-use borrow.Author.Tests.{eq-eqb, ne-eqb, eqb-true}
+use borrow.Author.Tests.{eqb-true}
 use Rattle.octets.specs.Bytes.{overwrite}
 use Rattle.aes.specs.Aes.{invAes256}
 use Rattle.cbc.specs.Mode.{cbcDecrypt}
@@ -19,24 +19,17 @@ use Rattle.card.specs.declared.Card.{Card}
 use Rattle.card.specs.State.{pinTries, pukTries}
 use Rattle.card.proofs.Tests.{both}
 use Rattle.rules.specs.declared.Replied.{Replied}
-use Rattle.rules.specs.Words.{success, wrongData, verdict, succeeds, fails, reportOf}
-use Rattle.rules.specs.Supplies.{flagOf, saysYes, part, initKey}
-use Rattle.rules.specs.Commands.{initChecks, initContent, isContent, initialisedWith, initWith, initReply}
-use Rattle.init_command.specs.Content.{isFormed, offered, Found, pinsWith}
-use Rattle.supply_parts.proofs.SupplyFacts.{part-copied}
+use Rattle.rules.specs.Words.{wrongData, Hold, succeeds, fails}
+use Rattle.rules.specs.Code.{repliedOf}
+use Rattle.rules.specs.Supplies.{saysYes, part, initKey}
+use Rattle.rules.specs.Commands.{initChecks, initContent, isContent, pinsWith, initialisedWith, initWith, initReply}
+use Rattle.init_command.specs.Content.{offered, Found}
+use Rattle.command_parts.proofs.SupplyFacts.{part-copied}
 
 -- ---- initChecks
-pub formed-verdict : (d : List ℕ) (r : Bool) (x : ℕ) → r ≡ isFormed d → x ≡ cond r success wrongData → x ≡ verdict (initChecks d)
+pub formed-long : (d : List ℕ) → Hold (initChecks d) → length d ≡ 146
 unfolding initChecks
-formed-verdict d r x e h = h ∙ ap (λ (b : Bool). cond b success wrongData) e
-
-passed : (b : Bool) → cond b success wrongData ≡ success → b ≡ true
-passed true e = refl
-passed false e = absurd (omega arith)
-
-pub formed-long : (d : List ℕ) → verdict (initChecks d) ≡ success → length d ≡ 146
-unfolding initChecks
-formed-long d e = eqb-true (length d) 146 (both _ _ (both _ _ (passed (isFormed d) e) .0) .0)
+formed-long d h = eqb-true (length d) 146 (both _ _ (both _ _ (h .0) .0) .0)
 
 -- ---- what is found in deciphered bytes
 pub data-within : (p : List ℕ) (n : ℕ) → unpadded.Bytes n ≡ answer (unpad p) → n ≤ length p
@@ -69,19 +62,19 @@ found-same e f = rw e at f
 
 -- ---- offered: what was put into the buffer is the ciphertext
 module _ (d s : List ℕ) {r : Bool} {p : List ℕ} where
-  pub offered-yes : (key iv before′ b : List ℕ) → flagOf s ≡ 1 → key ≡ initKey s → iv ≡ part 66 16 d
+  pub offered-yes : (key iv before′ b : List ℕ) → saysYes s ≡ true → key ≡ initKey s → iv ≡ part 66 16 d
       → b ≡ overwrite before′ 0 (part 82 64 d) → length before′ ≡ 64 → length d ≡ 146
       → Found (unpad (cbcDecrypt (invAes256 key) iv b)) r p → Found (offered d s) r p
   unfolding offered initContent
   offered-yes key iv before′ b f ek ei eb l ld h =
-      rw (eq-eqb (flagOf s) 1 f)
+      rw f
       (found-same
       (ap₂ (λ (k x : List ℕ). unpad (cbcDecrypt (invAes256 k) iv x)) ek (part-copied 82 64 64 d before′ eb l refl (omega arith))
       ∙ ap (λ (v : List ℕ). unpad (cbcDecrypt (invAes256 (initKey s)) v (part 82 64 d))) ei) h)
 
-pub offered-no : (d s p : List ℕ) → (flagOf s ≡ 1 → ⊥) → length p ≡ 64 → Found (offered d s) false p
+pub offered-no : (d s p : List ℕ) → saysYes s ≡ false → length p ≡ 64 → Found (offered d s) false p
 unfolding offered
-offered-no d s p f l = rw (ne-eqb (flagOf s) 1 f) (found-nothing none p refl l)
+offered-no d s p f l = rw f (found-nothing none p refl l)
 
 -- ---- pinsWith
 pub pins-are : (x pin puk : List ℕ) → pin ≡ part 0 6 x → puk ≡ part 6 12 x
@@ -99,32 +92,34 @@ pub init-is : (c : Card) (d s : List ℕ) → initReply c d s ≡ initWith c (of
 unfolding initReply offered
 init-is c d s = flag-inside c (initContent (initKey s) d) (saysYes s)
 
-abbrev said : ℕ → Card → Replied
-said w c = record { status = w; count = 0; card = c }
-
 by-content : (c : Card) (x : List ℕ) (b : Bool) → isContent x ≡ b
-    → reportOf (initWith c (some x)) ≡ reportOf (cond b (succeeds (initialisedWith c x) []) (fails c wrongData))
+    → repliedOf (initWith c (some x)) ≡ repliedOf (cond b (succeeds (initialisedWith c x) []) (fails c wrongData))
 unfolding initWith
-by-content c x b e = ap (λ (t : Bool). reportOf (cond t (succeeds (initialisedWith c x) []) (fails c wrongData))) e
+by-content c x b e = ap (λ (t : Bool). repliedOf (cond t (succeeds (initialisedWith c x) []) (fails c wrongData))) e
 
 right-with : (c : Card) (o : Option (List ℕ)) (r : Bool) (p : List ℕ) → Found o r p → r ≡ true
-    → said success (initialisedWith c (take 50 p)) ≡ reportOf (initWith c o)
+    → repliedOf (succeeds (initialisedWith c (take 50 p)) []) ≡ repliedOf (initWith c o)
 right-with c none r p f e = absurd (false≢true (sym (f .told) ∙ e))
 right-with c (some x) r p f e =
     let t : isContent x ≡ true = sym (f .told) ∙ e in
     let l : length x ≡ 50 = eqb-true (length x) 50 (both _ _ t .0) in
-    ap (λ (y : List ℕ). said success (initialisedWith c y)) (ap (λ (k : ℕ). take k p) (sym l) ∙ sym (f .left x refl))
+    ap (λ (y : List ℕ). repliedOf (succeeds (initialisedWith c y) [])) (ap (λ (k : ℕ). take k p) (sym l) ∙ sym (f .left x refl))
     ∙ sym (by-content c x true t)
 
-wrong-with : (c : Card) (o : Option (List ℕ)) (r : Bool) (p : List ℕ) → Found o r p → r ≡ false → said wrongData c ≡ reportOf (initWith c o)
+wrong-with : (c : Card) (o : Option (List ℕ)) (r : Bool) (p : List ℕ) → Found o r p → r ≡ false
+    → repliedOf (fails c wrongData) ≡ repliedOf (initWith c o)
 unfolding initWith
 wrong-with c none r p f e = refl
 wrong-with c (some x) r p f e = sym (by-content c x false (sym (f .told) ∙ e))
 
-module _ (c : Card) (d s : List ℕ) (r : Bool) (p : List ℕ) (f : Found (offered d s) r p) where
-  pub init-replied : (next : Card) → r ≡ true → next ≡ initialisedWith c (take 50 p) → said success next ≡ reportOf (initReply c d s)
-  init-replied next e en =
-      ap (λ (k : Card). said success k) en ∙ right-with c (offered d s) r p f e ∙ ap reportOf (sym (init-is c d s))
+module _ (c : Card) (d s : List ℕ) (r : Bool) (p : List ℕ) (f : Found (offered d s) r p) {x : Replied} where
+  pub init-replied : (next : Card) → r ≡ true → next ≡ initialisedWith c (take 50 p) → x ≡ repliedOf (succeeds next [])
+      → x ≡ repliedOf (initReply c d s)
+  init-replied next e en ex =
+      ex
+      ∙ ap (λ (k : Card). repliedOf (succeeds k [])) en
+      ∙ right-with c (offered d s) r p f e
+      ∙ ap repliedOf (sym (init-is c d s))
 
-  pub init-refused : r ≡ false → said wrongData c ≡ reportOf (initReply c d s)
-  init-refused e = wrong-with c (offered d s) r p f e ∙ ap reportOf (sym (init-is c d s))
+  pub init-refused : r ≡ false → x ≡ repliedOf (fails c wrongData) → x ≡ repliedOf (initReply c d s)
+  init-refused e ex = ex ∙ wrong-with c (offered d s) r p f e ∙ ap repliedOf (sym (init-is c d s))

@@ -1,3 +1,2 @@
-pub mod SupplyFacts
 pub mod InitFacts
 pub mod Laws

@@ -1,31 +1,35 @@
-// INIT, which is plain in every stage: the status word of its check, and its reply past it.
+// INIT, which is plain in every stage: the verdict of its check, and its reply where that holds.
 // Every length and count is in bytes.
-// Proved: the answer and the next card are what the command's rule gives, for every card, data and supply.
+// Proved: the verdict and the reply are what the command's rule gives, for every card, data and supply.
 ghost use mathlib.Core.Path.{_≡_};
 ghost use mathlib.Core.Bool.{true};
 ghost use lib.ListN.{length};
 ghost use Rattle.aes.specs.Aes.{invAes256};
 ghost use Rattle.cbc.specs.Mode.{cbcDecrypt};
 ghost use Rattle.padding.specs.Padding.{unpad};
-ghost use Rattle.rules.specs.Words.{success, verdict, reportOf};
+ghost use Rattle.rules.specs.Words.{Hold, verdict};
+ghost use Rattle.rules.specs.Code.{repliedOf};
 ghost use Rattle.rules.specs.Supplies.{suits, initSupply};
-ghost use Rattle.rules.specs.Commands.{initChecks, isContent, initialisedWith, initReply};
-ghost use Rattle.init_command.specs.Content.{isFormed, pinsWith, offered, Found};
+ghost use Rattle.rules.specs.Commands.{isInitData, initChecks, isContent, pinsWith, initialisedWith, initReply};
+ghost use Rattle.init_command.specs.Content.{offered, Found};
 use card::Card;
 use card::IV_BYTES;
 use card::KEY_BYTES;
-use card::PIN_BYTES;
-use card::PUK_BYTES;
 use card::Pins;
+use command_parts::POINT_FORM;
+use command_parts::block_part;
+use command_parts::done;
+use command_parts::failed;
+use command_parts::key_part;
+use command_parts::must;
+use command_parts::pin_part;
+use command_parts::puk_part;
+use command_parts::reads;
+use command_parts::says_yes;
 use padding::Unpadded;
 use rules::Replied;
-use rules::SUCCESS;
+use rules::Verdict;
 use rules::WRONG_DATA;
-use supply_parts::POINT_FORM;
-use supply_parts::YES;
-use supply_parts::block_part;
-use supply_parts::key_part;
-use supply_parts::must;
 
 // INIT's data, and where its parts begin: the point's length in one byte, the point, IV 16, ciphertext 64.
 pub const INIT_DATA_BYTES: usize = 146;
@@ -45,13 +49,16 @@ const PUK_AT: usize = 6;
 
 const SECRET_AT: usize = 18;
 
-// Where the key of INIT's supply begins, behind the flag.
+// INIT's supply: the flag, then the AES key.
+const INIT_SUPPLY: u8 = 1;
+
+const INIT_SUPPLY_BYTES: usize = 33;
+
 const AES_KEY_AT: usize = 1;
 
-// ---- INIT
 // Whether the data have INIT's form.
-fn is_formed(data: &[u8]) -> bool
-    ensures { λ r. ⌜ r ≡ isFormed (now («data» .entry)) ⌝ }
+fn is_init_data(data: &[u8]) -> bool
+    ensures { λ r. ⌜ r ≡ isInitData (now («data» .entry)) ⌝ }
 {
     if data.len() != INIT_DATA_BYTES {
         return false;
@@ -61,10 +68,12 @@ fn is_formed(data: &[u8]) -> bool
     point_bytes & point_form
 }
 
-pub fn init_verdict(data: &[u8]) -> u16
-    ensures { λ r. ⌜ r ≡ verdict (initChecks (now («data» .entry))) ⌝ }
+pub fn init_verdict(data: &[u8]) -> Verdict
+    ensures { λ r. ⌜ r ≡ verdict initSupply (initChecks (now («data» .entry))) ⌝ }
 {
-    must(is_formed(data), WRONG_DATA, SUCCESS)
+    let formed = is_init_data(data);
+    let read = reads(INIT_SUPPLY, INIT_SUPPLY_BYTES, true);
+    must(formed, WRONG_DATA, read)
 }
 
 // Whether these bytes are a PIN, a PUK and a pairing secret.
@@ -96,7 +105,7 @@ fn open_init(data: &[u8], supply: &[u8], plain: &mut [u8]) -> bool
     requires { ⌜ (length (now «data») ≡ 146) × (length (now supply) ≡ 33) × (length (now plain) ≡ 64) ⌝ }
     ensures { λ r. ⌜ Found (offered (now («data» .entry)) (now (supply .entry))) r (now (plain .exit)) ⌝ }
 {
-    if supply[0] == YES {
+    if says_yes(supply) {
         let key = key_part(supply, AES_KEY_AT);
         let iv = block_part(data, INIT_IV_AT);
         octets::put(plain, 0, &data[CIPHERTEXT_AT..INIT_DATA_BYTES]);
@@ -111,10 +120,8 @@ fn pins_with(content: &[u8]) -> Pins
     requires { ⌜ length (now content) ≡ 50 ⌝ }
     ensures { λ r. ⌜ r ≡ pinsWith (now (content .entry)) ⌝ }
 {
-    let mut pin = [0; PIN_BYTES];
-    octets::put(&mut pin, 0, &content[0..PUK_AT]);
-    let mut puk = [0; PUK_BYTES];
-    octets::put(&mut puk, 0, &content[PUK_AT..SECRET_AT]);
+    let pin = pin_part(content, 0);
+    let puk = puk_part(content, PUK_AT);
     Pins {
         pin,
         puk,
@@ -124,6 +131,7 @@ fn pins_with(content: &[u8]) -> Pins
     }
 }
 
+// The card with what the content brings.
 fn initialised_with(card: Card, content: &[u8]) -> Card
     requires { ⌜ length (now content) ≡ 50 ⌝ }
     ensures { λ r. ⌜ r ≡ initialisedWith card (now (content .entry)) ⌝ }
@@ -140,21 +148,13 @@ fn initialised_with(card: Card, content: &[u8]) -> Card
 }
 
 pub fn init(card: Card, data: &[u8], supply: &[u8]) -> Replied
-    requires { ⌜ (verdict (initChecks (now «data»)) ≡ success) × (suits initSupply (now supply) ≡ true) ⌝ }
-    ensures { λ r. ⌜ r ≡ reportOf (initReply card (now («data» .entry)) (now (supply .entry))) ⌝ }
+    requires { ⌜ Hold (initChecks (now «data»)) × (suits initSupply (now supply) ≡ true) ⌝ }
+    ensures { λ r. ⌜ r ≡ repliedOf (initReply card (now («data» .entry)) (now (supply .entry))) ⌝ }
 {
     let mut plain = [0; CIPHERTEXT_BYTES];
-    if open_init(data, supply, &mut plain) {
-        Replied {
-            status: SUCCESS,
-            count: 0,
-            card: initialised_with(card, &plain[0..CONTENT_BYTES]),
-        }
-    } else {
-        Replied {
-            status: WRONG_DATA,
-            count: 0,
-            card,
-        }
+    if !open_init(data, supply, &mut plain) {
+        return failed(card, WRONG_DATA);
     }
+    let initialised = initialised_with(card, &plain[0..CONTENT_BYTES]);
+    done(initialised)
 }

@@ -1,45 +1,38 @@
--- The replies of LOAD and REMOVE, from what the code's calls give. Every length is in bytes.
+-- The reply of LOAD, from what the code's calls give. Every length is in bytes.
 -- Assumes nothing.
 use mathlib.Core.Path.{_≡_, refl, sym, ap, ap₂, _∙_}
 use mathlib.Core.Bool.{true, false}
-use mathlib.Core.List.{List, []}
+use mathlib.Core.List.{List}
 use Prim.Native.Nat.{ℕ}
 use native.Mathlib.Omega.{arith}
 use lib.ListN.{length}
 use Rattle.octets.specs.Bytes.{overwrite}
 use Rattle.card.specs.declared.Keys.{Keys}
 use Rattle.card.specs.declared.Card.{Card}
-use Rattle.card.specs.State.{withKeys, noKeys}
+use Rattle.card.specs.State.{withKeys}
 use Rattle.rules.specs.declared.KeyForm.{KeyForm}
 use Rattle.rules.specs.declared.Replied.{Replied}
-use Rattle.rules.specs.Words.{success, wrongData, succeeds, reportOf, Replies}
+use Rattle.rules.specs.Words.{success, wrongData, fails}
+use Rattle.rules.specs.Code.{repliedOf, Replies}
 use Rattle.rules.specs.Supplies.{saysYes, loadUid}
-use Rattle.rules.specs.Commands.{kindOf, keyWith, loadReply, removeReply}
-use Rattle.load_command.proofs.SupplyFacts.{part-length}
-use Rattle.key_parts.proofs.KeyReplies.{written-first}
+use Rattle.rules.specs.Commands.{kindOf, keyWith, loadReply}
+use Rattle.command_parts.specs.Replies.{said}
+use Rattle.command_parts.proofs.SupplyFacts.{part-length}
+use Rattle.command_parts.proofs.ReplyFacts.{put-replies, silent}
 
--- ---- LOAD
-module _ (c : Card) (form : KeyForm) (s : List ℕ) where
-  pub load-no : (out : List ℕ) → saysYes s ≡ false
-      → Replies (loadReply c form s) (record { status = wrongData; count = 0; card = c }) out out
+-- ---- loadReply: uid, kind, keys, next, r and b are what the calls that make them give
+module _ (c : Card) (form : KeyForm) (s : List ℕ) {r : Replied} {a : List ℕ} where
+  pub load-no : saysYes s ≡ false → r ≡ repliedOf (fails c wrongData) → Replies (loadReply c form s) r a a
   unfolding loadReply
-  load-no out e = rw e (record { told = refl; left = refl })
+  load-no e er = rw e (silent (fails c wrongData) refl er)
 
-  -- after: what `put` leaves in the buffer; keys, next: what the calls that make them give
-  pub load-yes : (before after : List ℕ) (kind : ℕ) (keys : Keys) (next : Card) → length s ≡ 33 → saysYes s ≡ true
-      → after ≡ overwrite before 0 (loadUid s) → kind ≡ kindOf form → keys ≡ keyWith kind (loadUid s) → next ≡ withKeys c keys
-      → Replies (loadReply c form s) (record { status = success; count = 32; card = next }) before after
+  pub load-yes : {b : List ℕ} (uid : List ℕ) (kind : ℕ) (keys : Keys) (next : Card) → length s ≡ 33 → saysYes s ≡ true → uid ≡ loadUid s
+      → b ≡ overwrite a 0 uid → kind ≡ kindOf form → keys ≡ keyWith kind uid → next ≡ withKeys c keys → r ≡ said success 32 next
+      → Replies (loadReply c form s) r a b
   unfolding loadReply
-  load-yes before after kind keys next l e ea ek ey en =
-      rw e (record {
-        told =
-            ap₂ {C = Replied} (λ n x. record { status = success; count = n; card = x }) (sym (part-length 1 32 s (omega (arith, l))))
-            (en ∙ ap (withKeys c) (ey ∙ ap (λ (k : ℕ). keyWith k (loadUid s)) ek));
-        left = ea ∙ written-first before (loadUid s);
-      })
-
--- ---- REMOVE
-pub remove-done : (c : Card) (keys : Keys) (next : Card) (r : Replied) → keys ≡ noKeys → next ≡ withKeys c keys
-    → r ≡ reportOf (succeeds next []) → r ≡ reportOf (removeReply c)
-unfolding removeReply
-remove-done c keys next r ek en er = er ∙ ap {B = Replied} (λ x. reportOf (succeeds x [])) (en ∙ ap (withKeys c) ek)
+  load-yes uid kind keys next l e eu eb ek ey en er =
+      rw e
+      (put-replies (loadUid s) next _
+      (er ∙ ap {B = Replied} (λ (n : ℕ). said success n next) (sym (part-length 1 32 s (omega (arith, l)))))
+      (en ∙ ap (withKeys c) (ey ∙ ap₂ {C = Keys} (λ k u. keyWith k u) ek eu))
+      (eb ∙ ap (overwrite a 0) eu))

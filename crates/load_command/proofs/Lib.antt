@@ -1,3 +1,2 @@
-pub mod SupplyFacts
 pub mod KeyReplies
 pub mod Responses

@@ -12,7 +12,7 @@ use Rattle.rules.specs.declared.KeyForm.{KeyForm}
 use Rattle.rules.specs.Words.{succeeds, fails, wrongData}
 use Rattle.rules.specs.Supplies.{saysYes, loadUid}
 use Rattle.rules.specs.Commands.{kindOf, keyWith, loadReply, removeReply}
-use Rattle.key_parts.proofs.SupplyFacts.{part-le}
+use Rattle.command_parts.proofs.SupplyFacts.{part-le}
 
 pub remove-response : (c : Card) → removeReply c .response ≡ []
 unfolding removeReply

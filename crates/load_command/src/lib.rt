@@ -1,36 +1,48 @@
-// LOAD and REMOVE. For each one a function that gives the status word of its checks, from the parts of the card that they read, and one that
-// makes the reply. Every length is in bytes.
-// Proved: each is what the command's definition in the rulebook gives, for every card and all data and supplies that its contract admits.
+// LOAD and REMOVE: for each the verdict of its checks, and its reply where they hold.
+// Every length and count is in bytes.
+// Proved: each verdict, reply and byte of the buffer is what the command's rule gives, for every card, data and supply.
 ghost use mathlib.Core.Bool.{true};
 ghost use mathlib.Core.Path.{_≡_};
 ghost use Prim.Native.Nat.{_≤_};
 ghost use lib.ListN.{length};
-ghost use Rattle.rules.specs.Words.{verdict, reportOf, Replies};
-ghost use Rattle.rules.specs.Supplies.{suits, loadSupply};
+ghost use Rattle.rules.specs.Words.{verdict};
+ghost use Rattle.rules.specs.Code.{repliedOf, Replies};
+ghost use Rattle.rules.specs.Supplies.{suits, noSupply, loadSupply};
 ghost use Rattle.rules.specs.Commands.{isKeyData, kindOf, keyWith};
 ghost use Rattle.rules.specs.Commands.{loadChecks, loadReply, removeChecks, removeReply};
 use card::Card;
+use card::KEY_BYTES;
+use card::KEY_EXTENDED;
+use card::KEY_NONE;
+use card::KEY_SINGLE;
 use card::Keys;
+use card::PATH_MAX_BYTES;
 use card::Path;
 use card::Pins;
-use key_parts::KIND_EXTENDED;
-use key_parts::checked;
-use key_parts::done;
-use key_parts::says_yes;
-use key_parts::with_keys;
+use command_parts::done;
+use command_parts::failed;
+use command_parts::key_part;
+use command_parts::must;
+use command_parts::reads;
+use command_parts::reads_none;
+use command_parts::replied;
+use command_parts::says_yes;
+use command_parts::with_keys;
+use rules::CONDITIONS_NOT_MET;
 use rules::KeyForm;
 use rules::Replied;
+use rules::Verdict;
+use rules::WRONG_DATA;
 
 // LOAD, P1 03: the seed.
 pub const SEED_BYTES: usize = 64;
 
-// The kinds of key: none, and one without a chain code.
-pub const KIND_NONE: u8 = 0;
+// LOAD's supply: the flag, then the key UID.
+const LOAD_SUPPLY: u8 = 6;
 
-pub const KIND_KEY: u8 = 1;
+const LOAD_SUPPLY_BYTES: usize = 33;
 
-// Where the key UID ends in LOAD's supply.
-pub const UID_END: usize = 33;
+const KEY_UID_AT: usize = 1;
 
 // ---- LOAD D0: a keypair, with its chain code or without, or a seed
 // Whether LOAD takes the data under this form.
@@ -49,37 +61,35 @@ fn kind_of(form: KeyForm) -> u8
     ensures { λ r. ⌜ r ≡ kindOf form ⌝ }
 {
     match form {
-        KeyForm::Keypair => KIND_KEY,
-        KeyForm::Extended => KIND_EXTENDED,
-        KeyForm::Seed => KIND_EXTENDED,
+        KeyForm::Keypair => KEY_SINGLE,
+        KeyForm::Extended => KEY_EXTENDED,
+        KeyForm::Seed => KEY_EXTENDED,
     }
 }
 
 // Keys of this kind and UID, both paths empty.
-fn key_with(kind: u8, uid: &[u8]) -> Keys
-    requires { ⌜ length (now uid) ≡ 32 ⌝ }
-    ensures { λ r. ⌜ r ≡ keyWith kind (now (uid .entry)) ⌝ }
+fn key_with(kind: u8, uid: [u8; KEY_BYTES]) -> Keys
+    ensures { λ r. ⌜ r ≡ keyWith kind uid ⌝ }
 {
-    let mut bytes = [0u8; card::KEY_BYTES];
-    octets::put(&mut bytes, 0, uid);
     let empty = Path {
         len: 0,
-        bytes: [0; card::PATH_MAX_BYTES],
+        bytes: [0; PATH_MAX_BYTES],
     };
     Keys {
         kind,
-        uid: bytes,
+        uid,
         current: empty,
         pinless: empty,
     }
 }
 
-pub fn load_verdict(pins: Pins, form: KeyForm, data: &[u8]) -> u16
-    ensures { λ r. ⌜ r ≡ verdict (loadChecks pins form (now («data» .entry))) ⌝ }
+pub fn load_verdict(pins: Pins, form: KeyForm, data: &[u8]) -> Verdict
+    ensures { λ r. ⌜ r ≡ verdict loadSupply (loadChecks pins form (now («data» .entry))) ⌝ }
 {
     let verified = pins.verified != 0;
-    let key_data = is_key_data(form, data);
-    checked(verified, key_data)
+    let formed = is_key_data(form, data);
+    let read = reads(LOAD_SUPPLY, LOAD_SUPPLY_BYTES, true);
+    must(verified, CONDITIONS_NOT_MET, must(formed, WRONG_DATA, read))
 }
 
 pub fn load(card: Card, form: KeyForm, supply: &[u8], out: &mut [u8]) -> Replied
@@ -87,38 +97,26 @@ pub fn load(card: Card, form: KeyForm, supply: &[u8], out: &mut [u8]) -> Replied
     ensures { λ r. ⌜ Replies (loadReply card form (now (supply .entry))) r (now (out .entry)) (now (out .exit)) ⌝ }
 {
     if !says_yes(supply) {
-        return Replied {
-            status: rules::WRONG_DATA,
-            count: 0,
-            card,
-        };
+        return failed(card, WRONG_DATA);
     }
-    let uid = &supply[1..UID_END];
-    octets::put(out, 0, uid);
+    let uid = key_part(supply, KEY_UID_AT);
+    octets::put(out, 0, &uid);
     let keys = key_with(kind_of(form), uid);
     let loaded = with_keys(card, keys);
-    Replied {
-        status: rules::SUCCESS,
-        count: card::KEY_BYTES,
-        card: loaded,
-    }
+    replied(loaded, KEY_BYTES)
 }
 
 // ---- REMOVE D3: no key, both paths empty
-pub fn remove_verdict(pins: Pins) -> u16
-    ensures { λ r. ⌜ r ≡ verdict (removeChecks pins) ⌝ }
+pub fn remove_verdict(pins: Pins) -> Verdict
+    ensures { λ r. ⌜ r ≡ verdict noSupply (removeChecks pins) ⌝ }
 {
-    if pins.verified == 0 {
-        return rules::CONDITIONS_NOT_MET;
-    }
-    rules::SUCCESS
+    must(pins.verified != 0, CONDITIONS_NOT_MET, reads_none())
 }
 
 pub fn remove(card: Card) -> Replied
-    ensures { λ r. ⌜ r ≡ reportOf (removeReply card) ⌝ }
+    ensures { λ r. ⌜ r ≡ repliedOf (removeReply card) ⌝ }
 {
-    let uid = [0u8; card::KEY_BYTES];
-    let keys = key_with(KIND_NONE, &uid);
+    let keys = key_with(KEY_NONE, [0; KEY_BYTES]);
     let removed = with_keys(card, keys);
     done(removed)
 }

@@ -1,2 +1,1 @@
-pub mod VerdictFacts
 pub mod ReplyFacts

@@ -1,3 +1,2 @@
-pub mod CheckFacts
-pub mod SupplyFacts
+pub mod SlotFacts
 pub mod ReplyFacts

@@ -1,35 +1,45 @@
-// OPEN, which is plain in every stage: the status word of its checks, and its reply past them.
-// Every length and count is in bytes; a slot's index counts slots from 0.
-// Proved: the answer, the next card and every byte of the buffer are what the command's rule gives, for every card, data and supply.
+// OPEN, which is plain in every stage: the verdict of its checks, and its reply where they hold.
+// Every length and count is in bytes; a slot's index counts slots from 0, and an index that no slot has reads as a free one.
+// Proved: the verdict, the reply and every byte of the buffer are what the command's rule gives, for every card, index, data and supply.
 ghost use mathlib.Core.Path.{_≡_};
-ghost use mathlib.Core.Bool.{true};
+ghost use mathlib.Core.Bool.{true, not};
 ghost use mathlib.Core.List.{_++_};
-ghost use Prim.Native.Nat.{_≤_, _<_};
+ghost use Prim.Native.Nat.{_≤_};
 ghost use lib.ListN.{length};
 ghost use Rattle.template.specs.Writing.{Wrote};
-ghost use Rattle.card.specs.State.{slotCount};
-ghost use Rattle.rules.specs.Words.{verdict, Replies};
+ghost use Rattle.card.specs.Slots.{isFree};
+ghost use Rattle.rules.specs.Words.{verdict};
+ghost use Rattle.rules.specs.Code.{Replies};
 ghost use Rattle.rules.specs.Supplies.{suits, openSupply, openSalt, openIv};
-ghost use Rattle.rules.specs.Commands.{isPoint, openChecks, openedWith, openReply};
+ghost use Rattle.rules.specs.Commands.{isPoint, slotAt, openChecks, openedWith, openReply};
 use card::Card;
 use card::Channel;
+use card::STAGE_OPENED;
 use card::Slot;
 use card::wide;
+use command_parts::POINT_FORM;
+use command_parts::block_part;
+use command_parts::failed;
+use command_parts::key_part;
+use command_parts::must;
+use command_parts::put_both;
+use command_parts::reads;
+use command_parts::replied;
+use command_parts::says_yes;
+use command_parts::with_channel;
 use rules::Replied;
-use rules::SUCCESS;
+use rules::Verdict;
 use rules::WRONG_DATA;
 use rules::WRONG_PARAMETERS;
-use supply_parts::POINT_FORM;
-use supply_parts::YES;
-use supply_parts::block_part;
-use supply_parts::key_part;
-use supply_parts::must;
-use supply_parts::put_both;
 
 // A point in uncompressed form: its length in bytes.
 pub const POINT_BYTES: usize = 65;
 
-// Where the parts of OPEN's supply begin: flag, enc key 32, MAC key 32, salt 32, IV 16.
+// OPEN's supply, and where its parts begin: flag, enc key 32, MAC key 32, salt 32, IV 16.
+const OPEN_SUPPLY: u8 = 2;
+
+const OPEN_SUPPLY_BYTES: usize = 113;
+
 const ENC_KEY_AT: usize = 1;
 
 const MAC_KEY_AT: usize = 33;
@@ -48,16 +58,25 @@ fn is_point(data: &[u8]) -> bool
     data[0] == POINT_FORM
 }
 
-// ---- OPEN: the channel is closed by now
-pub fn open_verdict(slots: [Slot; Card::SLOTS], slot: u8, data: &[u8]) -> u16
-    requires { ⌜ slot < slotCount ⌝ }
-    ensures { λ r. ⌜ r ≡ verdict (openChecks slots slot (now («data» .entry))) ⌝ }
+// Whether the slot of this index is there and filled.
+fn is_filled(slots: [Slot; Card::SLOTS], slot: u8) -> bool
+    ensures { λ r. ⌜ r ≡ not (isFree (slotAt slots slot)) ⌝ }
 {
     let i = wide(slot);
+    if i >= Card::SLOTS {
+        return false;
+    }
     let chosen = slots[i];
-    let filled = chosen.filled != 0;
+    chosen.filled != 0
+}
+
+pub fn open_verdict(slots: [Slot; Card::SLOTS], slot: u8, data: &[u8]) -> Verdict
+    ensures { λ r. ⌜ r ≡ verdict openSupply (openChecks slots slot (now («data» .entry))) ⌝ }
+{
+    let filled = is_filled(slots, slot);
     let point = is_point(data);
-    must(filled, WRONG_PARAMETERS, must(point, WRONG_DATA, SUCCESS))
+    let read = reads(OPEN_SUPPLY, OPEN_SUPPLY_BYTES, true);
+    must(filled, WRONG_PARAMETERS, must(point, WRONG_DATA, read))
 }
 
 // The channel in stage 1 with the session that the supply brings.
@@ -69,7 +88,7 @@ fn opened_channel(supply: &[u8]) -> Channel
     let mac_key = key_part(supply, MAC_KEY_AT);
     let iv = block_part(supply, OPEN_IV_AT);
     Channel {
-        stage: 1,
+        stage: STAGE_OPENED,
         enc_key,
         mac_key,
         iv,
@@ -86,27 +105,15 @@ fn put_salt_iv(supply: &[u8], out: &mut [u8]) -> usize
     put_both(out, &salt, &iv)
 }
 
+// The card comes with its channel closed.
 pub fn open(card: Card, supply: &[u8], out: &mut [u8]) -> Replied
     requires { ⌜ (suits openSupply (now supply) ≡ true) × (221 ≤ length (now out)) ⌝ }
     ensures { λ r. ⌜ Replies (openReply card (now (supply .entry))) r (now (out .entry)) (now (out .exit)) ⌝ }
 {
-    let mut next = card;
-    if supply[0] == YES {
-        let count = put_salt_iv(supply, out);
-        let channel = opened_channel(supply);
-        next.channel = channel;
-        Replied {
-            status: SUCCESS,
-            count,
-            card: next,
-        }
-    } else {
-        let channel = Channel::closed();
-        next.channel = channel;
-        Replied {
-            status: WRONG_DATA,
-            count: 0,
-            card: next,
-        }
+    if !says_yes(supply) {
+        return failed(card, WRONG_DATA);
     }
+    let count = put_salt_iv(supply, out);
+    let channel = opened_channel(supply);
+    replied(with_channel(card, channel), count)
 }

@@ -1,4 +1,2 @@
-pub mod CheckFacts
-pub mod SupplyFacts
 pub mod ReplyFacts
 pub mod Laws

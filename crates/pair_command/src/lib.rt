@@ -1,51 +1,70 @@
-// PAIR, first and final, which are plain in every stage: for each the status word of its checks, and its reply past them.
+// PAIR, first and final, which are plain in every stage: for each the verdict of its checks, and its reply where they hold.
 // Every length and count is in bytes; a slot's index counts slots from 0.
-// Proved: each answer, the next card and every byte of the buffer are what the step's rule gives, for every card, data and supply.
+// Proved: each verdict, reply and byte of the buffer is what the step's rule gives, for every card, data and supply.
 ghost use mathlib.Core.Path.{_≡_};
 ghost use mathlib.Core.Bool.{true};
 ghost use Prim.Native.Nat.{_≤_, _<_};
 ghost use lib.ListN.{length};
 ghost use Rattle.card.specs.State.{slotCount, notPending};
-ghost use Rattle.rules.specs.Words.{verdict, Replies};
+ghost use Rattle.rules.specs.Words.{verdict};
+ghost use Rattle.rules.specs.Code.{Replies};
 ghost use Rattle.rules.specs.Supplies.{suits, pairFirstSupply, pairFinalSupply};
 ghost use Rattle.rules.specs.Commands.{pairFirstChecks, pendingWith, pairFirstReply, pairFinalChecks, withSlot, filledWith, pairFinalReply};
 ghost use Rattle.pair_command.specs.Parts.{FoundAt};
 use card::Card;
 use card::KEY_BYTES;
 use card::Pairing;
+use card::STAGE_AUTHENTICATED;
 use card::Slot;
+use command_parts::failed;
+use command_parts::key_part;
+use command_parts::must;
+use command_parts::put_both;
+use command_parts::reads;
+use command_parts::replied;
+use command_parts::with_pairing;
 use rules::CONDITIONS_NOT_MET;
 use rules::NO_SPACE;
 use rules::Replied;
 use rules::SECURITY_NOT_MET;
-use rules::SUCCESS;
+use rules::Verdict;
 use rules::WRONG_DATA;
 use rules::WRONG_PARAMETERS;
 use slots::Free;
-use supply_parts::key_part;
-use supply_parts::must;
-use supply_parts::put_both;
 
 // A client's challenge and its cryptogram, in bytes.
 pub const PAIR_DATA_BYTES: usize = 32;
 
-// Where the parts of PAIR's supplies begin: first, cryptogram 32, challenge 32, expected client cryptogram 32; final, salt 32, key 32.
+// The first step's supply, and where its parts begin: cryptogram 32, challenge 32, expected client cryptogram 32.
+const FIRST_SUPPLY: u8 = 4;
+
+const FIRST_SUPPLY_BYTES: usize = 96;
+
 const CHALLENGE_AT: usize = 32;
 
 const EXPECTED_AT: usize = 64;
 
+// The final step's supply, and where its parts begin: salt 32, pairing key 32.
+const FINAL_SUPPLY: u8 = 5;
+
+const FINAL_SUPPLY_BYTES: usize = 64;
+
 const PAIRING_KEY_AT: usize = 32;
 
 // ---- PAIR, first
-pub fn pair_first_verdict(pairing: Pairing, stage: u8, data: &[u8]) -> u16
-    ensures { λ r. ⌜ r ≡ verdict (pairFirstChecks pairing stage (now («data» .entry))) ⌝ }
+pub fn pair_first_verdict(pairing: Pairing, stage: u8, data: &[u8]) -> Verdict
+    ensures { λ r. ⌜ r ≡ verdict pairFirstSupply (pairFirstChecks pairing stage (now («data» .entry))) ⌝ }
 {
     let slots = pairing.slots;
-    let outside = stage != 2;
+    let outside = stage != STAGE_AUTHENTICATED;
     let long = data.len() == PAIR_DATA_BYTES;
     let room = slots::has_free(slots);
-    let past_stage = must(long, WRONG_DATA, must(room, NO_SPACE, SUCCESS));
-    must(outside, CONDITIONS_NOT_MET, past_stage)
+    let read = reads(FIRST_SUPPLY, FIRST_SUPPLY_BYTES, false);
+    must(
+        outside,
+        CONDITIONS_NOT_MET,
+        must(long, WRONG_DATA, must(room, NO_SPACE, read)),
+    )
 }
 
 // The pairing with a pending one, which takes the place of one before it.
@@ -66,31 +85,29 @@ pub fn pair_first(card: Card, supply: &[u8], out: &mut [u8]) -> Replied
     let challenge = key_part(supply, CHALLENGE_AT);
     let expected = key_part(supply, EXPECTED_AT);
     let count = put_both(out, &cryptogram, &challenge);
-    let mut next = card;
     let before = card.pairing;
     let pairing = pending_with(before, expected);
-    next.pairing = pairing;
-    Replied {
-        status: SUCCESS,
-        count,
-        card: next,
-    }
+    replied(with_pairing(card, pairing), count)
 }
 
 // ---- PAIR, final
-pub fn pair_final_verdict(pairing: Pairing, stage: u8, data: &[u8]) -> u16
-    ensures { λ r. ⌜ r ≡ verdict (pairFinalChecks pairing stage (now («data» .entry))) ⌝ }
+pub fn pair_final_verdict(pairing: Pairing, stage: u8, data: &[u8]) -> Verdict
+    ensures { λ r. ⌜ r ≡ verdict pairFinalSupply (pairFinalChecks pairing stage (now («data» .entry))) ⌝ }
 {
     let expected = pairing.expected;
     let pending = pairing.pending != 0;
-    let outside = stage != 2;
+    let outside = stage != STAGE_AUTHENTICATED;
     let long = data.len() == PAIR_DATA_BYTES;
     let right = octets::same(data, &expected);
-    let past_stage = must(long, WRONG_DATA, must(right, SECURITY_NOT_MET, SUCCESS));
+    let read = reads(FINAL_SUPPLY, FINAL_SUPPLY_BYTES, false);
     must(
         pending,
         WRONG_PARAMETERS,
-        must(outside, CONDITIONS_NOT_MET, past_stage),
+        must(
+            outside,
+            CONDITIONS_NOT_MET,
+            must(long, WRONG_DATA, must(right, SECURITY_NOT_MET, read)),
+        ),
     )
 }
 
@@ -127,27 +144,16 @@ pub fn pair_final(card: Card, supply: &[u8], out: &mut [u8]) -> Replied
     requires { ⌜ (suits pairFinalSupply (now supply) ≡ true) × (221 ≤ length (now out)) ⌝ }
     ensures { λ r. ⌜ Replies (pairFinalReply card (now (supply .entry))) r (now (out .entry)) (now (out .exit)) ⌝ }
 {
-    let mut next = card;
     let before = card.pairing;
     let slots = before.slots;
     let Free::At(i) = slots::first_free(slots) else {
         let pairing = not_pending(before);
-        next.pairing = pairing;
-        return Replied {
-            status: NO_SPACE,
-            count: 0,
-            card: next,
-        };
+        return failed(with_pairing(card, pairing), NO_SPACE);
     };
     let index = [index_byte(slots, i)];
     let salt = key_part(supply, 0);
     let key = key_part(supply, PAIRING_KEY_AT);
     let count = put_both(out, &index, &salt);
     let pairing = filled_at(before, i, key);
-    next.pairing = pairing;
-    Replied {
-        status: SUCCESS,
-        count,
-        card: next,
-    }
+    replied(with_pairing(card, pairing), count)
 }

@@ -1,4 +1,3 @@
-pub mod Verdicts
-pub mod SupplyFacts
-pub mod KeyReplies
+pub mod CheckFacts
+pub mod PathFacts
 pub mod Responses

@@ -1,4 +1,3 @@
-pub mod CheckFacts
 pub mod SelectFacts
 pub mod ReplyFacts
 pub mod Laws

@@ -1,19 +1,21 @@
--- From what a writer left in the buffer to what a command replies.
+-- SELECT's reply, from what the code's calls give.
 -- Assumes nothing.
-use mathlib.Core.Path.{_≡_, ap}
+use mathlib.Core.Path.{_≡_, refl, ap, _∙_}
 use mathlib.Core.List.{List}
 use Prim.Native.Nat.{ℕ}
 use Rattle.template.specs.Writing.{Wrote}
 use Rattle.card.specs.declared.Card.{Card}
-use Rattle.card.specs.declared.Channel.{Channel}
-use Rattle.card.specs.State.{withPins, withChannel, unverified, closedOf}
-use Rattle.rules.specs.Words.{success, Replies}
+use Rattle.card.specs.State.{withPins, unverified, closed}
+use Rattle.rules.specs.declared.Replied.{Replied}
+use Rattle.rules.specs.Words.{success}
+use Rattle.rules.specs.Code.{Replies}
 use Rattle.rules.specs.Commands.{selected, selectReply}
-use Rattle.supply_parts.proofs.ReplyFacts.{replied, said}
+use Rattle.command_parts.specs.Replies.{said}
+use Rattle.command_parts.proofs.ReplyFacts.{wrote-replies}
 
--- ---- SELECT
-module _ {n : ℕ} {a b : List ℕ} (c : Card) (k : Channel) where
-  pub select-replied : k ≡ closedOf → Wrote (selected c) 0 n a b
-      → Replies (selectReply c) (said success n (withPins (withChannel c k) (unverified (c .pins)))) a b
+-- ---- selectReply: k is the closed card
+module _ {r : Replied} {n : ℕ} {a b : List ℕ} (c k : Card) where
+  pub select-replied : k ≡ closed c → Wrote (selected (c .initialised) (c .identity) (c .pairing .slots) (c .keys)) 0 n a b
+      → r ≡ said success n (withPins k (unverified (k .pins))) → Replies (selectReply c) r a b
   unfolding selectReply
-  select-replied e w = replied _ _ (ap (λ (x : Channel). withPins (withChannel c x) (unverified (c .pins))) e) w
+  select-replied e w er = wrote-replies _ _ er (ap (λ (x : Card). withPins x (unverified (x .pins))) e) w

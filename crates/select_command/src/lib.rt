@@ -1,25 +1,29 @@
-// SELECT, which is plain in every stage: the status word of its check, and its reply past it.
+// SELECT, which is plain in every stage: the verdict of its check, and its reply where that holds.
 // Every length and count is in bytes; slots are counted in slots.
-// Proved: the answer, the next card and every byte of the buffer are what the command's rule gives, for every card and data.
+// Proved: the verdict, the reply and every byte of the buffer are what the command's rule gives, for every card and data.
 ghost use mathlib.Core.Path.{_≡_};
 ghost use Prim.Native.Nat.{_≤_, _<_};
 ghost use lib.ListN.{length};
 ghost use Rattle.template.specs.Writing.{Wrote};
 ghost use Rattle.answer_templates.specs.Answers.{preInitialised, applicationInfo};
 ghost use Rattle.card.specs.State.{keyUid};
-ghost use Rattle.rules.specs.Words.{verdict, Replies};
-ghost use Rattle.rules.specs.Commands.{selectChecks, freeSlots, selectReply};
-ghost use Rattle.select_command.specs.Parts.{selectedOf, keyUidBytes};
+ghost use Rattle.rules.specs.Words.{verdict};
+ghost use Rattle.rules.specs.Code.{Replies};
+ghost use Rattle.rules.specs.Supplies.{noSupply};
+ghost use Rattle.rules.specs.Commands.{selectChecks, freeSlots, selected, selectReply};
+ghost use Rattle.select_command.specs.Parts.{keyUidBytes};
 use card::Card;
-use card::Channel;
 use card::Identity;
 use card::KEY_BYTES;
+use card::KEY_NONE;
 use card::Keys;
 use card::Slot;
+use command_parts::must;
+use command_parts::reads_none;
+use command_parts::replied;
 use rules::NOT_FOUND;
 use rules::Replied;
-use rules::SUCCESS;
-use supply_parts::must;
+use rules::Verdict;
 
 // The name under which SELECT finds the application.
 pub const APPLICATION_ID: [u8; 15] = [
@@ -40,13 +44,12 @@ pub const APPLICATION_ID: [u8; 15] = [
     0x70,
 ];
 
-// ---- SELECT
-pub fn select_verdict(data: &[u8]) -> u16
-    ensures { λ r. ⌜ r ≡ verdict (selectChecks (now («data» .entry))) ⌝ }
+pub fn select_verdict(data: &[u8]) -> Verdict
+    ensures { λ r. ⌜ r ≡ verdict noSupply (selectChecks (now («data» .entry))) ⌝ }
 {
     let id = APPLICATION_ID;
     let named = octets::same(data, &id);
-    must(named, NOT_FOUND, SUCCESS)
+    must(named, NOT_FOUND, reads_none())
 }
 
 // How many slots are free.
@@ -69,7 +72,7 @@ fn free_slots(slots: [Slot; Card::SLOTS]) -> u8
 fn key_uid_bytes(kind: u8) -> usize
     ensures { λ r. ⌜ r ≡ keyUidBytes kind ⌝ }
 {
-    if kind == 0 {
+    if kind == KEY_NONE {
         return 0;
     }
     KEY_BYTES
@@ -98,6 +101,7 @@ fn put_key(identity: Identity, out: &mut [u8]) -> usize
     answer_templates::put_pre_initialised(out, 0, &public_key)
 }
 
+// The answer, from the parts of the card that it shows.
 fn put_selected(
     initialised: u8,
     identity: Identity,
@@ -106,7 +110,7 @@ fn put_selected(
     out: &mut [u8],
 ) -> usize
     requires { ⌜ 221 ≤ length (now out) ⌝ }
-    ensures { λ n. ⌜ Wrote (selectedOf initialised identity slots keys) 0 n (now (out .entry)) (now (out .exit)) ⌝ }
+    ensures { λ n. ⌜ Wrote (selected initialised identity slots keys) 0 n (now (out .entry)) (now (out .exit)) ⌝ }
 {
     if initialised == 0 {
         put_key(identity, out)
@@ -124,13 +128,7 @@ pub fn select(card: Card, out: &mut [u8]) -> Replied
     let slots = card.pairing.slots;
     let keys = card.keys;
     let count = put_selected(card.initialised, identity, slots, keys, out);
-    let mut next = card;
+    let mut next = card.close();
     next.pins.verified = 0;
-    let channel = Channel::closed();
-    next.channel = channel;
-    Replied {
-        status: SUCCESS,
-        count,
-        card: next,
-    }
+    replied(next, count)
 }

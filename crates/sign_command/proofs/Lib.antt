@@ -1,3 +1,1 @@
-pub mod SupplyFacts
-pub mod KeyReplies
 pub mod Responses

@@ -7,7 +7,7 @@ use Rattle.card.specs.declared.Card.{Card}
 use Rattle.answer_templates.proofs.AnswerFacts.{signature-length-le}
 use Rattle.rules.specs.Supplies.{signKey, signR, signS}
 use Rattle.rules.specs.Commands.{signReply}
-use Rattle.key_parts.proofs.SupplyFacts.{part-le}
+use Rattle.command_parts.proofs.SupplyFacts.{part-le}
 
 pub sign-response : (c : Card) (s : List ℕ) → length (signReply c s .response) ≤ 142
 unfolding signReply

@@ -1,28 +1,40 @@
-// SIGN: a function that gives the status word of its checks, from the parts of the card that they read, and one that makes the reply.
-// Every length is in bytes.
-// Proved: each is what the command's definition in the rulebook gives, for every card and all data and supplies that its contract admits.
+// SIGN: the verdict of its checks, and its reply where they hold.
+// Every length and count is in bytes.
+// Proved: the verdict, the reply and every byte of the buffer are what the command's rule gives, for every card whose paths fit.
 ghost use mathlib.Core.Bool.{true};
 ghost use mathlib.Core.Path.{_≡_};
 ghost use Prim.Native.Nat.{_≤_};
 ghost use lib.ListN.{length};
 ghost use Rattle.octets.specs.Bytes.{sameBytes};
 ghost use Rattle.card.specs.State.{pathBytes};
-ghost use Rattle.rules.specs.Words.{verdict, Replies};
+ghost use Rattle.rules.specs.Words.{verdict};
+ghost use Rattle.rules.specs.Code.{Replies};
 ghost use Rattle.rules.specs.Supplies.{suits, signSupply};
 ghost use Rattle.rules.specs.Commands.{onPinlessPath};
 ghost use Rattle.rules.specs.Commands.{signChecks, signReply};
 use card::Card;
+use card::KEY_NONE;
 use card::Keys;
 use card::Path;
 use card::Pins;
 use card::wide;
-use key_parts::checked;
+use command_parts::must;
+use command_parts::reads;
+use command_parts::replied;
+use rules::CONDITIONS_NOT_MET;
 use rules::Replied;
+use rules::Verdict;
+use rules::WRONG_DATA;
+use signature_template::put_signature;
 
 // SIGN: the hash that is signed.
 pub const HASH_BYTES: usize = 32;
 
-// Where public key, r and s end in SIGN's supply.
+// SIGN's supply, and where public key, r and s end in it.
+const SIGN_SUPPLY: u8 = 8;
+
+const SIGN_SUPPLY_BYTES: usize = 129;
+
 pub const SIGN_KEY_END: usize = 65;
 
 pub const SIGN_R_END: usize = 97;
@@ -54,15 +66,17 @@ fn on_pinless_path(keys: Keys) -> bool
     set & equal
 }
 
-pub fn sign_verdict(pins: Pins, keys: Keys, data: &[u8]) -> u16
+pub fn sign_verdict(pins: Pins, keys: Keys, data: &[u8]) -> Verdict
     requires { ⌜ (keys .current .len ≤ 40) × (keys .pinless .len ≤ 40) ⌝ }
-    ensures { λ r. ⌜ r ≡ verdict (signChecks pins keys (now («data» .entry))) ⌝ }
+    ensures { λ r. ⌜ r ≡ verdict signSupply (signChecks pins keys (now («data» .entry))) ⌝ }
 {
-    let some = keys.kind != 0;
+    let some = keys.kind != KEY_NONE;
     let verified = pins.verified != 0;
     let pinless = on_pinless_path(keys);
+    let allowed = some & (verified | pinless);
     let hash = data.len() == HASH_BYTES;
-    checked(some & (verified | pinless), hash)
+    let read = reads(SIGN_SUPPLY, SIGN_SUPPLY_BYTES, false);
+    must(allowed, CONDITIONS_NOT_MET, must(hash, WRONG_DATA, read))
 }
 
 pub fn sign(card: Card, supply: &[u8], out: &mut [u8]) -> Replied
@@ -72,10 +86,6 @@ pub fn sign(card: Card, supply: &[u8], out: &mut [u8]) -> Replied
     let key = &supply[0..SIGN_KEY_END];
     let r = &supply[SIGN_KEY_END..SIGN_R_END];
     let s = &supply[SIGN_R_END..SIGN_S_END];
-    let count = signature_template::put_signature(out, 0, key, r, s);
-    Replied {
-        status: rules::SUCCESS,
-        count,
-        card,
-    }
+    let count = put_signature(out, 0, key, r, s);
+    replied(card, count)
 }

@@ -1,3 +1,2 @@
 pub mod CheckFacts
-pub mod VerdictFacts
 pub mod Laws

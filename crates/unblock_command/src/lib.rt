@@ -1,29 +1,36 @@
-// UNBLOCK: the status word of its checks, and its reply past them.
-// Every length and count is in bytes. The verdict is the status word of step 6, from parts of the card; the reply is made where it is 9000.
+// UNBLOCK: the verdict of its checks, and its reply where they hold.
+// Every length and count is in bytes.
 // Proved: the verdict and the reply are what the command's rule gives, for every card and all data.
 ghost use mathlib.Core.Path.{_≡_};
 ghost use Prim.Native.Nat.{_<_};
-ghost use Rattle.rules.specs.Words.{success, verdict, reportOf};
-ghost use Rattle.rules.specs.Commands.{unblockChecks, pukRight, pukWrong, unblockReply};
-ghost use Rattle.unblock_command.specs.Parts.{isUnblocking};
+ghost use lib.ListN.{drop};
+ghost use Rattle.rules.specs.Words.{Hold, verdict};
+ghost use Rattle.rules.specs.Code.{repliedOf};
+ghost use Rattle.rules.specs.Supplies.{noSupply};
+ghost use Rattle.rules.specs.Rules.{puk, rightBy};
+ghost use Rattle.rules.specs.Commands.{isUnblocking, unblockChecks, pukRight, pukWrong, unblockReply};
 use byte_tests::digits;
 use card::Card;
 use card::PIN_BYTES;
 use card::PUK_BYTES;
 use card::Pins;
+use command_parts::done;
+use command_parts::failed;
+use command_parts::must;
+use command_parts::pin_part;
+use command_parts::reads_none;
+use command_parts::tries_left;
+use command_parts::with_pins;
 use octets::same;
-use pin_parts::pin_of;
-use pin_parts::tries_left;
 use rules::CONDITIONS_NOT_MET;
 use rules::Replied;
-use rules::SUCCESS;
 use rules::TRIES_LEFT;
+use rules::Verdict;
 use rules::WRONG_DATA;
 
 // UNBLOCK's data: the PUK, then the new PIN.
 const UNBLOCK_BYTES: usize = 18;
 
-// ---- UNBLOCK
 // Whether the data have their length, with digits for the new PIN; the PUK may be any bytes.
 fn is_unblocking(data: &[u8]) -> bool
     ensures { λ r. ⌜ r ≡ isUnblocking (now («data» .entry)) ⌝ }
@@ -34,19 +41,18 @@ fn is_unblocking(data: &[u8]) -> bool
     digits(&data[PUK_BYTES..])
 }
 
-pub fn unblock_verdict(pins: Pins, data: &[u8]) -> u16
-    ensures { λ r. ⌜ r ≡ verdict (unblockChecks pins (now («data» .entry))) ⌝ }
+pub fn unblock_verdict(pins: Pins, data: &[u8]) -> Verdict
+    ensures { λ r. ⌜ r ≡ verdict noSupply (unblockChecks pins (now («data» .entry))) ⌝ }
 {
-    if pins.pin_tries != 0 {
-        return CONDITIONS_NOT_MET;
-    }
-    if pins.puk_tries == 0 {
-        return TRIES_LEFT;
-    }
-    if !is_unblocking(data) {
-        return WRONG_DATA;
-    }
-    SUCCESS
+    let blocked = pins.pin_tries == 0;
+    let try_left = pins.puk_tries != 0;
+    let formed = is_unblocking(data);
+    let read = reads_none();
+    must(
+        blocked,
+        CONDITIONS_NOT_MET,
+        must(try_left, TRIES_LEFT, must(formed, WRONG_DATA, read)),
+    )
 }
 
 fn puk_right(pins: Pins, pin: [u8; PIN_BYTES]) -> Pins
@@ -71,28 +77,16 @@ fn puk_wrong(pins: Pins) -> Pins
 }
 
 pub fn unblock(card: Card, data: &[u8]) -> Replied
-    requires { ⌜ verdict (unblockChecks (card .pins) (now «data»)) ≡ success ⌝ }
-    ensures { λ r. ⌜ r ≡ reportOf (unblockReply card (now («data» .entry))) ⌝ }
+    requires { ⌜ Hold (unblockChecks (card .pins) (now «data»)) ⌝ }
+    ensures { λ r. ⌜ r ≡ repliedOf (unblockReply (rightBy puk (card .pins) (now («data» .entry))) card (drop 12 (now («data» .entry)))) ⌝ }
 {
-    let mut next = card;
     let pins = card.pins;
     let puk = pins.puk;
     if same(&data[..PUK_BYTES], &puk) {
-        let pin = pin_of(&data[PUK_BYTES..]);
-        let unblocked = puk_right(pins, pin);
-        next.pins = unblocked;
-        return Replied {
-            status: SUCCESS,
-            count: 0,
-            card: next,
-        };
+        let unblocked = puk_right(pins, pin_part(data, PUK_BYTES));
+        return done(with_pins(card, unblocked));
     }
-    let failed = puk_wrong(pins);
-    next.pins = failed;
-    let status = tries_left(failed.puk_tries);
-    Replied {
-        status,
-        count: 0,
-        card: next,
-    }
+    let wrong = puk_wrong(pins);
+    let status = tries_left(wrong.puk_tries);
+    failed(with_pins(card, wrong), status)
 }

@@ -1,2 +1,2 @@
-pub mod VerdictFacts
+pub mod SlotFacts
 pub mod Laws

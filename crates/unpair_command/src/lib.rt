@@ -1,10 +1,12 @@
-// UNPAIR.
-// A verdict is the status word of step 6, from parts of the card; the reply is made where it is 9000.
-// Proved: the verdict and the reply are what the command's rule gives, for every card and every slot.
+// UNPAIR: the verdict of its check, and its reply where that holds.
+// A slot's index counts slots from 0; an index that no slot has is none's, and changes nothing.
+// Proved: the verdict and the reply are what the command's rule gives, for every card and every index.
 ghost use mathlib.Core.Path.{_≡_};
-ghost use Prim.Native.Nat.{_<_};
-ghost use Rattle.card.specs.State.{slotCount, freeSlot};
-ghost use Rattle.rules.specs.Words.{verdict, reportOf};
+ghost use lib.ListN.{set};
+ghost use Rattle.card.specs.State.{freeSlot};
+ghost use Rattle.rules.specs.Words.{verdict};
+ghost use Rattle.rules.specs.Code.{repliedOf};
+ghost use Rattle.rules.specs.Supplies.{noSupply};
 ghost use Rattle.rules.specs.Commands.{withSlot, unpairChecks, unpairReply};
 use card::Card;
 use card::KEY_BYTES;
@@ -12,44 +14,48 @@ use card::Pairing;
 use card::Pins;
 use card::Slot;
 use card::wide;
+use command_parts::done;
+use command_parts::must;
+use command_parts::reads_none;
+use command_parts::with_pairing;
 use rules::CONDITIONS_NOT_MET;
 use rules::Replied;
-use rules::SUCCESS;
+use rules::Verdict;
 
-pub fn unpair_verdict(pins: Pins) -> u16
-    ensures { λ r. ⌜ r ≡ verdict (unpairChecks pins) ⌝ }
+pub fn unpair_verdict(pins: Pins) -> Verdict
+    ensures { λ r. ⌜ r ≡ verdict noSupply (unpairChecks pins) ⌝ }
 {
-    if pins.verified == 0 {
-        return CONDITIONS_NOT_MET;
-    }
-    SUCCESS
+    must(pins.verified != 0, CONDITIONS_NOT_MET, reads_none())
 }
 
-// The pairing with the slot of this index free.
-fn with_free(pairing: Pairing, i: usize) -> Pairing
-    requires { ⌜ i < slotCount ⌝ }
-    ensures { λ r. ⌜ r ≡ withSlot pairing i freeSlot ⌝ }
+// The slots with the one of this index free.
+fn freed(mut slots: [Slot; Card::SLOTS], i: usize) -> [Slot; Card::SLOTS]
+    ensures { λ r. ⌜ r ≡ set slots i freeSlot ⌝ }
 {
-    let mut freed = pairing;
     let free = Slot {
         filled: 0,
         key: [0; KEY_BYTES],
     };
-    freed.slots[i] = free;
-    freed
+    if i < Card::SLOTS {
+        slots[i] = free;
+    }
+    slots
+}
+
+// The pairing with the slot of this index free.
+fn with_free(mut pairing: Pairing, i: usize) -> Pairing
+    ensures { λ r. ⌜ r ≡ withSlot pairing i freeSlot ⌝ }
+{
+    let slots = pairing.slots;
+    let next = freed(slots, i);
+    pairing.slots = next;
+    pairing
 }
 
 pub fn unpair(card: Card, slot: u8) -> Replied
-    requires { ⌜ slot < slotCount ⌝ }
-    ensures { λ r. ⌜ r ≡ reportOf (unpairReply card slot) ⌝ }
+    ensures { λ r. ⌜ r ≡ repliedOf (unpairReply card slot) ⌝ }
 {
-    let mut next = card;
     let pairing = card.pairing;
     let freed = with_free(pairing, wide(slot));
-    next.pairing = freed;
-    Replied {
-        status: SUCCESS,
-        count: 0,
-        card: next,
-    }
+    done(with_pairing(card, freed))
 }

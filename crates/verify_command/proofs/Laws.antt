@@ -1,18 +1,12 @@
--- VERIFY answers no data, whatever the card and the data.
+-- VERIFY answers no data, however the comparison came out.
 -- Assumes nothing.
 use mathlib.Core.Path.{_≡_, refl}
 use mathlib.Core.Bool.{Bool, true, false}
-use mathlib.Core.List.{List, []}
-use Prim.Native.Nat.{ℕ}
-use Rattle.octets.specs.Bytes.{sameBytes}
+use mathlib.Core.List.{[]}
 use Rattle.card.specs.declared.Card.{Card}
-use Rattle.rules.specs.Commands.{verifyBy, verifyReply}
+use Rattle.rules.specs.Commands.{verifyReply}
 
-verify-by-empty : (right : Bool) (c : Card) → verifyBy right c .response ≡ []
-unfolding verifyBy
-verify-by-empty true c = refl
-verify-by-empty false c = refl
-
-pub verify-empty : (c : Card) (d : List ℕ) → verifyReply c d .response ≡ []
+pub verify-empty : (right : Bool) (c : Card) → verifyReply right c .response ≡ []
 unfolding verifyReply
-verify-empty c d = verify-by-empty (sameBytes d (c .pins .pin)) c
+verify-empty true c = refl
+verify-empty false c = refl

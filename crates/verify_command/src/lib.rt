@@ -1,26 +1,30 @@
-// VERIFY: the status word of its check, and its reply past it.
-// Every length and count is in bytes. The verdict is the status word of step 6, from parts of the card; the reply is made where it is 9000.
+// VERIFY: the verdict of its check, and its reply where that holds.
+// Every length and count is in bytes.
 // Proved: the verdict and the reply are what the command's rule gives, for every card and all data.
 ghost use mathlib.Core.Path.{_≡_};
 ghost use Prim.Native.Nat.{_<_};
-ghost use Rattle.rules.specs.Words.{success, verdict, reportOf};
+ghost use Rattle.rules.specs.Words.{Hold, verdict};
+ghost use Rattle.rules.specs.Code.{repliedOf};
+ghost use Rattle.rules.specs.Supplies.{noSupply};
+ghost use Rattle.rules.specs.Rules.{pin, rightBy};
 ghost use Rattle.rules.specs.Commands.{verifyChecks, pinRight, pinWrong, verifyReply};
 use card::Card;
 use card::Pins;
+use command_parts::done;
+use command_parts::failed;
+use command_parts::must;
+use command_parts::reads_none;
+use command_parts::tries_left;
+use command_parts::with_pins;
 use octets::same;
-use pin_parts::tries_left;
 use rules::Replied;
-use rules::SUCCESS;
 use rules::TRIES_LEFT;
+use rules::Verdict;
 
-// ---- VERIFY
-pub fn verify_verdict(pins: Pins) -> u16
-    ensures { λ r. ⌜ r ≡ verdict (verifyChecks pins) ⌝ }
+pub fn verify_verdict(pins: Pins) -> Verdict
+    ensures { λ r. ⌜ r ≡ verdict noSupply (verifyChecks pins) ⌝ }
 {
-    if pins.pin_tries == 0 {
-        return TRIES_LEFT;
-    }
-    SUCCESS
+    must(pins.pin_tries != 0, TRIES_LEFT, reads_none())
 }
 
 fn pin_right(pins: Pins) -> Pins
@@ -45,27 +49,16 @@ fn pin_wrong(pins: Pins) -> Pins
 
 // The data are compared with the PIN, whatever their length.
 pub fn verify(card: Card, data: &[u8]) -> Replied
-    requires { ⌜ verdict (verifyChecks (card .pins)) ≡ success ⌝ }
-    ensures { λ r. ⌜ r ≡ reportOf (verifyReply card (now («data» .entry))) ⌝ }
+    requires { ⌜ Hold (verifyChecks (card .pins)) ⌝ }
+    ensures { λ r. ⌜ r ≡ repliedOf (verifyReply (rightBy pin (card .pins) (now («data» .entry))) card) ⌝ }
 {
-    let mut next = card;
     let pins = card.pins;
     let pin = pins.pin;
     if same(data, &pin) {
         let verified = pin_right(pins);
-        next.pins = verified;
-        return Replied {
-            status: SUCCESS,
-            count: 0,
-            card: next,
-        };
+        return done(with_pins(card, verified));
     }
-    let failed = pin_wrong(pins);
-    next.pins = failed;
-    let status = tries_left(failed.pin_tries);
-    Replied {
-        status,
-        count: 0,
-        card: next,
-    }
+    let wrong = pin_wrong(pins);
+    let status = tries_left(wrong.pin_tries);
+    failed(with_pins(card, wrong), status)
 }

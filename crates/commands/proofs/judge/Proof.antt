@@ -1,8 +1,7 @@
--- Each command with its own checks.
+-- Each command with its own checks and supply.
 -- Assumes nothing.
-use Rattle.rules.specs.Commands.{checksOf}
-use Rattle.commands.proofs.Facts.{ranged}
 use borrow.Author.Needs.{needs}
+use Rattle.rules.specs.Commands.{ruleOf}
 use Rattle.commands.proofs.judge.Statement.{statement}
 use Rattle.commands.proofs.judge.Tie as tie
 
@@ -22,8 +21,7 @@ enum-known-k : tie.Need-enum-known-k
 enum-known-k c = search needs
 
 open-verdict-requires : tie.Need-open-verdict-requires
-unfolding checksOf
-open-verdict-requires c κs = ranged _ _ (c .before .k .given .1) (c .before .before .before .before .before .before .before .before .pre .0)
+open-verdict-requires c κs = search needs
 
 enum-told-3 : tie.Need-enum-told-3
 enum-told-3 c = search needs
@@ -51,6 +49,9 @@ unpair-verdict-requires c κs = search needs
 
 enum-told-7 : tie.Need-enum-told-7
 enum-told-7 c = search needs
+
+status-verdict-requires : tie.Need-status-verdict-requires
+status-verdict-requires c κs = search needs
 
 enum-told-8 : tie.Need-enum-told-8
 enum-told-8 c = search needs
@@ -101,67 +102,67 @@ sign-verdict-requires : tie.Need-sign-verdict-requires
 sign-verdict-requires c κs = search needs
 
 returns : tie.Need-returns
-unfolding checksOf
+unfolding ruleOf
 returns c = rw (c .before .enum-told .given .1, c .select-verdict .ensures)
 
 returns-2 : tie.Need-returns-2
-unfolding checksOf
+unfolding ruleOf
 returns-2 c = rw (c .before .enum-told2 .given .1, c .init-verdict .ensures)
 
 returns-3 : tie.Need-returns-3
-unfolding checksOf
+unfolding ruleOf
 returns-3 c = rw (c .before .before .k .given .1, c .open-verdict .ensures)
 
 returns-4 : tie.Need-returns-4
-unfolding checksOf
+unfolding ruleOf
 returns-4 c = rw (c .before .enum-told3 .given .1, c .mutual-verdict .ensures)
 
 returns-5 : tie.Need-returns-5
-unfolding checksOf
+unfolding ruleOf
 returns-5 c = rw (c .before .enum-told4 .given .1, c .pair-first-verdict .ensures)
 
 returns-6 : tie.Need-returns-6
-unfolding checksOf
+unfolding ruleOf
 returns-6 c = rw (c .before .enum-told5 .given .1, c .pair-final-verdict .ensures)
 
 returns-7 : tie.Need-returns-7
-unfolding checksOf
+unfolding ruleOf
 returns-7 c = rw (c .before .enum-told6 .given .1, c .unpair-verdict .ensures)
 
 returns-8 : tie.Need-returns-8
-unfolding checksOf
-returns-8 c = rw (c .enum-told7 .given .1)
+unfolding ruleOf
+returns-8 c = rw (c .before .enum-told7 .given .1, c .status-verdict .ensures)
 
 returns-9 : tie.Need-returns-9
-unfolding checksOf
+unfolding ruleOf
 returns-9 c = rw (c .before .enum-told8 .given .1, c .verify-verdict .ensures)
 
 returns-10 : tie.Need-returns-10
-unfolding checksOf
+unfolding ruleOf
 returns-10 c = rw (c .before .before .k2 .given .1, c .change-verdict .ensures)
 
 returns-11 : tie.Need-returns-11
-unfolding checksOf
+unfolding ruleOf
 returns-11 c = rw (c .before .enum-told9 .given .1, c .unblock-verdict .ensures)
 
 returns-12 : tie.Need-returns-12
-unfolding checksOf
+unfolding ruleOf
 returns-12 c = rw (c .before .before .k3 .given .1, c .load-verdict .ensures)
 
 returns-13 : tie.Need-returns-13
-unfolding checksOf
+unfolding ruleOf
 returns-13 c = rw (c .before .enum-told10 .given .1, c .derive-verdict .ensures)
 
 returns-14 : tie.Need-returns-14
-unfolding checksOf
+unfolding ruleOf
 returns-14 c = rw (c .before .enum-told11 .given .1, c .remove-verdict .ensures)
 
 returns-15 : tie.Need-returns-15
-unfolding checksOf
+unfolding ruleOf
 returns-15 c = rw (c .before .enum-told12 .given .1, c .pinless-verdict .ensures)
 
 returns-16 : tie.Need-returns-16
-unfolding checksOf
+unfolding ruleOf
 returns-16 c = rw (c .before .enum-told13 .given .1, c .sign-verdict .ensures)
 
 pub judge-spec : {M : Type 1} → statement M
@@ -183,6 +184,7 @@ judge-spec =
     enum-told-6
     unpair-verdict-requires
     enum-told-7
+    status-verdict-requires
     enum-told-8
     verify-verdict-requires
     enum-known-k-2

@@ -1,9 +1,11 @@
 -- What was opened decides, as the definition does. The lengths of data and supply follow from their form.
 -- Assumes nothing.
 use mathlib.Core.Path.{refl}
+use borrow.Author.Tests.{not-true, not-false}
 use borrow.Author.Needs.{needs}
+use Rattle.rules.specs.Supplies.{initSupply}
+use Rattle.command_parts.proofs.SupplyFacts.{suits-long}
 use Rattle.init_command.proofs.InitFacts.{formed-long, init-replied, init-refused}
-use Rattle.init_command.proofs.SupplyFacts.{init-long}
 use Rattle.init_command.proofs.init.Statement.{statement}
 use Rattle.init_command.proofs.init.Tie as tie
 
@@ -11,9 +13,17 @@ slice-aggregate-open-init : tie.Need-slice-aggregate-open-init
 slice-aggregate-open-init c = search needs
 
 open-init-requires : tie.Need-open-init-requires
-open-init-requires c κs =
-    let b3 = c .before .before .before in
-    (formed-long (b3 .args .«data» .now) (b3 .pre .0), init-long (b3 .args .supply .now) (b3 .pre .1), refl)
+open-init-requires c κs = let b3 = c .before .before .before in
+    (formed-long (b3 .args .«data» .now) (b3 .pre .0), suits-long initSupply (b3 .args .supply .now) refl (b3 .pre .1), refl)
+
+failed-requires : tie.Need-failed-requires
+failed-requires c κs = search needs
+
+returns : tie.Need-returns
+returns c = let b3 = c .before .before .before in
+    let b7 = b3 .before .before .before .before in
+    init-refused (b7 .args .card) (b7 .args .«data» .now) (b7 .args .supply .now) (b3 .open-init .result) _ (b3 .open-init .ensures)
+    (not-true _ (c .before .if1 .taken)) (c .failed .ensures)
 
 sub-initialised-with : tie.Need-sub-initialised-with
 sub-initialised-with c = search needs
@@ -27,20 +37,15 @@ part-initialised-with-end c = search needs
 initialised-with-requires : tie.Need-initialised-with-requires
 initialised-with-requires c κs = search needs
 
-returns : tie.Need-returns
-returns c =
-    let b3 = c .before .before .before in
-    let b5 = b3 .before .before in
-    let b9 = b5 .before .before .before .before in
-    init-replied (b9 .args .card) (b9 .args .«data» .now) (b9 .args .supply .now) (b5 .open-init .result) _ (b5 .open-init .ensures)
-    (c .initialised-with .result) (b3 .if1 .taken) (c .initialised-with .ensures)
+done-requires : tie.Need-done-requires
+done-requires c κs = search needs
 
 returns-2 : tie.Need-returns-2
-returns-2 c =
-    let b2 = c .before .before in
-    let b6 = b2 .before .before .before .before in
-    init-refused (b6 .args .card) (b6 .args .«data» .now) (b6 .args .supply .now) (b2 .open-init .result) _ (b2 .open-init .ensures)
-    (c .if1 .left)
+returns-2 c = let b4 = c .before .before .before .before in
+    let b6 = b4 .before .before in
+    let b10 = b6 .before .before .before .before in
+    init-replied (b10 .args .card) (b10 .args .«data» .now) (b10 .args .supply .now) (b6 .open-init .result) _ (b6 .open-init .ensures)
+    _ (not-false _ (b4 .if1 .left)) (c .before .initialised-with .ensures) (c .done .ensures)
 
 pub init-spec : {M : Type 1} → statement M
 init-spec =
@@ -48,9 +53,11 @@ init-spec =
     (tie.spec
     slice-aggregate-open-init
     open-init-requires
+    failed-requires
+    returns
     sub-initialised-with
     part-initialised-with-start
     part-initialised-with-end
     initialised-with-requires
-    returns
+    done-requires
     returns-2)

@@ -1,21 +1,22 @@
--- The check's answer is the verdict of INIT's list of checks.
+-- The chain is that of INIT's checks.
 -- Assumes nothing.
 use borrow.Author.Needs.{needs}
-use Rattle.init_command.proofs.InitFacts.{formed-verdict}
+use Rattle.rules.specs.Commands.{initChecks}
 use Rattle.init_command.proofs.init_verdict.Statement.{statement}
 use Rattle.init_command.proofs.init_verdict.Tie as tie
 
-is-formed-requires : tie.Need-is-formed-requires
-is-formed-requires c κs = search needs
+is-init-data-requires : tie.Need-is-init-data-requires
+is-init-data-requires c κs = search needs
+
+reads-requires : tie.Need-reads-requires
+reads-requires c κs = search needs
 
 must-requires : tie.Need-must-requires
 must-requires c κs = search needs
 
 returns : tie.Need-returns
-returns c =
-    let b3 = c .before .before .before in
-    formed-verdict (b3 .args .«data» .now) (c .before .is-formed .result) (c .must .result) (c .before .is-formed .ensures)
-    (c .must .ensures)
+unfolding initChecks
+returns c = rw (← c .before .before .is-init-data .ensures, ← c .before .reads .ensures) (c .must .ensures)
 
 pub init-verdict-spec : {M : Type 1} → statement M
-init-verdict-spec = tie.close (tie.spec is-formed-requires must-requires returns)
+init-verdict-spec = tie.close (tie.spec is-init-data-requires reads-requires must-requires returns)

@@ -1,12 +1,13 @@
 -- By the flag; what was put into the buffer and deciphered is the ciphertext.
 -- Assumes nothing.
+use mathlib.Core.Path.{sym, _∙_}
 use borrow.Author.Needs.{needs}
 use Rattle.init_command.proofs.InitFacts.{offered-yes, offered-no}
 use Rattle.init_command.proofs.open_init.Statement.{statement}
 use Rattle.init_command.proofs.open_init.Tie as tie
 
-shared-slice-read-if1 : tie.Need-shared-slice-read-if1
-shared-slice-read-if1 c = search needs
+says-yes-requires : tie.Need-says-yes-requires
+says-yes-requires c κs = search needs
 
 key-part-requires : tie.Need-key-part-requires
 key-part-requires c κs = search needs
@@ -33,27 +34,25 @@ same-length : tie.Need-same-length
 same-length c = search needs
 
 returns : tie.Need-returns
-returns c =
-    let b2 = c .before .before in
-    let b6 = b2 .before .before .before .before in
+returns c = let b6 = c .before .before .before .before .before .before in
     let b9 = b6 .before .before .before in
     let b10 = b9 .before in
     let b11 = b10 .before in
-    let b16 = b11 .before .before .before .before .before in
+    let b12 = b11 .before in
+    let b16 = b12 .before .before .before .before in
     offered-yes (b16 .args .«data» .now) (b16 .args .supply .now) (b10 .key-part .result) (b9 .block-part .result) (b16 .args .plain .now)
-    (b6 .put .last .0) (b11 .if1 .taken) (b10 .key-part .ensures) (b9 .block-part .ensures) (b6 .put .ensures) (b16 .pre .2) (b16 .pre .0)
-    (b2 .decipher .ensures)
+    (b6 .put .last .0) (sym (b12 .says-yes .ensures) ∙ b11 .if1 .taken) (b10 .key-part .ensures) (b9 .block-part .ensures) (b6 .put .ensures) (b16 .pre .2) (b16 .pre .0)
+    (c .before .before .decipher .ensures)
 
 returns-2 : tie.Need-returns-2
-returns-2 c =
-    let b5 = c .before .before .before .before .before in
-    offered-no (b5 .args .«data» .now) (b5 .args .supply .now) (b5 .args .plain .now) (c .if1 .left) (b5 .pre .2)
+returns-2 c = let b5 = c .before .before .before .before .before in
+    offered-no (b5 .args .«data» .now) (b5 .args .supply .now) (b5 .args .plain .now) (sym (c .before .says-yes .ensures) ∙ c .if1 .left) (b5 .pre .2)
 
 pub open-init-spec : {M : Type 1} → statement M
 open-init-spec =
     tie.close
     (tie.spec
-    shared-slice-read-if1
+    says-yes-requires
     key-part-requires
     block-part-requires
     sub-put

@@ -1,4 +1,4 @@
--- The two checks are those of the definition.
+-- The chain is that of LOAD's checks.
 -- Assumes nothing.
 use borrow.Author.Needs.{needs}
 use Rattle.rules.specs.Commands.{loadChecks}
@@ -8,12 +8,20 @@ use Rattle.load_command.proofs.load_verdict.Tie as tie
 is-key-data-requires : tie.Need-is-key-data-requires
 is-key-data-requires c κs = search needs
 
-checked-requires : tie.Need-checked-requires
-checked-requires c κs = search needs
+reads-requires : tie.Need-reads-requires
+reads-requires c κs = search needs
+
+must-requires : tie.Need-must-requires
+must-requires c κs = search needs
+
+must-requires-2 : tie.Need-must-requires-2
+must-requires-2 c κs = search needs
 
 returns : tie.Need-returns
 unfolding loadChecks
-returns c = rw (← c .before .is-key-data .ensures) (c .checked .ensures)
+returns c = let b3 = c .before .before .before in
+    rw (← b3 .is-key-data .ensures, ← c .before .before .reads .ensures, ← c .before .must .ensures) (c .must2 .ensures)
 
 pub load-verdict-spec : {M : Type 1} → statement M
-load-verdict-spec = tie.close (tie.spec is-key-data-requires checked-requires returns)
+load-verdict-spec =
+    tie.close (tie.spec is-key-data-requires reads-requires must-requires must-requires-2 returns)

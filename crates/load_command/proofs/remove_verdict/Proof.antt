@@ -1,17 +1,19 @@
--- The one check is that of the definition.
+-- The chain is that of REMOVE's checks.
 -- Assumes nothing.
-use borrow.Author.Tests.{ne-eqb}
+use borrow.Author.Needs.{needs}
 use Rattle.rules.specs.Commands.{removeChecks}
 use Rattle.load_command.proofs.remove_verdict.Statement.{statement}
 use Rattle.load_command.proofs.remove_verdict.Tie as tie
 
+reads-none-requires : tie.Need-reads-none-requires
+reads-none-requires c κs = search needs
+
+must-requires : tie.Need-must-requires
+must-requires c κs = search needs
+
 returns : tie.Need-returns
 unfolding removeChecks
-returns c = rw (c .if1 .taken)
-
-returns-2 : tie.Need-returns-2
-unfolding removeChecks
-returns-2 c = rw (ne-eqb _ _ (c .if1 .left))
+returns c = rw (← c .before .reads-none .ensures) (c .must .ensures)
 
 pub remove-verdict-spec : {M : Type 1} → statement M
-remove-verdict-spec = tie.close (tie.spec returns returns-2)
+remove-verdict-spec = tie.close (tie.spec reads-none-requires must-requires returns)

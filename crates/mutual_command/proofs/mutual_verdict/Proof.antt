@@ -1,17 +1,22 @@
--- MUTUAL's checks, in their order: the stage, then the length of the data.
+-- The chain is that of MUTUAL's checks.
 -- Assumes nothing.
-use Rattle.mutual_command.proofs.VerdictFacts.{mutual-again, mutual-malformed, mutual-goes}
+use borrow.Author.Needs.{needs}
+use Rattle.rules.specs.Commands.{mutualChecks}
 use Rattle.mutual_command.proofs.mutual_verdict.Statement.{statement}
 use Rattle.mutual_command.proofs.mutual_verdict.Tie as tie
 
+reads-requires : tie.Need-reads-requires
+reads-requires c κs = search needs
+
+must-requires : tie.Need-must-requires
+must-requires c κs = search needs
+
+must-requires-2 : tie.Need-must-requires-2
+must-requires-2 c κs = search needs
+
 returns : tie.Need-returns
-returns c = mutual-again (c .before .args .stage) _ (c .if1 .taken)
-
-returns-2 : tie.Need-returns-2
-returns-2 c = mutual-malformed (c .before .before .args .stage) _ (c .before .if1 .left) (c .if2 .taken)
-
-returns-3 : tie.Need-returns-3
-returns-3 c = mutual-goes (c .before .before .args .stage) _ (c .before .if1 .left) (c .if2 .left)
+unfolding mutualChecks
+returns c = rw (← c .before .before .reads .ensures, ← c .before .must .ensures) (c .must2 .ensures)
 
 pub mutual-verdict-spec : {M : Type 1} → statement M
-mutual-verdict-spec = tie.close (tie.spec returns returns-2 returns-3)
+mutual-verdict-spec = tie.close (tie.spec reads-requires must-requires must-requires-2 returns)

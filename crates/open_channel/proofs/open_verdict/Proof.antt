@@ -1,25 +1,18 @@
--- Both answers put together are the verdict of OPEN's list of checks.
+-- The chain is that of OPEN's checks.
 -- Assumes nothing.
-use mathlib.Core.Path.{_≡_}
-use native.Mathlib.Omega.{arith}
-use lib.ListN.{length}
 use borrow.Author.Needs.{needs}
-use Rattle.card.specs.State.{slotCount}
-use Rattle.open_channel.proofs.CheckFacts.{open-checks}
+use Rattle.rules.specs.Commands.{openChecks}
 use Rattle.open_channel.proofs.open_verdict.Statement.{statement}
 use Rattle.open_channel.proofs.open_verdict.Tie as tie
 
-wide-requires : tie.Need-wide-requires
-wide-requires c κs = search needs
-
-mul-chosen : tie.Need-mul-chosen
-mul-chosen c = search needs
-
-array-copy-out-chosen : tie.Need-array-copy-out-chosen
-array-copy-out-chosen c = search needs
+is-filled-requires : tie.Need-is-filled-requires
+is-filled-requires c κs = search needs
 
 is-point-requires : tie.Need-is-point-requires
 is-point-requires c κs = search needs
+
+reads-requires : tie.Need-reads-requires
+reads-requires c κs = search needs
 
 must-requires : tie.Need-must-requires
 must-requires c κs = search needs
@@ -28,23 +21,18 @@ must-requires-2 : tie.Need-must-requires-2
 must-requires-2 c κs = search needs
 
 returns : tie.Need-returns
-returns c =
-    let b2 = c .before .before in
-    let b5 = b2 .before .before .before in
-    let b7 = b5 .before .before in
-    let l : length (b7 .args .t1) ≡ slotCount = search needs in
-    open-checks (b7 .args .t1) (b7 .args .slot) (b7 .args .«data» .now) (b5 .wide .result) _ (b2 .is-point .result)
-    (c .before .must .result) (c .must2 .result) (c .must2 .ensures) (c .before .must .ensures) (b2 .is-point .ensures)
-    (b5 .wide .ensures) (omega (arith, b7 .pre))
+unfolding openChecks
+returns c = let b3 = c .before .before .before in
+    let b4 = b3 .before in
+    rw (← b4 .is-filled .ensures, ← b3 .is-point .ensures, ← c .before .before .reads .ensures, ← c .before .must .ensures) (c .must2 .ensures)
 
 pub open-verdict-spec : {M : Type 1} → statement M
 open-verdict-spec =
     tie.close
     (tie.spec
-    wide-requires
-    mul-chosen
-    array-copy-out-chosen
+    is-filled-requires
     is-point-requires
+    reads-requires
     must-requires
     must-requires-2
     returns)

@@ -1,10 +1,11 @@
 -- By what the search answers: the slot found is filled, or nothing is written.
 -- Assumes nothing.
-use mathlib.Core.Path.{sym, _∙_}
+use mathlib.Core.Path.{refl, sym, _∙_}
 use native.Mathlib.Omega.{arith}
 use borrow.Author.Needs.{needs}
+use Rattle.rules.specs.Supplies.{pairFinalSupply}
+use Rattle.command_parts.proofs.SupplyFacts.{suits-long, within}
 use Rattle.pair_command.proofs.ReplyFacts.{final-replied, final-refused}
-use Rattle.pair_command.proofs.SupplyFacts.{final-long, within}
 use Rattle.pair_command.proofs.pair_final.Statement.{statement}
 use Rattle.pair_command.proofs.pair_final.Tie as tie
 
@@ -20,25 +21,31 @@ enum-told c = search needs
 not-pending-requires : tie.Need-not-pending-requires
 not-pending-requires c κs = search needs
 
+with-pairing-requires : tie.Need-with-pairing-requires
+with-pairing-requires c κs = search needs
+
+failed-requires : tie.Need-failed-requires
+failed-requires c κs = search needs
+
 returns : tie.Need-returns
-returns c =
-    let b3 = c .before .before .before in
-    let b8 = b3 .before .before .before .before .before in
-    final-refused (b8 .args .card) (b8 .args .supply .now) (c .not-pending .result)
-    (sym (c .before .enum-told .given .1) ∙ b3 .first-free .ensures) (c .not-pending .ensures)
+returns c = let b2 = c .before .before in
+    let b3 = b2 .before in
+    let b5 = b3 .before .before in
+    let b10 = b5 .before .before .before .before .before in
+    final-refused (b10 .args .card) (b10 .args .supply .now) (b2 .not-pending .result) _ (c .before .with-pairing .ensures)
+    (sym (b3 .enum-told .given .1) ∙ b5 .first-free .ensures) (b2 .not-pending .ensures) (c .failed .ensures)
 
 index-byte-requires : tie.Need-index-byte-requires
-index-byte-requires c κs = sym (c .before .i .given .1) ∙ c .before .before .before .first-free .ensures
+index-byte-requires c κs = let b3 = c .before .before .before in
+    sym (c .before .i .given .1) ∙ b3 .first-free .ensures
 
 key-part-requires : tie.Need-key-part-requires
-key-part-requires c κs =
-    let b9 = c .before .before .before .before .before .before .before .before .before in
-    within (final-long (b9 .args .supply .now) (b9 .pre .0)) (omega arith)
+key-part-requires c κs = let b9 = c .before .before .before .before .before .before .before .before .before in
+    within (suits-long pairFinalSupply (b9 .args .supply .now) refl (b9 .pre .0)) (omega arith)
 
 key-part-requires-2 : tie.Need-key-part-requires-2
-key-part-requires-2 c κs =
-    let b10 = c .before .before .before .before .before .before .before .before .before .before in
-    within (final-long (b10 .args .supply .now) (b10 .pre .0)) (omega arith)
+key-part-requires-2 c κs = let b10 = c .before .before .before .before .before .before .before .before .before .before in
+    within (suits-long pairFinalSupply (b10 .args .supply .now) refl (b10 .pre .0)) (omega arith)
 
 slice-aggregate-put-both : tie.Need-slice-aggregate-put-both
 slice-aggregate-put-both c = search needs
@@ -52,21 +59,28 @@ put-both-requires c κs = search needs
 filled-at-requires : tie.Need-filled-at-requires
 filled-at-requires c κs = search needs
 
+with-pairing-requires-2 : tie.Need-with-pairing-requires-2
+with-pairing-requires-2 c κs = search needs
+
+replied-requires : tie.Need-replied-requires
+replied-requires c κs = search needs
+
 same-length : tie.Need-same-length
 same-length c = search needs
 
 returns-2 : tie.Need-returns-2
-returns-2 c =
-    let b3 = c .before .before .before in
-    let b7 = b3 .before .before .before .before in
-    let b8 = b7 .before in
-    let b9 = b8 .before in
-    let b11 = b9 .before .before in
+returns-2 c = let b2 = c .before .before in
+    let b5 = b2 .before .before .before in
+    let b9 = b5 .before .before .before .before in
+    let b10 = b9 .before in
+    let b11 = b10 .before in
     let b13 = b11 .before .before in
-    let b18 = b13 .before .before .before .before .before in
-    final-replied (b18 .args .card) (b18 .args .supply .now) (c .filled-at .result) (b11 .i .given .0 .0) (b9 .index-byte .result)
-    (b8 .key-part .result) (b7 .key-part2 .result) (sym (b11 .i .given .1) ∙ b13 .first-free .ensures) (b9 .index-byte .ensures .0)
-    (b8 .key-part .ensures) (b7 .key-part2 .ensures) (c .filled-at .ensures) (b3 .put-both .ensures)
+    let b15 = b13 .before .before in
+    let b20 = b15 .before .before .before .before .before in
+    final-replied (b20 .args .card) (b20 .args .supply .now) (b2 .filled-at .result) _ (c .before .with-pairing2 .ensures) (b13 .i .given .0 .0)
+    (b11 .index-byte .result) (b10 .key-part .result) (b9 .key-part2 .result) (sym (b13 .i .given .1) ∙ b15 .first-free .ensures)
+    (b11 .index-byte .ensures .0) (b10 .key-part .ensures) (b9 .key-part2 .ensures) (b2 .filled-at .ensures) (b5 .put-both .ensures)
+    (c .replied .ensures)
 
 pub pair-final-spec : {M : Type 1} → statement M
 pair-final-spec =
@@ -76,6 +90,8 @@ pair-final-spec =
     enum-known-i
     enum-told
     not-pending-requires
+    with-pairing-requires
+    failed-requires
     returns
     index-byte-requires
     key-part-requires
@@ -84,5 +100,7 @@ pair-final-spec =
     slice-aggregate-put-both-2
     put-both-requires
     filled-at-requires
+    with-pairing-requires-2
+    replied-requires
     same-length
     returns-2)

@@ -1,7 +1,7 @@
--- The four answers put together are the verdict of the list of checks.
+-- The chain is that of PAIR's final step.
 -- Assumes nothing.
 use borrow.Author.Needs.{needs}
-use Rattle.pair_command.proofs.CheckFacts.{final-checks}
+use Rattle.rules.specs.Commands.{pairFinalChecks}
 use Rattle.pair_command.proofs.pair_final_verdict.Statement.{statement}
 use Rattle.pair_command.proofs.pair_final_verdict.Tie as tie
 
@@ -10,6 +10,9 @@ slice-aggregate-same c = search needs
 
 same-requires : tie.Need-same-requires
 same-requires c κs = search needs
+
+reads-requires : tie.Need-reads-requires
+reads-requires c κs = search needs
 
 must-requires : tie.Need-must-requires
 must-requires c κs = search needs
@@ -24,14 +27,11 @@ must-requires-4 : tie.Need-must-requires-4
 must-requires-4 c κs = search needs
 
 returns : tie.Need-returns
-returns c =
-    let b2 = c .before .before in
-    let b3 = b2 .before in
+unfolding pairFinalChecks
+returns c = let b3 = c .before .before .before in
     let b4 = b3 .before in
-    let b9 = b4 .before .before .before .before .before in
-    final-checks (b9 .args .pairing) (b9 .args .stage) (b9 .args .«data» .now) (b4 .same .result) (b3 .must .result) (b2 .must2 .result)
-    (c .before .must3 .result) (c .must4 .result) (b4 .same .ensures) (b3 .must .ensures) (b2 .must2 .ensures) (c .before .must3 .ensures)
-    (c .must4 .ensures)
+    let b5 = b4 .before in
+    rw (← b5 .same .ensures, ← b4 .reads .ensures, ← b3 .must .ensures, ← c .before .before .must2 .ensures, ← c .before .must3 .ensures) (c .must4 .ensures)
 
 pub pair-final-verdict-spec : {M : Type 1} → statement M
 pair-final-verdict-spec =
@@ -39,6 +39,7 @@ pair-final-verdict-spec =
     (tie.spec
     slice-aggregate-same
     same-requires
+    reads-requires
     must-requires
     must-requires-2
     must-requires-3

@@ -1,7 +1,7 @@
 -- The bytes are written into zeros, by `path-put`.
 -- Assumes nothing.
 use borrow.Author.Needs.{needs}
-use Rattle.path_commands.proofs.KeyReplies.{path-put}
+use Rattle.path_commands.proofs.PathFacts.{path-put}
 use Rattle.path_commands.proofs.path_of.Statement.{statement}
 use Rattle.path_commands.proofs.path_of.Tie as tie
 

@@ -1,4 +1,4 @@
--- What was written and the card with two parts replaced are SELECT's reply.
+-- What was written, and the closed card without verification, are SELECT's reply.
 -- Assumes nothing.
 use borrow.Author.Needs.{needs}
 use Rattle.select_command.proofs.ReplyFacts.{select-replied}
@@ -8,17 +8,20 @@ use Rattle.select_command.proofs.select.Tie as tie
 put-selected-requires : tie.Need-put-selected-requires
 put-selected-requires c κs = search needs
 
-closed-requires : tie.Need-closed-requires
-closed-requires c κs = search needs
+close-requires : tie.Need-close-requires
+close-requires c κs = search needs
+
+replied-requires : tie.Need-replied-requires
+replied-requires c κs = search needs
 
 same-length : tie.Need-same-length
 same-length c = search needs
 
 returns : tie.Need-returns
-returns c =
-    let b4 = c .before .before .before .before in
-    let b10 = b4 .before .before .before .before .before .before in
-    select-replied (b10 .args .card) (c .closed .result) (c .closed .ensures) (b4 .put-selected .ensures)
+returns c = let b5 = c .before .before .before .before .before in
+    let b11 = b5 .before .before .before .before .before .before in
+    select-replied (b11 .args .card) _ (c .before .before .close .ensures) (b5 .put-selected .ensures) (c .replied .ensures)
 
 pub select-spec : {M : Type 1} → statement M
-select-spec = tie.close (tie.spec put-selected-requires closed-requires same-length returns)
+select-spec =
+    tie.close (tie.spec put-selected-requires close-requires replied-requires same-length returns)

@@ -1,9 +1,12 @@
--- The three parts of the supply are written as the template, by `sign-done`.
+-- The three parts of the supply are written as the template.
 -- Assumes nothing.
+use mathlib.Core.Path.{refl}
 use native.Mathlib.Omega.{arith}
 use borrow.Author.Needs.{needs}
-use Rattle.sign_command.proofs.SupplyFacts.{sign-supply}
-use Rattle.sign_command.proofs.KeyReplies.{sign-done}
+use Rattle.rules.specs.Supplies.{signSupply}
+use Rattle.rules.specs.Commands.{signReply}
+use Rattle.command_parts.proofs.SupplyFacts.{suits-long, within}
+use Rattle.command_parts.proofs.ReplyFacts.{wrote-replies}
 use Rattle.sign_command.proofs.sign.Statement.{statement}
 use Rattle.sign_command.proofs.sign.Tie as tie
 
@@ -14,7 +17,8 @@ part-key-start : tie.Need-part-key-start
 part-key-start c = search needs
 
 part-key-end : tie.Need-part-key-end
-part-key-end c = let b = c .before .before in omega (arith, sign-supply (b .args .supply .now) (b .pre .0))
+part-key-end c = let b2 = c .before .before in
+    within (suits-long signSupply (b2 .args .supply .now) refl (b2 .pre .0)) (omega arith)
 
 sub-r : tie.Need-sub-r
 sub-r c = search needs
@@ -23,7 +27,8 @@ part-r-start : tie.Need-part-r-start
 part-r-start c = search needs
 
 part-r-end : tie.Need-part-r-end
-part-r-end c = let b = c .before .before .before in omega (arith, sign-supply (b .args .supply .now) (b .pre .0))
+part-r-end c = let b3 = c .before .before .before in
+    within (suits-long signSupply (b3 .args .supply .now) refl (b3 .pre .0)) (omega arith)
 
 sub-s : tie.Need-sub-s
 sub-s c = search needs
@@ -32,18 +37,23 @@ part-s-start : tie.Need-part-s-start
 part-s-start c = search needs
 
 part-s-end : tie.Need-part-s-end
-part-s-end c = let b = c .before .before .before .before in omega (arith, sign-supply (b .args .supply .now) (b .pre .0))
+part-s-end c = let b4 = c .before .before .before .before in
+    within (suits-long signSupply (b4 .args .supply .now) refl (b4 .pre .0)) (omega arith)
 
 put-signature-requires : tie.Need-put-signature-requires
 put-signature-requires c κs = search needs
+
+replied-requires : tie.Need-replied-requires
+replied-requires c κs = search needs
 
 same-length : tie.Need-same-length
 same-length c = search needs
 
 returns : tie.Need-returns
-returns c =
-    let b9 = c .before .before .before .before .before .before .before .before .before in
-    sign-done (b9 .args .card) (b9 .args .supply .now) _ _ _ (c .before .before .put-signature .ensures)
+unfolding signReply
+returns c = let b3 = c .before .before .before in
+    let b10 = b3 .before .before .before .before .before .before .before in
+    wrote-replies (b10 .args .card) _ (c .replied .ensures) refl (b3 .put-signature .ensures)
 
 pub sign-spec : {M : Type 1} → statement M
 sign-spec =
@@ -59,5 +69,6 @@ sign-spec =
     part-s-start
     part-s-end
     put-signature-requires
+    replied-requires
     same-length
     returns)

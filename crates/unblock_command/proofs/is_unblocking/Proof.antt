@@ -1,4 +1,4 @@
--- By cases on the length; what stands behind the PUK is tested as the definition says.
+-- By cases on the length; what comes after the PUK is tested as the definition says.
 -- Assumes nothing.
 use mathlib.Core.Path.{ap, _∙_}
 use mathlib.Core.List.{List}
@@ -7,7 +7,7 @@ use borrow.Author.Tests.{eq-eqb, ne-eqb}
 use borrow.Author.Needs.{needs}
 use Rattle.card.specs.Slots.{allOf}
 use Rattle.card.specs.Sound.{isDigit}
-use Rattle.unblock_command.proofs.CheckFacts.{behind-puk}
+use Rattle.unblock_command.proofs.CheckFacts.{after-puk}
 use Rattle.unblock_command.proofs.is_unblocking.Statement.{statement}
 use Rattle.unblock_command.proofs.is_unblocking.Tie as tie
 
@@ -29,7 +29,7 @@ digits-requires c κs = search needs
 returns-2 : tie.Need-returns-2
 returns-2 c =
     rw (eq-eqb _ _ (c .before .before .if1 .left))
-    (c .digits .ensures ∙ ap (λ (l : List ℕ). allOf isDigit l) (behind-puk (c .before .before .before .before .args .«data» .now)))
+    (c .digits .ensures ∙ ap (λ (l : List ℕ). allOf isDigit l) (after-puk (c .before .before .before .before .args .«data» .now)))
 
 pub is-unblocking-spec : {M : Type 1} → statement M
 is-unblocking-spec =

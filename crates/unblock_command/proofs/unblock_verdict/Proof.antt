@@ -1,33 +1,38 @@
--- UNBLOCK's checks, in their order: no PIN tries, a PUK try, then the form of the data.
+-- The chain is that of UNBLOCK's checks.
 -- Assumes nothing.
-use mathlib.Core.Path.{sym, _∙_}
-use borrow.Author.Tests.{not-true, not-false}
 use borrow.Author.Needs.{needs}
-use Rattle.unblock_command.proofs.VerdictFacts.{unblock-tries, unblock-blocked, unblock-malformed, unblock-goes}
+use Rattle.rules.specs.Commands.{unblockChecks}
 use Rattle.unblock_command.proofs.unblock_verdict.Statement.{statement}
 use Rattle.unblock_command.proofs.unblock_verdict.Tie as tie
-
-returns : tie.Need-returns
-returns c = unblock-tries (c .before .before .before .args .pins) _ (c .if1 .taken)
-
-returns-2 : tie.Need-returns-2
-returns-2 c = unblock-blocked (c .before .before .before .before .before .args .pins) _ (c .before .before .if1 .left) (c .if2 .taken)
 
 is-unblocking-requires : tie.Need-is-unblocking-requires
 is-unblocking-requires c κs = search needs
 
-returns-3 : tie.Need-returns-3
-returns-3 c =
-    let form = sym (c .before .is-unblocking .ensures) ∙ not-true _ (c .if3 .taken) in
-    let b4 = c .before .before .before .before in
-    unblock-malformed (b4 .before .before .before .args .pins) _ (b4 .if1 .left) (c .before .before .if2 .left) form
+reads-none-requires : tie.Need-reads-none-requires
+reads-none-requires c κs = search needs
 
-returns-4 : tie.Need-returns-4
-returns-4 c =
-    let form = sym (c .before .is-unblocking .ensures) ∙ not-false _ (c .if3 .left) in
-    let b4 = c .before .before .before .before in
-    unblock-goes (b4 .before .before .before .args .pins) _ (b4 .if1 .left) (c .before .before .if2 .left) form
+must-requires : tie.Need-must-requires
+must-requires c κs = search needs
+
+must-requires-2 : tie.Need-must-requires-2
+must-requires-2 c κs = search needs
+
+must-requires-3 : tie.Need-must-requires-3
+must-requires-3 c κs = search needs
+
+returns : tie.Need-returns
+unfolding unblockChecks
+returns c = let b3 = c .before .before .before in
+    let b4 = b3 .before in
+    rw (← b4 .is-unblocking .ensures, ← b3 .reads-none .ensures, ← c .before .before .must .ensures, ← c .before .must2 .ensures) (c .must3 .ensures)
 
 pub unblock-verdict-spec : {M : Type 1} → statement M
 unblock-verdict-spec =
-    tie.close (tie.spec returns returns-2 is-unblocking-requires returns-3 returns-4)
+    tie.close
+    (tie.spec
+    is-unblocking-requires
+    reads-none-requires
+    must-requires
+    must-requires-2
+    must-requires-3
+    returns)

@@ -1,14 +1,19 @@
--- UNPAIR's check: by cases on whether the PIN is verified.
+-- The chain is that of UNPAIR's checks.
 -- Assumes nothing.
-use Rattle.unpair_command.proofs.VerdictFacts.{unpair-unverified, unpair-goes}
+use borrow.Author.Needs.{needs}
+use Rattle.rules.specs.Commands.{unpairChecks}
 use Rattle.unpair_command.proofs.unpair_verdict.Statement.{statement}
 use Rattle.unpair_command.proofs.unpair_verdict.Tie as tie
 
-returns : tie.Need-returns
-returns c = unpair-unverified (c .before .before .args .pins) (c .if1 .taken)
+reads-none-requires : tie.Need-reads-none-requires
+reads-none-requires c κs = search needs
 
-returns-2 : tie.Need-returns-2
-returns-2 c = unpair-goes (c .before .before .args .pins) (c .if1 .left)
+must-requires : tie.Need-must-requires
+must-requires c κs = search needs
+
+returns : tie.Need-returns
+unfolding unpairChecks
+returns c = rw (← c .before .reads-none .ensures) (c .must .ensures)
 
 pub unpair-verdict-spec : {M : Type 1} → statement M
-unpair-verdict-spec = tie.close (tie.spec returns returns-2)
+unpair-verdict-spec = tie.close (tie.spec reads-none-requires must-requires returns)

@@ -2,7 +2,7 @@
 -- Assumes nothing.
 use mathlib.Core.Path.{sym, _∙_}
 use borrow.Author.Needs.{needs}
-use Rattle.rules.specs.Commands.{verifyReply, verifyBy}
+use Rattle.rules.specs.Commands.{verifyReply}
 use Rattle.verify_command.proofs.CheckFacts.{verify-try}
 use Rattle.verify_command.proofs.verify.Statement.{statement}
 use Rattle.verify_command.proofs.verify.Tie as tie
@@ -16,9 +16,21 @@ same-requires c κs = search needs
 pin-right-requires : tie.Need-pin-right-requires
 pin-right-requires c κs = search needs
 
+with-pins-requires : tie.Need-with-pins-requires
+with-pins-requires c κs = search needs
+
+done-requires : tie.Need-done-requires
+done-requires c κs = search needs
+
 returns : tie.Need-returns
-unfolding verifyReply verifyBy
-returns c = rw (sym (c .before .before .same .ensures) ∙ c .before .if1 .taken, c .pin-right .ensures)
+unfolding verifyReply
+returns c = let b2 = c .before .before in
+    rw (
+      sym (b2 .before .before .same .ensures) ∙ b2 .before .if1 .taken,
+      c .done .ensures,
+      c .before .with-pins .ensures,
+      b2 .pin-right .ensures,
+    )
 
 pin-wrong-requires : tie.Need-pin-wrong-requires
 pin-wrong-requires c κs = verify-try _ (c .before .before .before .before .before .before .pre)
@@ -26,13 +38,21 @@ pin-wrong-requires c κs = verify-try _ (c .before .before .before .before .befo
 tries-left-requires : tie.Need-tries-left-requires
 tries-left-requires c κs = search needs
 
+with-pins-requires-2 : tie.Need-with-pins-requires-2
+with-pins-requires-2 c κs = search needs
+
+failed-requires : tie.Need-failed-requires
+failed-requires c κs = search needs
+
 returns-2 : tie.Need-returns-2
-unfolding verifyReply verifyBy
-returns-2 c =
+unfolding verifyReply
+returns-2 c = let b3 = c .before .before .before in
     rw (
-      sym (c .before .before .before .same .ensures) ∙ c .before .before .if1 .left,
-      c .tries-left .ensures,
-      c .before .pin-wrong .ensures,
+      sym (b3 .before .before .same .ensures) ∙ b3 .before .if1 .left,
+      c .failed .ensures,
+      c .before .with-pins2 .ensures,
+      c .before .before .tries-left .ensures,
+      b3 .pin-wrong .ensures,
     )
 
 pub verify-spec : {M : Type 1} → statement M
@@ -42,7 +62,11 @@ verify-spec =
     slice-aggregate-same
     same-requires
     pin-right-requires
+    with-pins-requires
+    done-requires
     returns
     pin-wrong-requires
     tries-left-requires
+    with-pins-requires-2
+    failed-requires
     returns-2)

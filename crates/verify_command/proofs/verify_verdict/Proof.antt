@@ -1,14 +1,19 @@
--- VERIFY's check: by cases on whether a try is left.
+-- The chain is that of VERIFY's checks.
 -- Assumes nothing.
-use Rattle.verify_command.proofs.VerdictFacts.{verify-blocked, verify-goes}
+use borrow.Author.Needs.{needs}
+use Rattle.rules.specs.Commands.{verifyChecks}
 use Rattle.verify_command.proofs.verify_verdict.Statement.{statement}
 use Rattle.verify_command.proofs.verify_verdict.Tie as tie
 
-returns : tie.Need-returns
-returns c = verify-blocked (c .before .before .args .pins) (c .if1 .taken)
+reads-none-requires : tie.Need-reads-none-requires
+reads-none-requires c κs = search needs
 
-returns-2 : tie.Need-returns-2
-returns-2 c = verify-goes (c .before .before .args .pins) (c .if1 .left)
+must-requires : tie.Need-must-requires
+must-requires c κs = search needs
+
+returns : tie.Need-returns
+unfolding verifyChecks
+returns c = rw (← c .before .reads-none .ensures) (c .must .ensures)
 
 pub verify-verdict-spec : {M : Type 1} → statement M
-verify-verdict-spec = tie.close (tie.spec returns returns-2)
+verify-verdict-spec = tie.close (tie.spec reads-none-requires must-requires returns)

@@ -1,2 +1,0 @@
-pub mod SupplyFacts
-pub mod KeyReplies
