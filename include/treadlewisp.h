@@ -28,8 +28,16 @@ extern "C" {
 #define TW_VERSION_PATCH 0
 #define TW_VERSION "0.1.0"
 
-/* Lengths, in bytes. */
+/* Numbers that follow from others are written as their sums; docs/LAYOUT.md has them worked out, and rust/tests/layout.rs holds both against
+   each other. */
 enum {
+    /* How many pairing slots a card has, how many tries a PIN and a PUK start with, and how deep templates may nest (a top one is at 1). */
+    TW_SLOTS = 5,
+    TW_PIN_TRIES = 3,
+    TW_PUK_TRIES = 5,
+    TW_WALK_DEPTH_MAX = 4,
+
+    /* Lengths, in bytes. */
     TW_UID_BYTES = 16,
     TW_PUBLIC_KEY_BYTES = 65,
     TW_PIN_BYTES = 6,
@@ -37,43 +45,56 @@ enum {
     TW_KEY_BYTES = 32, /* also a pairing secret, a cryptogram, a key UID */
     TW_IV_BYTES = 16,
     TW_MAC_BYTES = 16,
-    TW_COMPONENT_BYTES = 4, /* one component of a path */
-    TW_PATH_MAX_BYTES = 40, /* 10 components */
-    TW_SLOT_BYTES = 33,
-    TW_PATH_BYTES = 41,   /* a path in a card: its length and room for 40 */
-    TW_HEADER_BYTES = 4,  /* CLA INS P1 P2 */
-    TW_STATUS_BYTES = 2,  /* a status word, the high byte first */
-    TW_CARD_BYTES = 529,  /* a card, as tw_card; not the stored record */
-    TW_SESSION_BYTES = 80 /* a session, as tw_session */
-};
+    TW_COMPONENT_BYTES = 4,                      /* one component of a path */
+    TW_PATH_MAX_BYTES = 10 * TW_COMPONENT_BYTES, /* 10 components */
+    TW_SLOT_BYTES = 1 + TW_KEY_BYTES,            /* a slot, as tw_slot */
+    TW_PATH_BYTES = 1 + TW_PATH_MAX_BYTES,       /* a path, as tw_path */
+    TW_HEADER_BYTES = 4,                         /* CLA INS P1 P2 */
+    TW_STATUS_BYTES = 2,                         /* a status word, the high byte first */
 
-/* How many pairing slots a card has, how many tries a PIN and a PUK start with, and how deep templates may nest (a top one is at 1). */
-enum {
-    TW_SLOTS = 5,
-    TW_PIN_TRIES = 3,
-    TW_PUK_TRIES = 5,
-    TW_WALK_DEPTH_MAX = 4
-};
+    /* Where each field of tw_card begins, in bytes from its start: behind the field before it. */
+    TW_AT_INITIALISED = 0,
+    TW_AT_UID = TW_AT_INITIALISED + 1,
+    TW_AT_PUBLIC_KEY = TW_AT_UID + TW_UID_BYTES,
+    TW_AT_PIN = TW_AT_PUBLIC_KEY + TW_PUBLIC_KEY_BYTES,
+    TW_AT_PUK = TW_AT_PIN + TW_PIN_BYTES,
+    TW_AT_PIN_TRIES = TW_AT_PUK + TW_PUK_BYTES,
+    TW_AT_PUK_TRIES = TW_AT_PIN_TRIES + 1,
+    TW_AT_VERIFIED = TW_AT_PUK_TRIES + 1,
+    TW_AT_SECRET = TW_AT_VERIFIED + 1,
+    TW_AT_SLOTS = TW_AT_SECRET + TW_KEY_BYTES,
+    TW_AT_PENDING = TW_AT_SLOTS + TW_SLOTS * TW_SLOT_BYTES,
+    TW_AT_EXPECTED = TW_AT_PENDING + 1,
+    TW_AT_KEY_KIND = TW_AT_EXPECTED + TW_KEY_BYTES,
+    TW_AT_KEY_UID = TW_AT_KEY_KIND + 1,
+    TW_AT_CURRENT = TW_AT_KEY_UID + TW_KEY_BYTES,
+    TW_AT_PINLESS = TW_AT_CURRENT + TW_PATH_BYTES,
+    TW_AT_STAGE = TW_AT_PINLESS + TW_PATH_BYTES,
+    TW_AT_ENC_KEY = TW_AT_STAGE + 1,
+    TW_AT_MAC_KEY = TW_AT_ENC_KEY + TW_KEY_BYTES,
+    TW_AT_IV = TW_AT_MAC_KEY + TW_KEY_BYTES,
 
-/* The least room of a buffer, in bytes; under it the operation is refused with TW_ROOM. */
-enum {
+    /* The length of a card, as tw_card, and of a session, as tw_session, in bytes. A card is not the stored record. */
+    TW_CARD_BYTES = TW_AT_IV + TW_IV_BYTES,
+    TW_SESSION_BYTES = TW_KEY_BYTES + TW_KEY_BYTES + TW_IV_BYTES,
+
+    /* The length of a stored record, in bytes: before INIT, and the least and the greatest after it. A field has a tag and a length before
+       its content; there are 3 before INIT and 12 after it, and three of these may be empty. */
+    TW_FIELD_HEAD_BYTES = 1 + 2,
+    TW_RECORD_FRESH_BYTES = 3 * TW_FIELD_HEAD_BYTES + 1 + TW_UID_BYTES + TW_PUBLIC_KEY_BYTES,
+    TW_RECORD_SECRETS_BYTES = 5 * TW_FIELD_HEAD_BYTES + TW_PIN_BYTES + TW_PUK_BYTES + TW_KEY_BYTES + 1 + 1 + TW_SLOTS * TW_SLOT_BYTES,
+    TW_RECORD_MIN_BYTES = TW_RECORD_FRESH_BYTES + TW_RECORD_SECRETS_BYTES + 4 * TW_FIELD_HEAD_BYTES + 1,
+    TW_RECORD_MAX_BYTES = TW_RECORD_MIN_BYTES + TW_KEY_BYTES + 2 * TW_PATH_MAX_BYTES,
+
+    /* The least room of a buffer, in bytes; under it the operation is refused with TW_ROOM. */
     TW_ASK_ROOM_BYTES = 255,
     TW_ANSWER_ROOM_BYTES = 258,
     TW_SEAL_ROOM_BYTES = 261,
     TW_UNSEAL_ROOM_BYTES = 223,
-    TW_WRITE_ROOM_BYTES = 448
-};
+    TW_WRITE_ROOM_BYTES = TW_RECORD_MAX_BYTES,
 
-/* The most data that SEAL takes, in bytes; over it the operation is refused with TW_TOO_LONG. */
-enum {
+    /* The most data that SEAL takes, in bytes; over it the operation is refused with TW_TOO_LONG. */
     TW_DATA_MAX_BYTES = 223
-};
-
-/* The length of a stored record, in bytes: before INIT, and the least and the greatest after it. */
-enum {
-    TW_RECORD_FRESH_BYTES = 91,
-    TW_RECORD_MIN_BYTES = 336,
-    TW_RECORD_MAX_BYTES = 448
 };
 
 /* Refusals. A refused call reports count and kind 0, writes nothing to the buffer and leaves card and session as they were
@@ -142,10 +163,10 @@ enum tw_class {
 enum tw_instruction {
     TW_INS_SELECT = 0xA4,
     TW_INS_INIT = 0xFE,
-    TW_INS_OPEN = 0x10, /* P1: the slot, 0 to 4 */
+    TW_INS_OPEN = 0x10, /* P1: the slot, from 0, under TW_SLOTS */
     TW_INS_MUTUAL = 0x11,
     TW_INS_PAIR = 0x12,
-    TW_INS_UNPAIR = 0x13, /* P1: the slot, 0 to 4 */
+    TW_INS_UNPAIR = 0x13, /* P1: the slot, from 0, under TW_SLOTS */
     TW_INS_GET_STATUS = 0xF2,
     TW_INS_VERIFY = 0x20,
     TW_INS_CHANGE = 0x21,
@@ -186,47 +207,47 @@ enum tw_key_kind {
     TW_KEY_EXTENDED = 2
 };
 
-/* A card. It is made of bytes alone, so it has no padding and may lie at any address. Any 529 bytes may be given; those that are no
-   sound card are refused with TW_UNSOUND. A flag is 0 or 1. The number before a field is its offset in bytes. PIN, PUK and keys are in it
-   as they are. */
+/* A card. It is made of bytes alone, so it has no padding and may lie at any address. Any TW_CARD_BYTES bytes may be given; those
+   that are no sound card are refused with TW_UNSOUND. A flag is 0 or 1. PIN, PUK and keys are in it as they are. */
 typedef struct tw_slot {
     uint8_t filled;            /* flag */
     uint8_t key[TW_KEY_BYTES]; /* pairing key, zero in a free slot */
 } tw_slot;
 
 typedef struct tw_path {
-    uint8_t len;                      /* bytes in use, 4 a component, at most 40 */
+    uint8_t len;                      /* bytes in use, 4 a component, at most TW_PATH_MAX_BYTES */
     uint8_t bytes[TW_PATH_MAX_BYTES]; /* high byte of a component first, zero past the end */
 } tw_path;
 
 typedef struct tw_card {
-    /*   0 */ uint8_t initialised; /* flag: 1 after INIT */
-    /*   1 */ uint8_t uid[TW_UID_BYTES];
-    /*  17 */ uint8_t public_key[TW_PUBLIC_KEY_BYTES];
-    /*  82 */ uint8_t pin[TW_PIN_BYTES];      /* digits, 0x30 to 0x39 */
-    /*  88 */ uint8_t puk[TW_PUK_BYTES];      /* digits, 0x30 to 0x39 */
-    /* 100 */ uint8_t pin_tries;              /* tries left, at most 3 */
-    /* 101 */ uint8_t puk_tries;              /* tries left, at most 5 */
-    /* 102 */ uint8_t verified;               /* flag: the PIN is verified */
-    /* 103 */ uint8_t secret[TW_KEY_BYTES];   /* pairing secret */
-    /* 135 */ tw_slot slots[TW_SLOTS];        /* 33 bytes each */
-    /* 300 */ uint8_t pending;                /* flag: a first step of PAIR waits for its second */
-    /* 301 */ uint8_t expected[TW_KEY_BYTES]; /* client cryptogram expected, zero where none is pending */
-    /* 333 */ uint8_t key_kind;               /* TW_KEY_.. */
-    /* 334 */ uint8_t key_uid[TW_KEY_BYTES];  /* zero without a key */
-    /* 366 */ tw_path current;                /* current path, 41 bytes */
-    /* 407 */ tw_path pinless;                /* PIN-less path, 41 bytes */
-    /* 448 */ uint8_t stage;                  /* TW_STAGE_.. */
-    /* 449 */ uint8_t enc_key[TW_KEY_BYTES];  /* the channel's, zero in stage 0 */
-    /* 481 */ uint8_t mac_key[TW_KEY_BYTES];  /* the channel's, zero in stage 0 */
-    /* 513 */ uint8_t iv[TW_IV_BYTES];        /* the channel's, zero in stage 0 */
+    uint8_t initialised; /* flag: 1 after INIT */
+    uint8_t uid[TW_UID_BYTES];
+    uint8_t public_key[TW_PUBLIC_KEY_BYTES];
+    uint8_t pin[TW_PIN_BYTES];      /* digits, 0x30 to 0x39 */
+    uint8_t puk[TW_PUK_BYTES];      /* digits, 0x30 to 0x39 */
+    uint8_t pin_tries;              /* tries left, at most TW_PIN_TRIES */
+    uint8_t puk_tries;              /* tries left, at most TW_PUK_TRIES */
+    uint8_t verified;               /* flag: the PIN is verified */
+    uint8_t secret[TW_KEY_BYTES];   /* pairing secret */
+    tw_slot slots[TW_SLOTS];
+    uint8_t pending;                /* flag: a first step of PAIR waits for its second */
+    uint8_t expected[TW_KEY_BYTES]; /* client cryptogram expected, zero where none is pending */
+    uint8_t key_kind;               /* TW_KEY_.. */
+    uint8_t key_uid[TW_KEY_BYTES];  /* zero without a key */
+    tw_path current;                /* current path */
+    tw_path pinless;                /* PIN-less path */
+    uint8_t stage;                  /* TW_STAGE_.. */
+    uint8_t enc_key[TW_KEY_BYTES];  /* the channel's, zero in stage 0 */
+    uint8_t mac_key[TW_KEY_BYTES];  /* the channel's, zero in stage 0 */
+    uint8_t iv[TW_IV_BYTES];        /* the channel's, zero in stage 0 */
 } tw_card;
 
-/* The terminal's end of the channel: both keys, and the IV of the next message. Bytes alone, as a card; any 80 bytes are a session. */
+/* The terminal's end of the channel: both keys, and the IV of the next message. Bytes alone, as a card; any bytes of its length are a
+   session. */
 typedef struct tw_session {
-    /*  0 */ uint8_t enc_key[TW_KEY_BYTES];
-    /* 32 */ uint8_t mac_key[TW_KEY_BYTES];
-    /* 64 */ uint8_t iv[TW_IV_BYTES];
+    uint8_t enc_key[TW_KEY_BYTES];
+    uint8_t mac_key[TW_KEY_BYTES];
+    uint8_t iv[TW_IV_BYTES];
 } tw_session;
 
 /* What ASK reports. */
@@ -242,31 +263,32 @@ typedef struct tw_told {
     size_t count;    /* bytes written from the buffer's start; WALK: fields that are not templates */
 } tw_told;
 
-TW_CHECK(sizeof(tw_card) == TW_CARD_BYTES, "a card has 529 bytes");
-TW_CHECK(sizeof(tw_slot) == TW_SLOT_BYTES && offsetof(tw_slot, key) == 1, "a slot has 33 bytes");
-TW_CHECK(sizeof(tw_path) == TW_PATH_BYTES && offsetof(tw_path, bytes) == 1, "a path has 41 bytes");
-TW_CHECK(sizeof(tw_session) == TW_SESSION_BYTES, "a session has 80 bytes");
-TW_CHECK(offsetof(tw_session, mac_key) == 32 && offsetof(tw_session, iv) == 64, "mac_key at byte 32, iv at byte 64");
-TW_CHECK(offsetof(tw_card, initialised) == 0, "initialised at byte 0");
-TW_CHECK(offsetof(tw_card, uid) == 1, "uid at byte 1");
-TW_CHECK(offsetof(tw_card, public_key) == 17, "public_key at byte 17");
-TW_CHECK(offsetof(tw_card, pin) == 82, "pin at byte 82");
-TW_CHECK(offsetof(tw_card, puk) == 88, "puk at byte 88");
-TW_CHECK(offsetof(tw_card, pin_tries) == 100, "pin_tries at byte 100");
-TW_CHECK(offsetof(tw_card, puk_tries) == 101, "puk_tries at byte 101");
-TW_CHECK(offsetof(tw_card, verified) == 102, "verified at byte 102");
-TW_CHECK(offsetof(tw_card, secret) == 103, "secret at byte 103");
-TW_CHECK(offsetof(tw_card, slots) == 135, "slots at byte 135");
-TW_CHECK(offsetof(tw_card, pending) == 300, "pending at byte 300");
-TW_CHECK(offsetof(tw_card, expected) == 301, "expected at byte 301");
-TW_CHECK(offsetof(tw_card, key_kind) == 333, "key_kind at byte 333");
-TW_CHECK(offsetof(tw_card, key_uid) == 334, "key_uid at byte 334");
-TW_CHECK(offsetof(tw_card, current) == 366, "current at byte 366");
-TW_CHECK(offsetof(tw_card, pinless) == 407, "pinless at byte 407");
-TW_CHECK(offsetof(tw_card, stage) == 448, "stage at byte 448");
-TW_CHECK(offsetof(tw_card, enc_key) == 449, "enc_key at byte 449");
-TW_CHECK(offsetof(tw_card, mac_key) == 481, "mac_key at byte 481");
-TW_CHECK(offsetof(tw_card, iv) == 513, "iv at byte 513");
+TW_CHECK(sizeof(tw_card) == TW_CARD_BYTES, "the length of a card");
+TW_CHECK(sizeof(tw_slot) == TW_SLOT_BYTES && offsetof(tw_slot, key) == 1, "the length of a slot");
+TW_CHECK(sizeof(tw_path) == TW_PATH_BYTES && offsetof(tw_path, bytes) == 1, "the length of a path");
+TW_CHECK(sizeof(tw_session) == TW_SESSION_BYTES, "the length of a session");
+TW_CHECK(offsetof(tw_session, mac_key) == TW_KEY_BYTES, "mac_key behind enc_key");
+TW_CHECK(offsetof(tw_session, iv) == TW_KEY_BYTES + TW_KEY_BYTES, "iv behind both keys");
+TW_CHECK(offsetof(tw_card, initialised) == TW_AT_INITIALISED, "where initialised begins");
+TW_CHECK(offsetof(tw_card, uid) == TW_AT_UID, "where uid begins");
+TW_CHECK(offsetof(tw_card, public_key) == TW_AT_PUBLIC_KEY, "where public_key begins");
+TW_CHECK(offsetof(tw_card, pin) == TW_AT_PIN, "where pin begins");
+TW_CHECK(offsetof(tw_card, puk) == TW_AT_PUK, "where puk begins");
+TW_CHECK(offsetof(tw_card, pin_tries) == TW_AT_PIN_TRIES, "where pin_tries begins");
+TW_CHECK(offsetof(tw_card, puk_tries) == TW_AT_PUK_TRIES, "where puk_tries begins");
+TW_CHECK(offsetof(tw_card, verified) == TW_AT_VERIFIED, "where verified begins");
+TW_CHECK(offsetof(tw_card, secret) == TW_AT_SECRET, "where secret begins");
+TW_CHECK(offsetof(tw_card, slots) == TW_AT_SLOTS, "where slots begins");
+TW_CHECK(offsetof(tw_card, pending) == TW_AT_PENDING, "where pending begins");
+TW_CHECK(offsetof(tw_card, expected) == TW_AT_EXPECTED, "where expected begins");
+TW_CHECK(offsetof(tw_card, key_kind) == TW_AT_KEY_KIND, "where key_kind begins");
+TW_CHECK(offsetof(tw_card, key_uid) == TW_AT_KEY_UID, "where key_uid begins");
+TW_CHECK(offsetof(tw_card, current) == TW_AT_CURRENT, "where current begins");
+TW_CHECK(offsetof(tw_card, pinless) == TW_AT_PINLESS, "where pinless begins");
+TW_CHECK(offsetof(tw_card, stage) == TW_AT_STAGE, "where stage begins");
+TW_CHECK(offsetof(tw_card, enc_key) == TW_AT_ENC_KEY, "where enc_key begins");
+TW_CHECK(offsetof(tw_card, mac_key) == TW_AT_MAC_KEY, "where mac_key begins");
+TW_CHECK(offsetof(tw_card, iv) == TW_AT_IV, "where iv begins");
 TW_CHECK(sizeof(size_t) == 8, "x86-64: a length has 8 bytes");
 TW_CHECK(sizeof(tw_asked) == 16 && offsetof(tw_asked, kind) == 1 && offsetof(tw_asked, count) == 8, "ASK's report has 16 bytes");
 TW_CHECK(sizeof(tw_told) == 16 && offsetof(tw_told, count) == 8, "a report has 16 bytes");
@@ -274,28 +296,28 @@ TW_CHECK(sizeof(tw_told) == 16 && offsetof(tw_told, count) == 8, "a report has 1
 
 /* FRESH: the card becomes that of a new device. What *card held is not read. It has no refusal.
    The caller ensures:
-   - card: 529 bytes, valid to write, overlapping no other argument, and used by no other thread during the call;
-   - uid: 16 bytes, valid to read, and written by no one during the call;
-   - public_key: 65 bytes, valid to read, and written by no one during the call;
+   - card: TW_CARD_BYTES bytes, valid to write, overlapping no other argument, and used by no other thread during the call;
+   - uid: TW_UID_BYTES bytes, valid to read, and written by no one during the call;
+   - public_key: TW_PUBLIC_KEY_BYTES bytes, valid to read, and written by no one during the call;
    - no pointer is null. */
 void tw_fresh(tw_card *card, const uint8_t *uid, const uint8_t *public_key);
 
 /* 1 if the card is sound, else 0. The card is only read.
    The caller ensures:
-   - card: 529 bytes, valid to read, and written by no one during the call;
+   - card: TW_CARD_BYTES bytes, valid to read, and written by no one during the call;
    - no pointer is null. */
 uint8_t tw_sound(const tw_card *card);
 
 /* RESET: power-up. Gives the refusal: TW_DONE or TW_UNSOUND.
    The caller ensures:
-   - card: 529 bytes, valid to read and write, and used by no other thread during the call;
+   - card: TW_CARD_BYTES bytes, valid to read and write, and used by no other thread during the call;
    - no pointer is null. */
 uint8_t tw_reset(tw_card *card);
 
 /* ASK: which supply ANSWER will read for this command, with the command's opened data from the buffer's start. The card is only read.
    Refusals: TW_UNSOUND, TW_ROOM (buf_bytes under 255). Where ANSWER reads no supply, kind and count are 0.
    The caller ensures:
-   - card: 529 bytes, valid to read, and written by no one during the call;
+   - card: TW_CARD_BYTES bytes, valid to read, and written by no one during the call;
    - cmd: cmd_bytes bytes, valid to read, and written by no one during the call;
    - buf: buf_bytes bytes, valid to read and write, overlapping no other argument, and used by no other thread during the call;
    - no pointer is null, also where a length is 0, and each length is under 2^63. */
@@ -305,7 +327,7 @@ tw_asked tw_ask(const tw_card *card, const uint8_t *cmd, size_t cmd_bytes, uint8
    Refusals: TW_UNSOUND, TW_ROOM (buf_bytes under 258), TW_BAD_SUPPLY. The supply is read only where ASK names a kind; else it may have any
    length, 0 too.
    The caller ensures:
-   - card: 529 bytes, valid to read and write, overlapping no other argument, and used by no other thread during the call;
+   - card: TW_CARD_BYTES bytes, valid to read and write, overlapping no other argument, and used by no other thread during the call;
    - cmd: cmd_bytes bytes, valid to read, and written by no one during the call;
    - supply: supply_bytes bytes, valid to read, and written by no one during the call;
    - buf: buf_bytes bytes, valid to read and write, overlapping no other argument, and used by no other thread during the call;
@@ -316,7 +338,7 @@ tw_told tw_answer(tw_card *card, const uint8_t *cmd, size_t cmd_bytes, const uin
 /* SEAL: the session becomes the next session; the whole sealed command from the buffer's start, 37 to 245 bytes. header: CLA INS P1 P2.
    Refusals: TW_ROOM (buf_bytes under 261), TW_TOO_LONG (data_bytes over 223).
    The caller ensures:
-   - session: 80 bytes, valid to read and write, overlapping no other argument, and used by no other thread during the call;
+   - session: TW_SESSION_BYTES bytes, valid to read and write, overlapping no other argument, and used by no other thread during the call;
    - header: 4 bytes, valid to read, and written by no one during the call;
    - data: data_bytes bytes, valid to read, and written by no one during the call;
    - buf: buf_bytes bytes, valid to read and write, overlapping no other argument, and used by no other thread during the call;
@@ -326,7 +348,7 @@ tw_told tw_seal(tw_session *session, const uint8_t *header, const uint8_t *data,
 /* UNSEAL: the session becomes the next session; the response's plaintext, inner status word included, from the buffer's start, 2 to 223
    bytes. Refusals: TW_ROOM (buf_bytes under 223), TW_NOT_GENUINE.
    The caller ensures:
-   - session: 80 bytes, valid to read and write, overlapping no other argument, and used by no other thread during the call;
+   - session: TW_SESSION_BYTES bytes, valid to read and write, overlapping no other argument, and used by no other thread during the call;
    - response: response_bytes bytes, valid to read, and written by no one during the call;
    - buf: buf_bytes bytes, valid to read and write, overlapping no other argument, and used by no other thread during the call;
    - no pointer is null, also where a length is 0, and each length is under 2^63. */
@@ -339,10 +361,11 @@ tw_told tw_unseal(tw_session *session, const uint8_t *response, size_t response_
    - the pointer is not null, also where the length is 0, and the length is under 2^63. */
 tw_told tw_walk(const uint8_t *input, size_t input_bytes);
 
-/* WRITE: the card's stored record from the buffer's start: 91 bytes before INIT, 336 to 448 after it. The card is only read.
-   Refusals: TW_UNSOUND, TW_ROOM (buf_bytes under 448, also before INIT).
+/* WRITE: the card's stored record from the buffer's start: TW_RECORD_FRESH_BYTES bytes before INIT, TW_RECORD_MIN_BYTES to
+   TW_RECORD_MAX_BYTES after it. The card is only read.
+   Refusals: TW_UNSOUND, TW_ROOM (buf_bytes under TW_WRITE_ROOM_BYTES, also before INIT).
    The caller ensures:
-   - card: 529 bytes, valid to read, and written by no one during the call;
+   - card: TW_CARD_BYTES bytes, valid to read, and written by no one during the call;
    - buf: buf_bytes bytes, valid to read and write, overlapping no other argument, and used by no other thread during the call;
    - no pointer is null, also where the length is 0, and the length is under 2^63. */
 tw_told tw_write(const tw_card *card, uint8_t *buf, size_t buf_bytes);
@@ -350,7 +373,7 @@ tw_told tw_write(const tw_card *card, uint8_t *buf, size_t buf_bytes);
 /* READ: the card becomes that of the stored record, sound and reset; refused, it becomes FRESH of zeros. What *card held is not read.
    Gives the refusal: TW_DONE or TW_NOT_RECORD.
    The caller ensures:
-   - card: 529 bytes, valid to write, overlapping no other argument, and used by no other thread during the call;
+   - card: TW_CARD_BYTES bytes, valid to write, overlapping no other argument, and used by no other thread during the call;
    - record: record_bytes bytes, valid to read, and written by no one during the call;
    - no pointer is null, also where the length is 0, and the length is under 2^63. */
 uint8_t tw_read(tw_card *card, const uint8_t *record, size_t record_bytes);

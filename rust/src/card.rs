@@ -1,4 +1,4 @@
-//! The card: its record of 529 bytes, what can be read of it, and the operations on it.
+//! The card: its record, what can be read of it, and the operations on it.
 
 use std::fmt;
 use std::mem::{align_of, offset_of, size_of};
@@ -9,9 +9,9 @@ use crate::parts::{KeyKind, Path, Slot, Stage};
 use crate::refusal::Refusal;
 use crate::supply::SupplyKind;
 
-/// A card's whole state: the record of 529 bytes that the library takes, byte for byte as `include/treadlewisp.h` has it.
+/// A card's whole state: the record of [`CARD_BYTES`] bytes that the library takes, byte for byte as `include/treadlewisp.h` has it.
 ///
-/// Any 529 bytes can be a `Card`; one that is not sound is refused with [`Refusal::Unsound`]. Every card that an operation gives is sound.
+/// Any bytes of that length can be a `Card`; one that is not sound is refused with [`Refusal::Unsound`]. Every card that an operation gives is sound.
 /// PIN, PUK and keys lie in it as they are, and its memory is not wiped when it is dropped. `Debug` shows none of them.
 #[derive(Clone, PartialEq, Eq)]
 #[repr(C)]
@@ -38,17 +38,70 @@ pub struct Card {
     iv: [u8; IV_BYTES],
 }
 
-// The layout of include/treadlewisp.h: no padding, no alignment, each group of fields at its offset in bytes.
+/// Where a field lies in a card's bytes.
+#[derive(Clone, Copy, PartialEq, Eq, Debug)]
+pub struct CardField {
+    /// Its name in `include/treadlewisp.h`.
+    pub name: &'static str,
+    /// Its name in `docs/LAYOUT.md`, behind that of its part.
+    pub path: &'static str,
+    /// Where it begins, in bytes from the card's start.
+    pub offset: usize,
+    /// How many bytes it has.
+    pub bytes: usize,
+}
+
+/// One row of the table below.
+macro_rules! field {
+    ($name:ident, $path:literal, $bytes:expr) => {
+        CardField {
+            name: stringify!($name),
+            path: $path,
+            offset: offset_of!(Card, $name),
+            bytes: $bytes,
+        }
+    };
+}
+
+impl Card {
+    /// The fields of a card's bytes, in their order: each begins where the one before it ends.
+    pub const FIELDS: &'static [CardField] = &[
+        field!(initialised, "initialised", 1),
+        field!(uid, "identity.uid", UID_BYTES),
+        field!(public_key, "identity.public_key", PUBLIC_KEY_BYTES),
+        field!(pin, "pins.pin", PIN_BYTES),
+        field!(puk, "pins.puk", PUK_BYTES),
+        field!(pin_tries, "pins.pin_tries", 1),
+        field!(puk_tries, "pins.puk_tries", 1),
+        field!(verified, "pins.verified", 1),
+        field!(secret, "pairing.secret", KEY_BYTES),
+        field!(slots, "pairing.slots", SLOTS * SLOT_BYTES),
+        field!(pending, "pairing.pending", 1),
+        field!(expected, "pairing.expected", KEY_BYTES),
+        field!(key_kind, "keys.kind", 1),
+        field!(key_uid, "keys.uid", KEY_BYTES),
+        field!(current, "keys.current", PATH_BYTES),
+        field!(pinless, "keys.pinless", PATH_BYTES),
+        field!(stage, "channel.stage", 1),
+        field!(enc_key, "channel.enc_key", KEY_BYTES),
+        field!(mac_key, "channel.mac_key", KEY_BYTES),
+        field!(iv, "channel.iv", IV_BYTES),
+    ];
+}
+
+// The layout of include/treadlewisp.h: no padding, no alignment, and each field behind the one before it.
 const _: () = assert!(size_of::<Card>() == CARD_BYTES && align_of::<Card>() == 1);
-const _: () = assert!(size_of::<Slot>() == 1 + KEY_BYTES && size_of::<Path>() == 1 + PATH_MAX_BYTES);
-const _: () = assert!(offset_of!(Card, uid) == 1 && offset_of!(Card, public_key) == 17);
-const _: () = assert!(offset_of!(Card, pin) == 82 && offset_of!(Card, puk) == 88 && offset_of!(Card, pin_tries) == 100);
-const _: () = assert!(offset_of!(Card, puk_tries) == 101 && offset_of!(Card, verified) == 102 && offset_of!(Card, secret) == 103);
-const _: () = assert!(offset_of!(Card, slots) == 135 && offset_of!(Card, pending) == 300 && offset_of!(Card, expected) == 301);
-const _: () = assert!(offset_of!(Card, key_kind) == 333 && offset_of!(Card, key_uid) == 334);
-const _: () = assert!(offset_of!(Card, current) == 366 && offset_of!(Card, pinless) == 407);
-const _: () = assert!(offset_of!(Card, stage) == 448 && offset_of!(Card, enc_key) == 449);
-const _: () = assert!(offset_of!(Card, mac_key) == 481 && offset_of!(Card, iv) == 513);
+const _: () = assert!(size_of::<Slot>() == SLOT_BYTES && size_of::<Path>() == PATH_BYTES);
+const _: () = {
+    let mut end = 0;
+    let mut k = 0;
+    while k < Card::FIELDS.len() {
+        assert!(Card::FIELDS[k].offset == end);
+        end += Card::FIELDS[k].bytes;
+        k += 1;
+    }
+    assert!(end == CARD_BYTES);
+};
 
 /// What ASK reports.
 #[derive(Clone, Copy, PartialEq, Eq, Debug)]
@@ -140,20 +193,20 @@ impl Card {
 
 /// The record, as bytes.
 impl Card {
-    /// The card of these 529 bytes, sound or not.
+    /// The card of these bytes, sound or not.
     ///
     /// ```
-    /// use treadlewisp::{Card, Refusal};
-    /// let mut card = Card::from_bytes(&[0xFF; 529]);
+    /// use treadlewisp::{Card, Refusal, CARD_BYTES};
+    /// let mut card = Card::from_bytes(&[0xFF; CARD_BYTES]);
     /// assert!(!card.is_sound());
     /// assert_eq!(card.reset(), Err(Refusal::Unsound));
-    /// assert_eq!(card.to_bytes(), [0xFF; 529]);
+    /// assert_eq!(card.to_bytes(), [0xFF; CARD_BYTES]);
     /// ```
     pub fn from_bytes(bytes: &[u8; CARD_BYTES]) -> Card {
         ffi::card_of(*bytes)
     }
 
-    /// The card's 529 bytes, PIN, PUK and keys among them.
+    /// The card's bytes, PIN, PUK and keys among them.
     pub fn to_bytes(&self) -> [u8; CARD_BYTES] {
         ffi::bytes_of(self.clone())
     }
@@ -181,12 +234,12 @@ impl Card {
         &self.public_key
     }
 
-    /// Tries left for the PIN, at most 3.
+    /// Tries left for the PIN, at most [`PIN_TRIES`].
     pub fn pin_tries(&self) -> u8 {
         self.pin_tries
     }
 
-    /// Tries left for the PUK, at most 5.
+    /// Tries left for the PUK, at most [`PUK_TRIES`].
     pub fn puk_tries(&self) -> u8 {
         self.puk_tries
     }
@@ -201,7 +254,7 @@ impl Card {
         &self.secret
     }
 
-    /// The five pairing slots.
+    /// The pairing slots.
     pub fn slots(&self) -> &[Slot; SLOTS] {
         &self.slots
     }

@@ -9,13 +9,13 @@ pub const CLASS_CARD: u8 = 0x80;
 pub const SELECT: u8 = 0xA4;
 /// INIT, plain.
 pub const INIT: u8 = 0xFE;
-/// OPEN SECURE CHANNEL, plain; P1 is the slot, 0 to 4.
+/// OPEN SECURE CHANNEL, plain; P1 is the slot, under [`SLOTS`](crate::SLOTS).
 pub const OPEN: u8 = 0x10;
 /// MUTUALLY AUTHENTICATE, sealed.
 pub const MUTUAL: u8 = 0x11;
 /// PAIR, plain.
 pub const PAIR: u8 = 0x12;
-/// UNPAIR, sealed; P1 is the slot, 0 to 4.
+/// UNPAIR, sealed; P1 is the slot, under [`SLOTS`](crate::SLOTS).
 pub const UNPAIR: u8 = 0x13;
 /// GET STATUS, sealed.
 pub const GET_STATUS: u8 = 0xF2;

@@ -69,22 +69,22 @@ impl Report {
 }
 
 pub(crate) fn fresh(card: &mut Card, uid: &[u8; UID_BYTES], public_key: &[u8; PUBLIC_KEY_BYTES]) {
-    // SAFETY: the card is 529 bytes to write, borrowed alone; the arrays are 16 and 65 bytes to read.
+    // SAFETY: the card is its whole record to write, borrowed alone; the arrays are of the lengths asked for, to read.
     unsafe { tw_fresh(card, uid.as_ptr(), public_key.as_ptr()) }
 }
 
 pub(crate) fn sound(card: &Card) -> bool {
-    // SAFETY: the card is 529 bytes to read.
+    // SAFETY: the card is its whole record to read.
     unsafe { tw_sound(card) == 1 }
 }
 
 pub(crate) fn reset(card: &mut Card) -> Result<(), Refusal> {
-    // SAFETY: the card is 529 bytes to read and write, borrowed alone.
+    // SAFETY: the card is its whole record to read and write, borrowed alone.
     done(unsafe { tw_reset(card) })
 }
 
 pub(crate) fn ask(card: &Card, command: &[u8], buffer: &mut [u8]) -> Result<Asked, Refusal> {
-    // SAFETY: the card is 529 bytes to read; command and buffer are given with their lengths, the buffer is borrowed alone.
+    // SAFETY: the card is its whole record to read; command and buffer are given with their lengths, the buffer is borrowed alone.
     let report = unsafe { tw_ask(card, command.as_ptr(), command.len(), buffer.as_mut_ptr(), buffer.len()) };
     done(report.refusal)?;
     Ok(Asked {
@@ -94,7 +94,7 @@ pub(crate) fn ask(card: &Card, command: &[u8], buffer: &mut [u8]) -> Result<Aske
 }
 
 pub(crate) fn answer(card: &mut Card, command: &[u8], supply: &[u8], buffer: &mut [u8]) -> Result<usize, Refusal> {
-    // SAFETY: the card is 529 bytes to read and write; command, supply and buffer are given with their lengths; card and buffer are each
+    // SAFETY: the card is its whole record to read and write; command, supply and buffer are given with their lengths; card and buffer are each
     // borrowed alone.
     let report = unsafe {
         tw_answer(
@@ -111,7 +111,7 @@ pub(crate) fn answer(card: &mut Card, command: &[u8], supply: &[u8], buffer: &mu
 }
 
 pub(crate) fn seal(session: &mut Session, header: &[u8; HEADER_BYTES], data: &[u8], buffer: &mut [u8]) -> Result<usize, Refusal> {
-    // SAFETY: the session is 80 bytes to read and write, the header 4 bytes to read; data and buffer are given with their lengths; session
+    // SAFETY: the session is all of it to read and write, the header of the length asked for, to read; data and buffer are given with their lengths; session
     // and buffer are each borrowed alone.
     let report = unsafe {
         tw_seal(
@@ -127,7 +127,7 @@ pub(crate) fn seal(session: &mut Session, header: &[u8; HEADER_BYTES], data: &[u
 }
 
 pub(crate) fn unseal(session: &mut Session, response: &[u8], buffer: &mut [u8]) -> Result<usize, Refusal> {
-    // SAFETY: the session is 80 bytes to read and write; response and buffer are given with their lengths; session and buffer are each
+    // SAFETY: the session is all of it to read and write; response and buffer are given with their lengths; session and buffer are each
     // borrowed alone.
     let report = unsafe { tw_unseal(session, response.as_ptr(), response.len(), buffer.as_mut_ptr(), buffer.len()) };
     report.count()
@@ -140,13 +140,13 @@ pub(crate) fn walk(input: &[u8]) -> Result<usize, Refusal> {
 }
 
 pub(crate) fn write(card: &Card, buffer: &mut [u8]) -> Result<usize, Refusal> {
-    // SAFETY: the card is 529 bytes to read; the buffer is given with its length and borrowed alone.
+    // SAFETY: the card is its whole record to read; the buffer is given with its length and borrowed alone.
     let report = unsafe { tw_write(card, buffer.as_mut_ptr(), buffer.len()) };
     report.count()
 }
 
 pub(crate) fn read(card: &mut Card, record: &[u8]) -> Result<(), Refusal> {
-    // SAFETY: the card is 529 bytes to write, borrowed alone; the record is given with its length, to read.
+    // SAFETY: the card is its whole record to write, borrowed alone; the record is given with its length, to read.
     done(unsafe { tw_read(card, record.as_ptr(), record.len()) })
 }
 

@@ -17,15 +17,25 @@ pub const MAC_BYTES: usize = 16;
 /// Length of one component of a path, in bytes.
 pub const COMPONENT_BYTES: usize = 4;
 /// The longest path, in bytes: 10 components.
-pub const PATH_MAX_BYTES: usize = 40;
+pub const PATH_MAX_BYTES: usize = 10 * COMPONENT_BYTES;
 /// Length of a command's header, CLA INS P1 P2, in bytes.
 pub const HEADER_BYTES: usize = 4;
 /// Length of a status word, in bytes.
 pub const STATUS_BYTES: usize = 2;
-/// Length of a card's record as [`Card`](crate::Card) has it, in bytes. The stored record of WRITE is another one.
-pub const CARD_BYTES: usize = 529;
+/// Length of a pairing slot as [`Slot`](crate::Slot) has it, in bytes: its flag and its key.
+pub const SLOT_BYTES: usize = 1 + KEY_BYTES;
+/// Length of a path as [`Path`](crate::Path) has it, in bytes: how many are in use, and the room.
+pub const PATH_BYTES: usize = 1 + PATH_MAX_BYTES;
 /// Length of a session, in bytes.
-pub const SESSION_BYTES: usize = 80;
+pub const SESSION_BYTES: usize = KEY_BYTES + KEY_BYTES + IV_BYTES;
+/// Length of a card's record as [`Card`](crate::Card) has it, in bytes: the sum of its fields. The stored record of WRITE is another one.
+pub const CARD_BYTES: usize = 1 + IDENTITY_BYTES + PINS_BYTES + PAIRING_BYTES + KEYS_BYTES + 1 + SESSION_BYTES;
+
+/// The parts of a card, in bytes, but for its channel: a stage and a session.
+const IDENTITY_BYTES: usize = UID_BYTES + PUBLIC_KEY_BYTES;
+const PINS_BYTES: usize = PIN_BYTES + PUK_BYTES + 1 + 1 + 1;
+const PAIRING_BYTES: usize = KEY_BYTES + SLOTS * SLOT_BYTES + 1 + KEY_BYTES;
+const KEYS_BYTES: usize = 1 + KEY_BYTES + PATH_BYTES + PATH_BYTES;
 
 /// The least buffer that ASK takes, in bytes.
 pub const ASK_ROOM_BYTES: usize = 255;
@@ -36,18 +46,23 @@ pub const SEAL_ROOM_BYTES: usize = 261;
 /// The least buffer that UNSEAL takes, in bytes.
 pub const UNSEAL_ROOM_BYTES: usize = 223;
 /// The least buffer that WRITE takes, in bytes.
-pub const WRITE_ROOM_BYTES: usize = 448;
+pub const WRITE_ROOM_BYTES: usize = RECORD_MAX_BYTES;
 
 /// The most data that SEAL takes, in bytes.
 pub const DATA_MAX_BYTES: usize = 223;
 /// The longest supply of any kind, in bytes.
 pub const SUPPLY_MAX_BYTES: usize = 129;
-/// Length of a stored record before INIT, in bytes.
-pub const RECORD_FRESH_BYTES: usize = 91;
-/// The shortest stored record after INIT, in bytes.
-pub const RECORD_MIN_BYTES: usize = 336;
-/// The longest stored record, in bytes.
-pub const RECORD_MAX_BYTES: usize = 448;
+/// Length of the head of a stored record's field, in bytes: a tag and a length.
+pub const FIELD_HEAD_BYTES: usize = 1 + 2;
+/// Length of a stored record before INIT, in bytes: three fields.
+pub const RECORD_FRESH_BYTES: usize = 3 * FIELD_HEAD_BYTES + 1 + UID_BYTES + PUBLIC_KEY_BYTES;
+/// The shortest stored record after INIT, in bytes: nine fields more, three of them empty.
+pub const RECORD_MIN_BYTES: usize = RECORD_FRESH_BYTES + RECORD_SECRETS_BYTES + 4 * FIELD_HEAD_BYTES + 1;
+/// The longest stored record, in bytes: with a key UID and two full paths.
+pub const RECORD_MAX_BYTES: usize = RECORD_MIN_BYTES + KEY_BYTES + 2 * PATH_MAX_BYTES;
+
+/// The five fields of PIN, PUK, pairing secret, tries and slots.
+const RECORD_SECRETS_BYTES: usize = 5 * FIELD_HEAD_BYTES + PIN_BYTES + PUK_BYTES + KEY_BYTES + 1 + 1 + SLOTS * SLOT_BYTES;
 
 /// How many pairing slots a card has.
 pub const SLOTS: usize = 5;

@@ -7,7 +7,7 @@
 //! | Operation | Here | What it does |
 //! |---|---|---|
 //! | FRESH | [`Card::fresh`] | the card of a new device |
-//! | | [`Card::is_sound`] | whether 529 bytes are a sound card |
+//! | | [`Card::is_sound`] | whether a card's bytes are those of a sound one |
 //! | RESET | [`Card::reset`] | power-up |
 //! | ASK | [`Card::ask`] | which supply a command needs, and its opened data |
 //! | ANSWER | [`Card::answer`] | the response, and the next card |
@@ -28,7 +28,7 @@
 //! A new card: SELECT answers its public key, GET STATUS is not there before INIT, and the card is stored and taken back.
 //!
 //! ```
-//! use treadlewisp::{command, Card, Refusal, StatusWord, ANSWER_ROOM_BYTES, WRITE_ROOM_BYTES};
+//! use treadlewisp::{command, Card, Refusal, StatusWord, ANSWER_ROOM_BYTES, RECORD_FRESH_BYTES, WRITE_ROOM_BYTES};
 //!
 //! let mut card = Card::fresh(&[0x11; 16], &[0x04; 65]);
 //! let mut buffer = [0; ANSWER_ROOM_BYTES];
@@ -46,7 +46,7 @@
 //!
 //! let mut record = [0; WRITE_ROOM_BYTES];
 //! let count = card.write(&mut record)?;
-//! assert_eq!(count, 91);
+//! assert_eq!(count, RECORD_FRESH_BYTES);
 //! assert_eq!(Card::read(&record[..count])?, card);
 //! # Ok::<(), Refusal>(())
 //! ```
@@ -69,7 +69,7 @@ mod session;
 mod status;
 mod supply;
 
-pub use card::{Asked, Card};
+pub use card::{Asked, Card, CardField};
 pub use lengths::*;
 pub use parts::{KeyKind, Path, Slot, Stage};
 pub use refusal::Refusal;

@@ -4,7 +4,7 @@ use std::fmt;
 
 use crate::lengths::{COMPONENT_BYTES, KEY_BYTES, PATH_MAX_BYTES};
 
-/// A pairing slot: whether it is filled, and its key. 33 bytes.
+/// A pairing slot: whether it is filled, and its key.
 #[derive(Clone, PartialEq, Eq)]
 #[repr(C)]
 pub struct Slot {
@@ -31,7 +31,7 @@ impl fmt::Debug for Slot {
     }
 }
 
-/// A path of key derivation: components of 4 bytes, at most 10 of them. 41 bytes: the length in bytes, then room for 40.
+/// A path of key derivation: how many bytes are in use, 4 a component, and room for 10 components.
 #[derive(Clone, PartialEq, Eq)]
 #[repr(C)]
 pub struct Path {
@@ -40,7 +40,7 @@ pub struct Path {
 }
 
 impl Path {
-    /// The bytes in use, 4 a component, the high byte first. Of a path that claims more than 40, which no sound card has, all 40.
+    /// The bytes in use, 4 a component, the high byte first. Of a path that claims more than its room, which no sound card has, all of it.
     pub fn bytes(&self) -> &[u8] {
         self.room.get(..usize::from(self.used_bytes)).unwrap_or(&self.room)
     }

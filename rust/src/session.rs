@@ -7,8 +7,8 @@ use crate::ffi;
 use crate::lengths::{HEADER_BYTES, IV_BYTES, KEY_BYTES, SESSION_BYTES};
 use crate::refusal::Refusal;
 
-/// The terminal's session: encryption key, MAC key, and the IV of the next message. 80 bytes, as `include/treadlewisp.h` has them; any keys
-/// and IV are a session. Its memory is not wiped when it is dropped. `Debug` shows no key.
+/// The terminal's session: encryption key, MAC key, and the IV of the next message. As `include/treadlewisp.h` has them; any keys and
+/// IV are a session. Its memory is not wiped when it is dropped. `Debug` shows no key.
 #[derive(Clone, PartialEq, Eq)]
 #[repr(C)]
 pub struct Session {
@@ -18,7 +18,7 @@ pub struct Session {
 }
 
 const _: () = assert!(size_of::<Session>() == SESSION_BYTES && align_of::<Session>() == 1);
-const _: () = assert!(offset_of!(Session, mac_key) == 32 && offset_of!(Session, iv) == 64);
+const _: () = assert!(offset_of!(Session, mac_key) == KEY_BYTES && offset_of!(Session, iv) == 2 * KEY_BYTES);
 
 impl Session {
     /// The session that OPEN begins, with its seed IV.
@@ -59,12 +59,12 @@ impl Session {
         ffi::unseal(self, response, buffer)
     }
 
-    /// The session of these 80 bytes.
+    /// The session of these bytes.
     pub fn from_bytes(bytes: &[u8; SESSION_BYTES]) -> Session {
         ffi::session_of(*bytes)
     }
 
-    /// The session's 80 bytes, both keys among them.
+    /// The session's bytes, both keys among them.
     pub fn to_bytes(&self) -> [u8; SESSION_BYTES] {
         ffi::session_bytes(self.clone())
     }

@@ -31,8 +31,8 @@ fn from_fresh_to_a_channel() {
         assert!(life.card.slots()[slot].is_filled());
         assert_eq!(life.card.slots()[slot].pairing_key(), &PAIRING_KEY);
     }
-    let sixth = plain_command(card_header(command::PAIR, command::P1_PAIR_FIRST), &[0; KEY_BYTES]);
-    assert_eq!(life.plain(&sixth), [0x6A, 0x84]);
+    let one_more = plain_command(card_header(command::PAIR, command::P1_PAIR_FIRST), &[0; KEY_BYTES]);
+    assert_eq!(life.plain(&one_more), [0x6A, 0x84]);
     life.open();
     life.mutual();
     let tries = life.sealed(command::GET_STATUS, command::P1_STATUS_TRIES, &[]);
@@ -98,7 +98,7 @@ fn keys_and_paths() {
     assert_eq!(life.card.key_kind(), Some(KeyKind::None));
     assert!(life.card.current_path().is_empty() && life.card.pinless_path().is_empty());
     assert_eq!(life.sealed_status(command::SIGN, 0x00, &[0x5F; 32]), StatusWord::CONDITIONS_NOT_MET);
-    assert_eq!(life.sealed_status(command::UNPAIR, 5, &[]), StatusWord::WRONG_PARAMETERS);
+    assert_eq!(life.sealed_status(command::UNPAIR, SLOTS as u8, &[]), StatusWord::WRONG_PARAMETERS);
     assert_eq!(life.sealed_status(command::UNPAIR, 0, &[]), StatusWord::SUCCESS);
     assert!(!life.card.slots()[0].is_filled());
 }

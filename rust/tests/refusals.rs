@@ -17,7 +17,7 @@ fn with_buffer<T>(bytes: usize, call: impl FnOnce(&mut [u8]) -> T) -> T {
 fn unsound_1() {
     let sound = Life::in_channel().card.to_bytes();
     let mut bytes = sound;
-    bytes[100] = 4; // PIN tries
+    bytes[place("pin_tries").start] = PIN_TRIES + 1;
     let mut card = Card::from_bytes(&bytes);
     assert!(!card.is_sound());
     assert_eq!(card.reset(), Err(Refusal::Unsound));

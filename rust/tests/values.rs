@@ -5,10 +5,12 @@ mod common;
 use common::*;
 use treadlewisp::*;
 
-/// Where the secrets lie in a card's 529 bytes: PIN, PUK, pairing secret, slot keys, expected cryptogram, the channel's keys.
+/// Where the secrets lie in a card's bytes: PIN, PUK, pairing secret, slot keys, expected cryptogram, the channel's keys.
 fn secret_places() -> Vec<std::ops::Range<usize>> {
-    let slots = (0..SLOTS).map(|slot| 136 + 33 * slot..168 + 33 * slot);
-    [82..100, 103..135, 301..333, 449..513].into_iter().chain(slots).collect()
+    let fields = ["pin", "puk", "secret", "expected", "enc_key", "mac_key"].map(place);
+    let slots = (0..SLOTS).map(|slot| place("slots").start + SLOT_BYTES * slot);
+    let keys = slots.map(|slot| slot + 1..slot + SLOT_BYTES);
+    fields.into_iter().chain(keys).collect()
 }
 
 #[test]
@@ -32,18 +34,19 @@ fn bytes_and_fields_of_a_card() {
     let life = Life::in_channel();
     let bytes = life.card.to_bytes();
     assert_eq!(Card::from_bytes(&bytes), life.card);
-    assert_eq!((&bytes[1..17], &bytes[17..82]), (&UID[..], &POINT[..]));
-    assert_eq!((&bytes[82..88], &bytes[88..100]), (&PIN[..], &PUK[..]));
-    assert_eq!(&bytes[103..135], PAIRING_SECRET);
-    assert_eq!((bytes[135], &bytes[136..168]), (1, &PAIRING_KEY[..]));
-    assert_eq!((bytes[448], &bytes[449..481]), (2, &ENC_KEY[..]));
+    let field = |name| &bytes[place(name)];
+    assert_eq!((field("uid"), field("public_key")), (&UID[..], &POINT[..]));
+    assert_eq!((field("pin"), field("puk")), (&PIN[..], &PUK[..]));
+    assert_eq!(field("secret"), PAIRING_SECRET);
+    assert_eq!(field("slots")[..SLOT_BYTES], [&[1], &PAIRING_KEY[..]].concat());
+    assert_eq!((field("stage"), field("enc_key")), (&[2][..], &ENC_KEY[..]));
     assert_eq!((life.card.uid(), life.card.public_key()), (&UID, &POINT));
     let session = Session::from_bytes(&life.terminal.to_bytes());
     assert_eq!(session, life.terminal);
-    assert_eq!(session.to_bytes()[64..], *session.iv());
+    assert_eq!(session.to_bytes()[2 * KEY_BYTES..], *session.iv());
 }
 
-/// Any 529 bytes can be looked at, sound or not.
+/// Any bytes can be looked at, sound or not.
 #[test]
 fn fields_of_an_unsound_card() {
     let card = Card::from_bytes(&[0xFF; CARD_BYTES]);

@@ -1,5 +1,5 @@
--- What the operations over bytes tell: what the operations over cards and sessions do, with the next card as 529 bytes and the next
--- session as 80. Every count and length is in bytes.
+-- What the operations over bytes tell: what the operations over cards and sessions do, with the next card as its bytes and the next
+-- session as its. Every count and length is in bytes.
 use Prim.Native.Nat.{ℕ}
 use mathlib.Core.Path.{_≡_}
 use mathlib.Core.List.{List}

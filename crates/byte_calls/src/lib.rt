@@ -1,4 +1,4 @@
-// The public operations over a card of 529 bytes and a session of 80 bytes, by value, for the soft card.
+// The public operations over a card's bytes and a session's, by value, for the soft card.
 // Every length, room and count is in bytes.
 // Proved: each call is the operation on the card whose bytes are given, by the layout's places (`cardAt`), and its next card is given as its
 // bytes (`cardFlat`); on a session likewise.

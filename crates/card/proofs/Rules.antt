@@ -13,6 +13,7 @@ use Rattle.card.specs.declared.Path.{Path}
 use Rattle.card.specs.declared.Keys.{Keys}
 use Rattle.card.specs.declared.Card.{Card}
 use Rattle.card.specs.State.{pinTries, pukTries}
+use Rattle.card.specs.Sizes.{pathMostBytes}
 use Rattle.card.specs.Slots.{allOf, someOf, isZero, allZero, isFree, slotWithin}
 use Rattle.card.specs.Sound.{isFlag, isDigit, pinsSound, pairingSound, pathSound, keysSound, channelSound, partsSound, pinsBlank, pairingBlank, keysBlank, channelBlank, partsBlank, isSound}
 use Rattle.card.proofs.Tests.{both}
@@ -54,7 +55,7 @@ pairing-rules p e =
 
 -- ---- pathSound
 pub record PathRules (p : Path) : Type 0 where
-  pub most : leb (p .len) 40 ≡ true
+  pub most : leb (p .len) pathMostBytes ≡ true
   pub whole : eqb (p .len % 4) 0 ≡ true
   pub unused : allZero (drop (p .len) (p .bytes)) ≡ true
 

@@ -10,6 +10,7 @@ use native.Mathlib.Omega.{arith}
 use Rattle.card.specs.declared.Card.{Card}
 use Rattle.card.specs.declared.Pins.{Pins}
 use Rattle.card.specs.declared.Pairing.{Pairing}
+use Rattle.card.specs.Sizes.{pathMostBytes}
 use Rattle.card.specs.State.{freshOf, resetOf, unverified, notPending, withSecrets}
 use Rattle.card.specs.Slots.{allOf, isZero, allZero, slotWithin}
 use Rattle.card.specs.Sound.{isSound, isDigit, partsBlank, partsSound, pinsSound, pairingSound, pinsBlank, pairingBlank}
@@ -106,8 +107,8 @@ secrets-sound c pin puk d g e i = ⊎-elim
     one-not-zero : {n : ℕ} → n ≡ 1 → n ≡ 0 → ⊥
     one-not-zero p q = omega arith
 
--- ---- paths: at most 40 bytes each
-pub path-lengths : (c : Card) → isSound c ≡ true → (c .keys .current .len ≤ 40) × (c .keys .pinless .len ≤ 40)
+-- ---- paths: no longer than their room
+pub path-lengths : (c : Card) → isSound c ≡ true → (c .keys .current .len ≤ pathMostBytes) × (c .keys .pinless .len ≤ pathMostBytes)
 path-lengths c e = ⊎-elim
     (λ b.
     let k = keys-blank (c .keys) (blank-rules c (b .blank) .keys) in

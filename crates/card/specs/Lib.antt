@@ -1,3 +1,4 @@
+pub mod Sizes
 pub mod State
 pub mod Slots
 pub mod Sound

@@ -6,22 +6,22 @@ use mathlib.Core.List.{List, [], _∷_}
 use lib.ListN.{length}
 use Rattle.card.specs.declared.Slot.{Slot}
 use Rattle.card.specs.declared.Card.{Card}
-use Rattle.card.specs.State.{slotCount}
+use Rattle.card.specs.Sizes.{uidBytes, publicKeyBytes, pinBytes, pukBytes, keyBytes, pathMostBytes, slotCount}
 
--- each slot's key is 32 bytes
+-- each slot's key has the length of a key
 abbrev pub KeysLong : List Slot → Type 0
 KeysLong [] = Unit {0}
-KeysLong (s ∷ more) = (length (s .key) ≡ 32) × KeysLong more
+KeysLong (s ∷ more) = (length (s .key) ≡ keyBytes) × KeysLong more
 
 pub record Shaped (c : Card) : Type 0 where
-  pub uid : length (c .identity .uid) ≡ 16
-  pub «public_key» : length (c .identity .«public_key») ≡ 65
-  pub pin : length (c .pins .pin) ≡ 6
-  pub puk : length (c .pins .puk) ≡ 12
-  pub secret : length (c .pairing .secret) ≡ 32
+  pub uid : length (c .identity .uid) ≡ uidBytes
+  pub «public_key» : length (c .identity .«public_key») ≡ publicKeyBytes
+  pub pin : length (c .pins .pin) ≡ pinBytes
+  pub puk : length (c .pins .puk) ≡ pukBytes
+  pub secret : length (c .pairing .secret) ≡ keyBytes
   pub slots : length (c .pairing .slots) ≡ slotCount
   pub keys : KeysLong (c .pairing .slots)
-  pub expected : length (c .pairing .expected) ≡ 32
-  pub keyuid : length (c .keys .uid) ≡ 32
-  pub current : length (c .keys .current .bytes) ≡ 40
-  pub pinless : length (c .keys .pinless .bytes) ≡ 40
+  pub expected : length (c .pairing .expected) ≡ keyBytes
+  pub keyuid : length (c .keys .uid) ≡ keyBytes
+  pub current : length (c .keys .current .bytes) ≡ pathMostBytes
+  pub pinless : length (c .keys .pinless .bytes) ≡ pathMostBytes

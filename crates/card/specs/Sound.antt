@@ -10,6 +10,7 @@ use Rattle.card.specs.declared.Path.{Path}
 use Rattle.card.specs.declared.Keys.{Keys}
 use Rattle.card.specs.declared.Channel.{Channel}
 use Rattle.card.specs.declared.Card.{Card}
+use Rattle.card.specs.Sizes.{pathMostBytes}
 use Rattle.card.specs.State.{pinTries, pukTries}
 use Rattle.card.specs.Slots.{allOf, someOf, isZero, allZero, isFree, slotWithin}
 
@@ -39,9 +40,9 @@ pairingSound p =
     && (isZero (p .pending) || someOf isFree (p .slots))
     && (not (isZero (p .pending)) || allZero (p .expected))
 
--- at most 10 components of 4 bytes; the bytes past the path's end are zero
+-- at most as many bytes as there is room for, 4 a component; the bytes past the path's end are zero
 abbrev pub pathSound : Path → Bool
-pathSound p = leb (p .len) 40 && eqb (p .len % 4) 0 && allZero (drop (p .len) (p .bytes))
+pathSound p = leb (p .len) pathMostBytes && eqb (p .len % 4) 0 && allZero (drop (p .len) (p .bytes))
 
 -- kind 0, 1 or 2; both paths; the current path empty unless the key is extended; the key UID zero without a key
 abbrev pub keysSound : Keys → Bool

@@ -4,6 +4,8 @@ use mathlib.Core.Bool.{cond}
 use mathlib.Core.List.{List, [], _∷_, _++_}
 use lib.Dec.{eqb}
 use lib.ListN.{length, take, replicate}
+use Rattle.card.specs.Sizes.{pinBytes, pukBytes, keyBytes, ivBytes, pathMostBytes}
+pub use Rattle.card.specs.Sizes.{slotCount}
 use Rattle.card.specs.declared.Pins.{Pins}
 use Rattle.card.specs.declared.Slot.{Slot}
 use Rattle.card.specs.declared.Pairing.{Pairing}
@@ -12,15 +14,12 @@ use Rattle.card.specs.declared.Keys.{Keys}
 use Rattle.card.specs.declared.Channel.{Channel}
 use Rattle.card.specs.declared.Card.{Card}
 
--- the full tries of the PIN and of the PUK, and the number of pairing slots
+-- the full tries of the PIN and of the PUK
 abbrev pub pinTries : ℕ
 pinTries = 3
 
 abbrev pub pukTries : ℕ
 pukTries = 5
-
-abbrev pub slotCount : ℕ
-slotCount = 5
 
 -- the application's version, as SELECT answers it
 abbrev pub version : List ℕ
@@ -31,29 +30,29 @@ zeros n = replicate n 0
 
 -- ---- the parts of a card that holds nothing but its identity
 abbrev pub noPins : Pins
-noPins = record { pin = zeros 6; puk = zeros 12; «pin_tries» = 0; «puk_tries» = 0; verified = 0 }
+noPins = record { pin = zeros pinBytes; puk = zeros pukBytes; «pin_tries» = 0; «puk_tries» = 0; verified = 0 }
 
 abbrev pub freeSlot : Slot
-freeSlot = record { filled = 0; key = zeros 32 }
+freeSlot = record { filled = 0; key = zeros keyBytes }
 
 abbrev pub noPairing : Pairing
-noPairing = record { secret = zeros 32; slots = replicate slotCount freeSlot; pending = 0; expected = zeros 32 }
+noPairing = record { secret = zeros keyBytes; slots = replicate slotCount freeSlot; pending = 0; expected = zeros keyBytes }
 
 abbrev pub emptyPath : Path
-emptyPath = record { len = 0; bytes = zeros 40 }
+emptyPath = record { len = 0; bytes = zeros pathMostBytes }
 
 abbrev pub noKeys : Keys
-noKeys = record { kind = 0; uid = zeros 32; current = emptyPath; pinless = emptyPath }
+noKeys = record { kind = 0; uid = zeros keyBytes; current = emptyPath; pinless = emptyPath }
 
 abbrev pub closedOf : Channel
-closedOf = record { stage = 0; «enc_key» = zeros 32; «mac_key» = zeros 32; iv = zeros 16 }
+closedOf = record { stage = 0; «enc_key» = zeros keyBytes; «mac_key» = zeros keyBytes; iv = zeros ivBytes }
 
--- ---- a path as GET STATUS answers it and the record holds it; the path of these bytes, 40 at most; and the key UID with a key, else nothing
+-- ---- a path as GET STATUS answers it and the record holds it; the path of these bytes, as many as it has room for; and the key UID with a key, else nothing
 abbrev pub pathBytes : Path → List ℕ
 pathBytes p = take (p .len) (p .bytes)
 
 abbrev pub pathOf : List ℕ → Path
-pathOf s = record { len = length s; bytes = s ++ zeros (40 - length s) }
+pathOf s = record { len = length s; bytes = s ++ zeros (pathMostBytes - length s) }
 
 abbrev pub keyUid : Keys → List ℕ
 keyUid k = cond (eqb (k .kind) 0) [] (k .uid)
@@ -130,7 +129,7 @@ unverified p = record { pin = p .pin; puk = p .puk; «pin_tries» = p .«pin_tri
 
 -- no pending pairing, and its bytes zero
 abbrev pub notPending : Pairing → Pairing
-notPending p = record { secret = p .secret; slots = p .slots; pending = 0; expected = zeros 32 }
+notPending p = record { secret = p .secret; slots = p .slots; pending = 0; expected = zeros keyBytes }
 
 abbrev pub forgotten : Card → Card
 forgotten c = withPairing c (notPending (c .pairing))

@@ -4,7 +4,7 @@
 ghost use mathlib.Core.Path.{_≡_};
 ghost use Rattle.card.specs.State.{freshOf, resetOf, closed, closedOf};
 
-// Lengths, in bytes.
+// Lengths of the fields that are arrays, in bytes. Every other field is one byte.
 pub const UID_BYTES: usize = 16;
 
 pub const PUBLIC_KEY_BYTES: usize = 65;
@@ -18,6 +18,33 @@ pub const KEY_BYTES: usize = 32;
 pub const IV_BYTES: usize = 16;
 
 pub const PATH_MAX_BYTES: usize = 40;
+
+// Sizes of the parts, in bytes: of each the sum of its fields' (specs/Sizes.antt).
+pub const IDENTITY_BYTES: usize = UID_BYTES + PUBLIC_KEY_BYTES;
+
+pub const PINS_BYTES: usize = PIN_BYTES + PUK_BYTES + 1 + 1 + 1;
+
+pub const SLOT_BYTES: usize = 1 + KEY_BYTES;
+
+pub const SLOTS_BYTES: usize = SLOT_BYTES * Card::SLOTS;
+
+pub const PAIRING_BYTES: usize = KEY_BYTES + SLOTS_BYTES + 1 + KEY_BYTES;
+
+pub const PATH_BYTES: usize = 1 + PATH_MAX_BYTES;
+
+pub const KEYS_BYTES: usize = 1 + KEY_BYTES + PATH_BYTES + PATH_BYTES;
+
+pub const SESSION_BYTES: usize = KEY_BYTES + KEY_BYTES + IV_BYTES;
+
+pub const CHANNEL_BYTES: usize = 1 + SESSION_BYTES;
+
+// The whole card: the flag of INIT and the five parts.
+pub const CARD_BYTES: usize = 1
+    + IDENTITY_BYTES
+    + PINS_BYTES
+    + PAIRING_BYTES
+    + KEYS_BYTES
+    + CHANNEL_BYTES;
 
 // The channel's stages: closed, opened, and mutually authenticated.
 pub const STAGE_CLOSED: u8 = 0;

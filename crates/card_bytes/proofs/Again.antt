@@ -15,7 +15,7 @@ use Rattle.card.specs.declared.Path.{Path}
 use Rattle.card.specs.declared.Keys.{Keys}
 use Rattle.card.specs.declared.Channel.{Channel}
 use Rattle.card.specs.declared.Card.{Card}
-use Rattle.card.specs.State.{slotCount}
+use Rattle.card.specs.Sizes.{uidBytes, publicKeyBytes, pinBytes, pukBytes, keyBytes, ivBytes, pathMostBytes, slotBytes, slotCount}
 use Rattle.card.specs.Shape.{Shaped}
 use Rattle.message.specs.declared.Session.{Session}
 use Rattle.message.specs.Message.{Keyed}
@@ -23,6 +23,7 @@ use Rattle.record.specs.Fields.{slotsBytes}
 use Rattle.record.specs.Parse.{fit, slotsFrom}
 use Rattle.record.proofs.ParseFacts.{fit-front, slots-long, slots-back}
 use Rattle.card_bytes.specs.Flat.{cardFlat, sessionFlat}
+use Rattle.card_bytes.specs.Offsets.{slotsOffset}
 use Rattle.card_bytes.specs.Places.{byteAt, bytesAt, cardAt, sessionAt}
 
 -- ---- pieces one behind the other, and where the one with number k begins
@@ -117,7 +118,30 @@ module _ (c : Card) where
       ∷ []
 
   abbrev lengths : List ℕ
-  lengths = 1 ∷ 16 ∷ 65 ∷ 6 ∷ 12 ∷ 1 ∷ 1 ∷ 1 ∷ 32 ∷ 165 ∷ 1 ∷ 32 ∷ 1 ∷ 32 ∷ 1 ∷ 40 ∷ 1 ∷ 40 ∷ 1 ∷ 32 ∷ 32 ∷ 16 ∷ []
+  lengths =
+      1
+      ∷ uidBytes
+      ∷ publicKeyBytes
+      ∷ pinBytes
+      ∷ pukBytes
+      ∷ 1
+      ∷ 1
+      ∷ 1
+      ∷ keyBytes
+      ∷ slotBytes * slotCount
+      ∷ 1
+      ∷ keyBytes
+      ∷ 1
+      ∷ keyBytes
+      ∷ 1
+      ∷ pathMostBytes
+      ∷ 1
+      ∷ pathMostBytes
+      ∷ 1
+      ∷ keyBytes
+      ∷ keyBytes
+      ∷ ivBytes
+      ∷ []
 
   flat-joined : cardFlat c ≡ joined pieces
   unfolding cardFlat
@@ -127,7 +151,7 @@ module _ (c : Card) where
     long : map length pieces ≡ lengths
     long =
         refl & h .uid & h .«public_key» & h .pin & h .puk & refl & refl & refl & h .secret
-        & (slots-long (c .pairing .slots) (h .keys) ∙ ap (λ (n : ℕ). 33 * n) (h .slots))
+        & (slots-long (c .pairing .slots) (h .keys) ∙ ap (λ (n : ℕ). slotBytes * n) (h .slots))
         & refl & h .expected & refl & h .keyuid & refl & h .current & refl & h .pinless & refl
         & k .enc .long & k .mac .long & k .iv .long & refl
 
@@ -137,7 +161,7 @@ module _ (c : Card) where
     byte : (i : ℕ) {b : ℕ} → bytesAt (offset i lengths) 1 (cardFlat c) ≡ b ∷ [] → byteAt (offset i lengths + 0) (cardFlat c) ≡ b
     byte i = one (cardFlat c) (offset i lengths)
 
-    slots-again : slotsFrom slotCount (bytesAt 135 165 (cardFlat c)) ≡ c .pairing .slots
+    slots-again : slotsFrom slotCount (bytesAt slotsOffset (slotBytes * slotCount) (cardFlat c)) ≡ c .pairing .slots
     slots-again =
         ap (slotsFrom slotCount) (bytes 9)
         ∙ ap (λ (n : ℕ). slotsFrom n (slotsBytes (c .pairing .slots))) (sym (h .slots))
@@ -160,8 +184,8 @@ pub session-again : (x : Session) → Keyed x → sessionAt (sessionFlat x) ≡ 
 unfolding sessionAt sessionFlat
 session-again x k = same-session x (bytes 0) (bytes 1) (bytes 2)
   where
-    bytes : (i : ℕ) → bytesAt (offset i (32 ∷ 32 ∷ 16 ∷ [])) (getD (32 ∷ 32 ∷ 16 ∷ []) i 0) (sessionFlat x)
+    bytes : (i : ℕ) → bytesAt (offset i (keyBytes ∷ keyBytes ∷ ivBytes ∷ [])) (getD (keyBytes ∷ keyBytes ∷ ivBytes ∷ []) i 0) (sessionFlat x)
         ≡ getD (x .«enc_key» ∷ x .«mac_key» ∷ x .iv ∷ []) i []
     bytes i =
-        piece (sessionFlat x) (x .«enc_key» ∷ x .«mac_key» ∷ x .iv ∷ []) (32 ∷ 32 ∷ 16 ∷ [])
+        piece (sessionFlat x) (x .«enc_key» ∷ x .«mac_key» ∷ x .iv ∷ []) (keyBytes ∷ keyBytes ∷ ivBytes ∷ [])
         (simp (append-assoc, append-nil)) (k .enc .long & k .mac .long & k .iv .long & refl) i

@@ -10,6 +10,7 @@ use lib.ListN.{length, take, drop, getD, set, length-drop, take-append-drop}
 use lib.Seq.{take-add, take-suc, take-suc-set, length-take-le}
 use Rattle.octets.specs.Bytes.{overwrite}
 use Rattle.octets.proofs.Lists.{take-overwrite, _&_}
+use Rattle.card.specs.Sizes.{keyBytes, slotBytes}
 use Rattle.record.specs.Fields.{slotsBytes}
 use Rattle.record.specs.Parse.{fit, slotsFrom}
 use Rattle.record.proofs.ParseFacts.{fit-front}
@@ -43,11 +44,11 @@ pub wrote-byte : (s : List ℕ) (at b : ℕ) → at < length s → take at s ++ 
 wrote-byte s at b h = sym (take-suc-set s at b h) ∙ ap (λ (n : ℕ). take n (set s at b)) (sym (add-one at))
 
 -- ---- the slots of bytes, as bytes again
-pub slots-again : (n : ℕ) (x : List ℕ) → length x ≡ 33 * n → slotsBytes (slotsFrom n x) ≡ x
+pub slots-again : (n : ℕ) (x : List ℕ) → length x ≡ slotBytes * n → slotsBytes (slotsFrom n x) ≡ x
 unfolding slotsBytes slotsFrom
 slots-again zero [] h = refl
 slots-again zero (b ∷ x) h = absurd (omega arith)
 slots-again (suc n) [] h = absurd (omega arith)
 slots-again (suc n) (b ∷ x) h =
-    refl & (ap₂ (λ (k r : List ℕ). k ++ r) (fit-take 32 x (omega arith)) (slots-again n (drop 32 x) (omega (arith, length-drop 32 x)))
-    ∙ take-append-drop 32 x)
+    refl & (ap₂ (λ (k r : List ℕ). k ++ r) (fit-take keyBytes x (omega arith)) (slots-again n (drop keyBytes x) (omega (arith, length-drop keyBytes x)))
+    ∙ take-append-drop keyBytes x)

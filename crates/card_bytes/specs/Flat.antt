@@ -1,5 +1,5 @@
 -- A card and a session as bytes, in the order of docs/LAYOUT.md: each field behind the one before it, with no tag and no length.
--- Every length is in bytes; the comment on each definition says how many a value of the code's type has.
+-- A value of the code's type has as many bytes as `specs/Sizes.antt` of crate `card` says of its part.
 use Prim.Native.Nat.{ℕ}
 use mathlib.Core.List.{List, [], _∷_, _++_}
 use Rattle.card.specs.declared.Identity.{Identity}
@@ -12,31 +12,25 @@ use Rattle.card.specs.declared.Card.{Card}
 use Rattle.message.specs.declared.Session.{Session}
 use Rattle.record.specs.Fields.{slotsBytes}
 
--- 81 bytes
 abbrev pub identityFlat : Identity → List ℕ
 identityFlat i = i .uid ++ i .«public_key»
 
--- 21 bytes
 abbrev pub pinsFlat : Pins → List ℕ
 pinsFlat p = p .pin ++ p .puk ++ (p .«pin_tries» ∷ p .«puk_tries» ∷ p .verified ∷ [])
 
--- 230 bytes, of which each of the five slots has 33: its flag and its key
 abbrev pub pairingFlat : Pairing → List ℕ
 pairingFlat p = p .secret ++ slotsBytes (p .slots) ++ (p .pending ∷ p .expected)
 
--- 41 bytes, whatever of the path is in use
+-- the whole room, whatever of the path is in use
 abbrev pub pathFlat : Path → List ℕ
 pathFlat p = p .len ∷ p .bytes
 
--- 115 bytes
 abbrev pub keysFlat : Keys → List ℕ
 keysFlat k = (k .kind ∷ k .uid) ++ pathFlat (k .current) ++ pathFlat (k .pinless)
 
--- 81 bytes
 abbrev pub channelFlat : Channel → List ℕ
 channelFlat c = (c .stage ∷ c .«enc_key») ++ c .«mac_key» ++ c .iv
 
--- 529 bytes
 unfoldable pub cardFlat : Card → List ℕ
 cardFlat c =
     (c .initialised ∷ [])
@@ -46,6 +40,5 @@ cardFlat c =
     ++ keysFlat (c .keys)
     ++ channelFlat (c .channel)
 
--- 80 bytes
 unfoldable pub sessionFlat : Session → List ℕ
 sessionFlat s = s .«enc_key» ++ s .«mac_key» ++ s .iv

@@ -1,4 +1,4 @@
--- The card of 529 bytes and the session of 80: each field by its offset and size in docs/LAYOUT.md, all in bytes.
+-- The card of a card's bytes and the session of a session's: each field by its offset and size, in bytes (docs/LAYOUT.md).
 use Prim.Native.Nat.{ℕ, _+_, _*_}
 use mathlib.Core.List.{List}
 use lib.ListN.{drop, getD}
@@ -9,9 +9,10 @@ use Rattle.card.specs.declared.Path.{Path}
 use Rattle.card.specs.declared.Keys.{Keys}
 use Rattle.card.specs.declared.Channel.{Channel}
 use Rattle.card.specs.declared.Card.{Card}
-use Rattle.card.specs.State.{slotCount}
+use Rattle.card.specs.Sizes.{uidBytes, publicKeyBytes, pinBytes, pukBytes, keyBytes, ivBytes, pathMostBytes, slotBytes, slotCount}
 use Rattle.message.specs.declared.Session.{Session}
 use Rattle.record.specs.Parse.{fit, slotsFrom}
+use Rattle.card_bytes.specs.Offsets.{identityOffset, pinsOffset, pairingOffset, keysOffset, channelOffset, publicKeyOffset, pukOffset, pinTriesOffset, pukTriesOffset, verifiedOffset, slotsOffset, pendingOffset, expectedOffset, keyUidOffset, currentOffset, pinlessOffset, encKeyOffset, macKeyOffset, ivOffset, sessionMacKeyOffset, sessionIvOffset}
 
 -- the byte at an offset, and n bytes from there on; where the list has ended there are zeros
 abbrev pub byteAt : ℕ → List ℕ → ℕ
@@ -21,39 +22,38 @@ abbrev pub bytesAt : ℕ → ℕ → List ℕ → List ℕ
 bytesAt at n s = fit n (drop at s)
 
 abbrev pub identityAt : List ℕ → Identity
-identityAt s = record { uid = bytesAt 1 16 s; «public_key» = bytesAt 17 65 s }
+identityAt s = record { uid = bytesAt identityOffset uidBytes s; «public_key» = bytesAt publicKeyOffset publicKeyBytes s }
 
 abbrev pub pinsAt : List ℕ → Pins
 pinsAt s = record {
-  pin = bytesAt 82 6 s;
-  puk = bytesAt 88 12 s;
-  «pin_tries» = byteAt 100 s;
-  «puk_tries» = byteAt 101 s;
-  verified = byteAt 102 s;
+  pin = bytesAt pinsOffset pinBytes s;
+  puk = bytesAt pukOffset pukBytes s;
+  «pin_tries» = byteAt pinTriesOffset s;
+  «puk_tries» = byteAt pukTriesOffset s;
+  verified = byteAt verifiedOffset s;
 }
 
--- a slot has 33 bytes: its flag and its key
 abbrev pub pairingAt : List ℕ → Pairing
 pairingAt s = record {
-  secret = bytesAt 103 32 s;
-  slots = slotsFrom slotCount (bytesAt 135 (33 * slotCount) s);
-  pending = byteAt 300 s;
-  expected = bytesAt 301 32 s;
+  secret = bytesAt pairingOffset keyBytes s;
+  slots = slotsFrom slotCount (bytesAt slotsOffset (slotBytes * slotCount) s);
+  pending = byteAt pendingOffset s;
+  expected = bytesAt expectedOffset keyBytes s;
 }
 
--- the path at an offset: how many bytes of it are in use, and the 40 bytes
+-- the path at an offset: how many bytes of it are in use, and its room
 abbrev pub pathAt : ℕ → List ℕ → Path
-pathAt at s = record { len = byteAt at s; bytes = bytesAt (at + 1) 40 s }
+pathAt at s = record { len = byteAt at s; bytes = bytesAt (at + 1) pathMostBytes s }
 
 abbrev pub keysAt : List ℕ → Keys
-keysAt s = record { kind = byteAt 333 s; uid = bytesAt 334 32 s; current = pathAt 366 s; pinless = pathAt 407 s }
+keysAt s = record { kind = byteAt keysOffset s; uid = bytesAt keyUidOffset keyBytes s; current = pathAt currentOffset s; pinless = pathAt pinlessOffset s }
 
 abbrev pub channelAt : List ℕ → Channel
 channelAt s = record {
-  stage = byteAt 448 s;
-  «enc_key» = bytesAt 449 32 s;
-  «mac_key» = bytesAt 481 32 s;
-  iv = bytesAt 513 16 s;
+  stage = byteAt channelOffset s;
+  «enc_key» = bytesAt encKeyOffset keyBytes s;
+  «mac_key» = bytesAt macKeyOffset keyBytes s;
+  iv = bytesAt ivOffset ivBytes s;
 }
 
 unfoldable pub cardAt : List ℕ → Card
@@ -67,4 +67,4 @@ cardAt s = record {
 }
 
 unfoldable pub sessionAt : List ℕ → Session
-sessionAt s = record { «enc_key» = bytesAt 0 32 s; «mac_key» = bytesAt 32 32 s; iv = bytesAt 64 16 s }
+sessionAt s = record { «enc_key» = bytesAt 0 keyBytes s; «mac_key» = bytesAt sessionMacKeyOffset keyBytes s; iv = bytesAt sessionIvOffset ivBytes s }

@@ -1,6 +1,6 @@
-// A card as the 529 bytes of its record (docs/LAYOUT.md), and a session as its 80 bytes, for the soft card: from the structs and back.
+// A card as the bytes of its record (docs/LAYOUT.md), and a session as its bytes, for the soft card: from the structs and back.
 // Every length and place is in bytes.
-// Proved: the bytes of a card are its fields in the layout's order (`cardFlat`), the card of 529 bytes has each field from its place in the
+// Proved: the bytes of a card are its fields in the layout's order (`cardFlat`), the card of such bytes has each field from its place in the
 // layout (`cardAt`), its bytes are those given, and the card of a card's bytes is that card. A session likewise.
 mod parts;
 
@@ -8,8 +8,11 @@ ghost use mathlib.Core.Path.{_≡_};
 ghost use mathlib.Core.List.{_++_};
 ghost use Prim.Native.Nat.{_+_, _≤_};
 ghost use lib.ListN.{take};
+ghost use Rattle.card.specs.Sizes.{wholePathBytes, cardBytes};
 ghost use Rattle.card_bytes.specs.Flat.{identityFlat, pinsFlat, pairingFlat, pathFlat, keysFlat, channelFlat, cardFlat, sessionFlat};
+ghost use Rattle.card_bytes.specs.Offsets.{identityOffset, pinsOffset, pairingOffset, keysOffset, channelOffset};
 ghost use Rattle.card_bytes.specs.Places.{identityAt, pinsAt, pairingAt, pathAt, keysAt, channelAt, cardAt, sessionAt};
+pub use card::CARD_BYTES;
 use card::Card;
 use card::Channel;
 use card::Identity;
@@ -17,51 +20,51 @@ use card::Keys;
 use card::Pairing;
 use card::Path;
 use card::Pins;
+pub use card::SESSION_BYTES;
+use card::SLOTS_BYTES;
 use message::Session;
 use octets::put;
 pub use parts::fill;
 pub use parts::place;
-use record::SLOTS_BYTES;
 
-pub const CARD_BYTES: usize = 529;
+// Where the parts of the record begin, each behind the part before it, and the fields behind the first of their part.
+pub const IDENTITY_AT: usize = 1;
 
-pub const SESSION_BYTES: usize = 80;
+pub const PINS_AT: usize = IDENTITY_AT + card::IDENTITY_BYTES;
 
-// Where the parts of the record begin, and some of their fields.
-const IDENTITY: usize = 1;
+pub const PAIRING_AT: usize = PINS_AT + card::PINS_BYTES;
 
-const PINS: usize = 82;
+pub const KEYS_AT: usize = PAIRING_AT + card::PAIRING_BYTES;
 
-const PIN_TRIES: usize = 100;
+pub const CHANNEL_AT: usize = KEYS_AT + card::KEYS_BYTES;
 
-const PUK_TRIES: usize = 101;
+pub const PIN_TRIES_AT: usize = PINS_AT + card::PIN_BYTES + card::PUK_BYTES;
 
-const VERIFIED: usize = 102;
+pub const PUK_TRIES_AT: usize = PIN_TRIES_AT + 1;
 
-const PAIRING: usize = 103;
+pub const VERIFIED_AT: usize = PUK_TRIES_AT + 1;
 
-const SLOTS: usize = 135;
+pub const SLOTS_AT: usize = PAIRING_AT + card::KEY_BYTES;
 
-const PENDING: usize = 300;
+pub const PENDING_AT: usize = SLOTS_AT + card::SLOTS_BYTES;
 
-const KEYS: usize = 333;
+pub const CURRENT_AT: usize = KEYS_AT + 1 + card::KEY_BYTES;
 
-const CURRENT: usize = 366;
+pub const PINLESS_AT: usize = CURRENT_AT + card::PATH_BYTES;
 
-const PINLESS: usize = 407;
+// The session of the channel is the last of the record.
+pub const SESSION_AT: usize = CHANNEL_AT + 1;
 
-const CHANNEL: usize = 448;
+const ENC_KEY_AT: usize = SESSION_AT;
 
-const ENC_KEY: usize = 449;
+const MAC_KEY_AT: usize = ENC_KEY_AT + card::KEY_BYTES;
 
-const MAC_KEY: usize = 481;
-
-const IV: usize = 513;
+const IV_AT: usize = MAC_KEY_AT + card::KEY_BYTES;
 
 // Where the later fields of a session begin.
-const SESSION_MAC_KEY: usize = 32;
+const SESSION_MAC_KEY_AT: usize = card::KEY_BYTES;
 
-const SESSION_IV: usize = 64;
+const SESSION_IV_AT: usize = SESSION_MAC_KEY_AT + card::KEY_BYTES;
 
 // ---- from bytes: each function reads one part of the card, at its place
 fn identity_of(s: [u8; CARD_BYTES]) -> Identity
@@ -69,8 +72,8 @@ fn identity_of(s: [u8; CARD_BYTES]) -> Identity
 {
     let mut uid = [0u8; card::UID_BYTES];
     let mut public_key = [0u8; card::PUBLIC_KEY_BYTES];
-    fill(&mut uid, &s, IDENTITY);
-    fill(&mut public_key, &s, IDENTITY + card::UID_BYTES);
+    fill(&mut uid, &s, IDENTITY_AT);
+    fill(&mut public_key, &s, IDENTITY_AT + card::UID_BYTES);
     Identity { uid, public_key }
 }
 
@@ -79,14 +82,14 @@ fn pins_of(s: [u8; CARD_BYTES]) -> Pins
 {
     let mut pin = [0u8; card::PIN_BYTES];
     let mut puk = [0u8; card::PUK_BYTES];
-    fill(&mut pin, &s, PINS);
-    fill(&mut puk, &s, PINS + card::PIN_BYTES);
+    fill(&mut pin, &s, PINS_AT);
+    fill(&mut puk, &s, PINS_AT + card::PIN_BYTES);
     Pins {
         pin,
         puk,
-        pin_tries: s[PIN_TRIES],
-        puk_tries: s[PUK_TRIES],
-        verified: s[VERIFIED],
+        pin_tries: s[PIN_TRIES_AT],
+        puk_tries: s[PUK_TRIES_AT],
+        verified: s[VERIFIED_AT],
     }
 }
 
@@ -96,20 +99,20 @@ fn pairing_of(s: [u8; CARD_BYTES]) -> Pairing
     let mut secret = [0u8; card::KEY_BYTES];
     let mut content = [0u8; SLOTS_BYTES];
     let mut expected = [0u8; card::KEY_BYTES];
-    fill(&mut secret, &s, PAIRING);
-    fill(&mut content, &s, SLOTS);
-    fill(&mut expected, &s, PENDING + 1);
+    fill(&mut secret, &s, PAIRING_AT);
+    fill(&mut content, &s, SLOTS_AT);
+    fill(&mut expected, &s, PENDING_AT + 1);
     let slots = record_spans::slots_from(content);
     Pairing {
         secret,
         slots,
-        pending: s[PENDING],
+        pending: s[PENDING_AT],
         expected,
     }
 }
 
 fn path_of(s: [u8; CARD_BYTES], at: usize) -> Path
-    requires { ⌜ at + 41 ≤ 529 ⌝ }
+    requires { ⌜ at + wholePathBytes ≤ cardBytes ⌝ }
     ensures { λ r. ⌜ r ≡ pathAt at s ⌝ }
 {
     let mut bytes = [0u8; card::PATH_MAX_BYTES];
@@ -121,11 +124,11 @@ fn keys_of(s: [u8; CARD_BYTES]) -> Keys
     ensures { λ r. ⌜ r ≡ keysAt s ⌝ }
 {
     let mut uid = [0u8; card::KEY_BYTES];
-    fill(&mut uid, &s, KEYS + 1);
-    let current = path_of(s, CURRENT);
-    let pinless = path_of(s, PINLESS);
+    fill(&mut uid, &s, KEYS_AT + 1);
+    let current = path_of(s, CURRENT_AT);
+    let pinless = path_of(s, PINLESS_AT);
     Keys {
-        kind: s[KEYS],
+        kind: s[KEYS_AT],
         uid,
         current,
         pinless,
@@ -138,11 +141,11 @@ fn channel_of(s: [u8; CARD_BYTES]) -> Channel
     let mut enc_key = [0u8; card::KEY_BYTES];
     let mut mac_key = [0u8; card::KEY_BYTES];
     let mut iv = [0u8; card::IV_BYTES];
-    fill(&mut enc_key, &s, ENC_KEY);
-    fill(&mut mac_key, &s, MAC_KEY);
-    fill(&mut iv, &s, IV);
+    fill(&mut enc_key, &s, ENC_KEY_AT);
+    fill(&mut mac_key, &s, MAC_KEY_AT);
+    fill(&mut iv, &s, IV_AT);
     Channel {
-        stage: s[CHANNEL],
+        stage: s[CHANNEL_AT],
         enc_key,
         mac_key,
         iv,
@@ -173,12 +176,12 @@ pub fn card_of(bytes: [u8; CARD_BYTES]) -> Card
 pub fn session_of(bytes: [u8; SESSION_BYTES]) -> Session
     ensures { λ r. ⌜ (sessionFlat r ≡ bytes) × (r ≡ sessionAt bytes) ⌝ }
 {
-    let mut enc_key = [0u8; 32];
-    let mut mac_key = [0u8; 32];
-    let mut iv = [0u8; 16];
+    let mut enc_key = [0u8; card::KEY_BYTES];
+    let mut mac_key = [0u8; card::KEY_BYTES];
+    let mut iv = [0u8; card::IV_BYTES];
     fill(&mut enc_key, &bytes, 0);
-    fill(&mut mac_key, &bytes, SESSION_MAC_KEY);
-    fill(&mut iv, &bytes, SESSION_IV);
+    fill(&mut mac_key, &bytes, SESSION_MAC_KEY_AT);
+    fill(&mut iv, &bytes, SESSION_IV_AT);
     Session {
         enc_key,
         mac_key,
@@ -188,47 +191,47 @@ pub fn session_of(bytes: [u8; SESSION_BYTES]) -> Session
 
 // ---- to bytes: each function writes one part of the card, behind what lies before it in the record
 fn with_identity(s: [u8; CARD_BYTES], x: Identity) -> [u8; CARD_BYTES]
-    ensures { λ r. ⌜ take 1 s ++ identityFlat x ≡ take 82 r ⌝ }
+    ensures { λ r. ⌜ take identityOffset s ++ identityFlat x ≡ take pinsOffset r ⌝ }
 {
     let mut r = s;
     let uid = x.uid;
     let public_key = x.public_key;
-    put(&mut r, IDENTITY, &uid);
-    put(&mut r, IDENTITY + card::UID_BYTES, &public_key);
+    put(&mut r, IDENTITY_AT, &uid);
+    put(&mut r, IDENTITY_AT + card::UID_BYTES, &public_key);
     r
 }
 
 fn with_pins(s: [u8; CARD_BYTES], x: Pins) -> [u8; CARD_BYTES]
-    ensures { λ r. ⌜ take 82 s ++ pinsFlat x ≡ take 103 r ⌝ }
+    ensures { λ r. ⌜ take pinsOffset s ++ pinsFlat x ≡ take pairingOffset r ⌝ }
 {
     let mut r = s;
     let pin = x.pin;
     let puk = x.puk;
     let numbers = [x.pin_tries, x.puk_tries, x.verified];
-    put(&mut r, PINS, &pin);
-    put(&mut r, PINS + card::PIN_BYTES, &puk);
-    put(&mut r, PIN_TRIES, &numbers);
+    put(&mut r, PINS_AT, &pin);
+    put(&mut r, PINS_AT + card::PIN_BYTES, &puk);
+    put(&mut r, PIN_TRIES_AT, &numbers);
     r
 }
 
 fn with_pairing(s: [u8; CARD_BYTES], x: Pairing) -> [u8; CARD_BYTES]
-    ensures { λ r. ⌜ take 103 s ++ pairingFlat x ≡ take 333 r ⌝ }
+    ensures { λ r. ⌜ take pairingOffset s ++ pairingFlat x ≡ take keysOffset r ⌝ }
 {
     let mut r = s;
     let secret = x.secret;
     let slots = x.slots;
     let expected = x.expected;
     let content = record_fields::slots_bytes(slots);
-    put(&mut r, PAIRING, &secret);
-    put(&mut r, SLOTS, &content);
-    r[PENDING] = x.pending;
-    put(&mut r, PENDING + 1, &expected);
+    put(&mut r, PAIRING_AT, &secret);
+    put(&mut r, SLOTS_AT, &content);
+    r[PENDING_AT] = x.pending;
+    put(&mut r, PENDING_AT + 1, &expected);
     r
 }
 
 fn with_path(s: [u8; CARD_BYTES], at: usize, x: Path) -> [u8; CARD_BYTES]
-    requires { ⌜ at + 41 ≤ 529 ⌝ }
-    ensures { λ r. ⌜ take at s ++ pathFlat x ≡ take (at + 41) r ⌝ }
+    requires { ⌜ at + wholePathBytes ≤ cardBytes ⌝ }
+    ensures { λ r. ⌜ take at s ++ pathFlat x ≡ take (at + wholePathBytes) r ⌝ }
 {
     let mut r = s;
     let bytes = x.bytes;
@@ -238,27 +241,27 @@ fn with_path(s: [u8; CARD_BYTES], at: usize, x: Path) -> [u8; CARD_BYTES]
 }
 
 fn with_keys(s: [u8; CARD_BYTES], x: Keys) -> [u8; CARD_BYTES]
-    ensures { λ r. ⌜ take 333 s ++ keysFlat x ≡ take 448 r ⌝ }
+    ensures { λ r. ⌜ take keysOffset s ++ keysFlat x ≡ take channelOffset r ⌝ }
 {
     let mut r = s;
     let uid = x.uid;
-    r[KEYS] = x.kind;
-    put(&mut r, KEYS + 1, &uid);
-    let a = with_path(r, CURRENT, x.current);
-    with_path(a, PINLESS, x.pinless)
+    r[KEYS_AT] = x.kind;
+    put(&mut r, KEYS_AT + 1, &uid);
+    let a = with_path(r, CURRENT_AT, x.current);
+    with_path(a, PINLESS_AT, x.pinless)
 }
 
 fn with_channel(s: [u8; CARD_BYTES], x: Channel) -> [u8; CARD_BYTES]
-    ensures { λ r. ⌜ take 448 s ++ channelFlat x ≡ r ⌝ }
+    ensures { λ r. ⌜ take channelOffset s ++ channelFlat x ≡ r ⌝ }
 {
     let mut r = s;
     let enc_key = x.enc_key;
     let mac_key = x.mac_key;
     let iv = x.iv;
-    r[CHANNEL] = x.stage;
-    put(&mut r, ENC_KEY, &enc_key);
-    put(&mut r, MAC_KEY, &mac_key);
-    put(&mut r, IV, &iv);
+    r[CHANNEL_AT] = x.stage;
+    put(&mut r, ENC_KEY_AT, &enc_key);
+    put(&mut r, MAC_KEY_AT, &mac_key);
+    put(&mut r, IV_AT, &iv);
     r
 }
 
@@ -283,7 +286,7 @@ pub fn session_bytes(x: Session) -> [u8; SESSION_BYTES]
     let mac_key = x.mac_key;
     let iv = x.iv;
     put(&mut r, 0, &enc_key);
-    put(&mut r, SESSION_MAC_KEY, &mac_key);
-    put(&mut r, SESSION_IV, &iv);
+    put(&mut r, SESSION_MAC_KEY_AT, &mac_key);
+    put(&mut r, SESSION_IV_AT, &iv);
     r
 }

@@ -62,7 +62,7 @@ pub fn read(d: Desk, line: &[u8]) -> Desk {
 }
 
 pub fn write(d: Desk, line: &[u8]) -> Desk {
-    let room = args::room(line, 1, refusals::WRITE_ROOM_BYTES);
+    let room = args::room(line, 1, record::WRITE_ROOM_BYTES);
     if !room.ok {
         return d;
     }
@@ -79,7 +79,9 @@ pub fn sound(d: Desk) {
 }
 
 pub fn card(d: Desk) {
-    say(b"card: 529 bytes\n");
+    say(b"card: ");
+    print::say_length(CARD_BYTES);
+    say(b"\n");
     let found = d.card;
     card_show::say_fields(found);
 }

@@ -3,8 +3,19 @@
 // Proved: every function is safe and ends.
 mod fields;
 
+use card::Card;
+use card::SLOT_BYTES;
 use card_bytes::CARD_BYTES;
+use card_bytes::CHANNEL_AT;
+use card_bytes::CURRENT_AT;
+use card_bytes::KEYS_AT;
+use card_bytes::PENDING_AT;
+use card_bytes::PIN_TRIES_AT;
+use card_bytes::PINLESS_AT;
+use card_bytes::PUK_TRIES_AT;
 use card_bytes::SESSION_BYTES;
+use card_bytes::SLOTS_AT;
+use card_bytes::VERIFIED_AT;
 pub use fields::Field;
 pub use fields::find;
 pub use fields::say_fields;
@@ -21,30 +32,31 @@ fn say_path(words: &[u8], len: u8) {
 }
 
 fn say_slots(r: [u8; CARD_BYTES]) {
-    say_number(b", slots ", r[135]);
-    say_number(b" ", r[168]);
-    say_number(b" ", r[201]);
-    say_number(b" ", r[234]);
-    say_number(b" ", r[267]);
+    say(b", slots");
+    let mut i = 0;
+    while i < Card::SLOTS {
+        say_number(b" ", r[SLOTS_AT + SLOT_BYTES * i]);
+        i += 1;
+    }
 }
 
 fn say_pins(r: [u8; CARD_BYTES]) {
-    say_number(b", verified ", r[102]);
-    say_number(b", PIN tries ", r[100]);
-    say_number(b", PUK tries ", r[101]);
+    say_number(b", verified ", r[VERIFIED_AT]);
+    say_number(b", PIN tries ", r[PIN_TRIES_AT]);
+    say_number(b", PUK tries ", r[PUK_TRIES_AT]);
 }
 
 fn say_keys(r: [u8; CARD_BYTES]) {
-    say_number(b", pending ", r[300]);
-    say_number(b", key kind ", r[333]);
-    say_path(b", current path ", r[366]);
-    say_path(b", PIN-less path ", r[407]);
+    say_number(b", pending ", r[PENDING_AT]);
+    say_number(b", key kind ", r[KEYS_AT]);
+    say_path(b", current path ", r[CURRENT_AT]);
+    say_path(b", PIN-less path ", r[PINLESS_AT]);
 }
 
 // One line for the card.
 pub fn say_card(r: [u8; CARD_BYTES]) {
     say_number(b"  card: initialised ", r[0]);
-    say_number(b", stage ", r[448]);
+    say_number(b", stage ", r[CHANNEL_AT]);
     say_pins(r);
     say_slots(r);
     say_keys(r);
@@ -52,7 +64,9 @@ pub fn say_card(r: [u8; CARD_BYTES]) {
 }
 
 pub fn say_session(s: [u8; SESSION_BYTES]) {
-    say(b"session: 80 bytes\n");
+    say(b"session: ");
+    print::say_length(SESSION_BYTES);
+    say(b"\n");
     let x = card_bytes::session_of(s);
     let enc_key = x.enc_key;
     print::say_bytes(b"  enc_key", &enc_key);

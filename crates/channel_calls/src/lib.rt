@@ -185,20 +185,20 @@ fn taken(d: Desk, session: [u8; SESSION_BYTES]) -> Desk {
 fn session_of_card(d: Desk) -> Desk {
     let card = d.card;
     let mut session = [0u8; SESSION_BYTES];
-    card_bytes::fill(&mut session, &card, 449);
+    card_bytes::fill(&mut session, &card, card_bytes::SESSION_AT);
     taken(d, session)
 }
 
 fn session_given(d: Desk, line: &[u8]) -> Desk {
-    let mut enc_key = [0u8; 32];
+    let mut enc_key = [0u8; card::KEY_BYTES];
     if !args::take_exact(line, 1, b"ENC", d.last, &mut enc_key) {
         return d;
     }
-    let mut mac_key = [0u8; 32];
+    let mut mac_key = [0u8; card::KEY_BYTES];
     if !args::take_exact(line, 2, b"MAC", d.last, &mut mac_key) {
         return d;
     }
-    let mut iv = [0u8; 16];
+    let mut iv = [0u8; card::IV_BYTES];
     if !args::take_exact(line, 3, b"IV", d.last, &mut iv) {
         return d;
     }

@@ -7,7 +7,7 @@ use card_bytes::CARD_BYTES;
 use card_bytes::SESSION_BYTES;
 
 // As many bytes as the longest output has: a stored record's.
-const LAST_MAX_BYTES: usize = 448;
+const LAST_MAX_BYTES: usize = record::RECORD_MAX_BYTES;
 
 pub struct Last {
     pub bytes: [u8; LAST_MAX_BYTES],

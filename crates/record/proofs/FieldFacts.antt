@@ -9,6 +9,7 @@ use lib.ListN.{length, take, getD}
 use lib.Seq.{take-suc}
 use Rattle.card.specs.declared.Slot.{Slot}
 use Rattle.record.specs.Fields.{Field, recordField, encode, encodeAll, slotsBytes}
+use Rattle.record.specs.Lengths.{fieldBytes}
 
 -- ---- encodeAll
 pub encode-append : (fs gs : List Field) → encodeAll (fs ++ gs) ≡ encodeAll fs ++ encodeAll gs
@@ -22,7 +23,7 @@ pub encode-one : (t : ℕ) (x : List ℕ) → encodeAll (recordField t x ∷ [])
 unfolding encodeAll
 encode-one t x = append-nil (encode t x)
 
-pub length-encode-one : (t : ℕ) (x : List ℕ) → length (encodeAll (recordField t x ∷ [])) ≡ 3 + length x
+pub length-encode-one : (t : ℕ) (x : List ℕ) → length (encodeAll (recordField t x ∷ [])) ≡ fieldBytes (length x)
 length-encode-one t x = ap length (encode-one t x) ∙ omega arith
 
 -- ---- slotsBytes

@@ -14,6 +14,7 @@ use Rattle.octets.proofs.Lists.{written, _&_}
 use Rattle.card.specs.declared.Slot.{Slot}
 use Rattle.card.specs.declared.Path.{Path}
 use Rattle.card.specs.declared.Keys.{Keys}
+use Rattle.card.specs.Sizes.{keyBytes, pathMostBytes, slotBytes}
 use Rattle.card.specs.State.{zeros, keyUid, pathBytes}
 use Rattle.card.specs.Shape.{KeysLong}
 use Rattle.card.specs.Slots.{isZero, allZero}
@@ -79,13 +80,13 @@ fit-pad (b ∷ x) m zero e = absurd (omega arith)
 fit-pad (b ∷ x) m (suc n) e = refl & fit-pad x m n (omega arith)
 
 -- ---- the parts of a sound card
-pub path-back : (p : Path) → PathRules p → length (p .bytes) ≡ 40 → pathFrom (pathBytes p) ≡ p
+pub path-back : (p : Path) → PathRules p → length (p .bytes) ≡ pathMostBytes → pathFrom (pathBytes p) ≡ p
 path-back p r l =
     ap₂ {C = Path} (λ (n : ℕ) (b : List ℕ). record { len = n; bytes = b })
-    (ap (λ (n : ℕ). min n 40) long ∙ min-eq-left most)
-    (fit-pad (pathBytes p) (length unused) 40 (omega (arith, most, long, length-drop (p .len) (p .bytes))) ∙ joined)
+    (ap (λ (n : ℕ). min n pathMostBytes) long ∙ min-eq-left most)
+    (fit-pad (pathBytes p) (length unused) pathMostBytes (omega (arith, most, long, length-drop (p .len) (p .bytes))) ∙ joined)
   where
-    most : p .len ≤ 40
+    most : p .len ≤ pathMostBytes
     most = leb-true _ _ (r .most)
 
     unused : List ℕ
@@ -97,15 +98,15 @@ path-back p r l =
     joined : pathBytes p ++ zeros (length unused) ≡ p .bytes
     joined = ap (λ (x : List ℕ). pathBytes p ++ x) (sym (zero-list unused (r .unused))) ∙ take-append-drop (p .len) (p .bytes)
 
-pub key-back : (k : Keys) → (not (isZero (k .kind)) || allZero (k .uid)) ≡ true → length (k .uid) ≡ 32
-    → fit 32 (keyUid k) ≡ k .uid
+pub key-back : (k : Keys) → (not (isZero (k .kind)) || allZero (k .uid)) ≡ true → length (k .uid) ≡ keyBytes
+    → fit keyBytes (keyUid k) ≡ k .uid
 key-back k r l = by-kind (isZero (k .kind)) refl r
   where
-    by-kind : (b : Bool) → isZero (k .kind) ≡ b → (not b || allZero (k .uid)) ≡ true → fit 32 (cond b [] (k .uid)) ≡ k .uid
+    by-kind : (b : Bool) → isZero (k .kind) ≡ b → (not b || allZero (k .uid)) ≡ true → fit keyBytes (cond b [] (k .uid)) ≡ k .uid
     by-kind true z h = sym (zero-list (k .uid) h ∙ ap zeros l)
-    by-kind false z h = fit-exact 32 (k .uid) l
+    by-kind false z h = fit-exact keyBytes (k .uid) l
 
-pub slots-long : (s : List Slot) → KeysLong s → length (slotsBytes s) ≡ 33 * length s
+pub slots-long : (s : List Slot) → KeysLong s → length (slotsBytes s) ≡ slotBytes * length s
 unfolding slotsBytes
 slots-long [] h = refl
 slots-long (x ∷ s) h =
@@ -116,5 +117,5 @@ unfolding slotsBytes slotsFrom
 slots-back [] h = refl
 slots-back (x ∷ s) h =
     ap₂ {C = List Slot} (λ (y : Slot) (r : List Slot). y ∷ r)
-    (ap {B = Slot} (λ (k : List ℕ). record { filled = x .filled; key = k }) (fit-front 32 (x .key) (slotsBytes s) (h .0)))
-    (ap (slotsFrom (length s)) (drop-at (x .filled ∷ x .key) (slotsBytes s) 33 (omega (arith, h .0))) ∙ slots-back s (h .1))
+    (ap {B = Slot} (λ (k : List ℕ). record { filled = x .filled; key = k }) (fit-front keyBytes (x .key) (slotsBytes s) (h .0)))
+    (ap (slotsFrom (length s)) (drop-at (x .filled ∷ x .key) (slotsBytes s) slotBytes (omega (arith, h .0))) ∙ slots-back s (h .1))

@@ -14,6 +14,7 @@ use Rattle.octets.specs.Bytes.{sameBytes}
 use Rattle.octets.proofs.Lists.{same-refl, same-eq}
 use Rattle.card.specs.declared.Card.{Card}
 use Rattle.card.specs.declared.Path.{Path}
+use Rattle.card.specs.Sizes.{uidBytes, publicKeyBytes, keyBytes, pathMostBytes}
 use Rattle.card.specs.State.{zeros, freshOf, resetOf, keyUid, pathBytes}
 use Rattle.card.specs.Shape.{Shaped}
 use Rattle.card.specs.Slots.{isZero}
@@ -22,9 +23,10 @@ use Rattle.card.proofs.Tests.{both}
 use Rattle.card.proofs.Rules.{sound-cases}
 use Rattle.card.proofs.SoundFacts.{fresh-sound, reset-sound, path-lengths}
 use Rattle.sound.specs.declared.Answer.{Answer}
-use Rattle.refusals.specs.Refusals.{noRefusal, unsound, noRoom, notRecord, writeRoom}
+use Rattle.refusals.specs.Refusals.{noRefusal, unsound, noRoom, notRecord}
 use Rattle.sound.specs.Reset.{done, refused}
 use Rattle.record.specs.Fields.{Field, encode, encodeAll, identityFields, ownerFields, fields, recordOf}
+use Rattle.record.specs.Lengths.{fieldBytes, recordFresh, recordLeast, recordMost, writeRoom}
 use Rattle.record.specs.Parse.{cardOf}
 use Rattle.record.specs.Answers.{writeRefusal, writeBytes, isRecordOf, readAnswer}
 use Rattle.record.proofs.ParseFacts.{slots-long}
@@ -62,13 +64,13 @@ pub record Took (s : List ℕ) (c : Card) : Type 0 where
 
 -- the two answers
 pub read-cases : (s : List ℕ)
-    → ((readAnswer s ≡ done (cardOf s)) × Took s (cardOf s)) ⊎ (readAnswer s ≡ refused notRecord (freshOf (zeros 16) (zeros 65)))
+    → ((readAnswer s ≡ done (cardOf s)) × Took s (cardOf s)) ⊎ (readAnswer s ≡ refused notRecord (freshOf (zeros uidBytes) (zeros publicKeyBytes)))
 unfolding readAnswer isRecordOf
 read-cases s = by-test (isRecordOf s (cardOf s)) refl
   where
     by-test : (b : Bool) → isRecordOf s (cardOf s) ≡ b
-        → ((cond b (done (cardOf s)) (refused notRecord (freshOf (zeros 16) (zeros 65))) ≡ done (cardOf s)) × Took s (cardOf s))
-        ⊎ (cond b (done (cardOf s)) (refused notRecord (freshOf (zeros 16) (zeros 65))) ≡ refused notRecord (freshOf (zeros 16) (zeros 65)))
+        → ((cond b (done (cardOf s)) (refused notRecord (freshOf (zeros uidBytes) (zeros publicKeyBytes))) ≡ done (cardOf s)) × Took s (cardOf s))
+        ⊎ (cond b (done (cardOf s)) (refused notRecord (freshOf (zeros uidBytes) (zeros publicKeyBytes))) ≡ refused notRecord (freshOf (zeros uidBytes) (zeros publicKeyBytes)))
     by-test true e =
         let h = both (isSound (cardOf s)) (sameBytes (recordOf (cardOf s)) s) e in
         inl (refl, record { sound = h .0; written = same-eq (recordOf (cardOf s)) s (h .1) })
@@ -82,7 +84,7 @@ card-of-reset s = refl
 pub read-sound : (s : List ℕ) → isSound (readAnswer s .card) ≡ true
 read-sound s = ⊎-elim
     (λ t. ap (λ (a : Answer). isSound (a .card)) (t .0) ∙ t .1 .sound)
-    (λ e. ap (λ (a : Answer). isSound (a .card)) e ∙ fresh-sound (zeros 16) (zeros 65))
+    (λ e. ap (λ (a : Answer). isSound (a .card)) e ∙ fresh-sound (zeros uidBytes) (zeros publicKeyBytes))
     (read-cases s)
 
 pub read-reset : (s : List ℕ) → resetOf (readAnswer s .card) ≡ readAnswer s .card
@@ -118,7 +120,7 @@ read-refuses s h c w e r = zero-eight (sym (ap (λ (a : Answer). a .refusal) (re
 -- ---- how long a record is
 abbrev total : List Field → ℕ
 total [] = 0
-total (f ∷ more) = 3 + length (f .content) + total more
+total (f ∷ more) = fieldBytes (length (f .content)) + total more
 
 length-all : (fs : List Field) → length (encodeAll fs) ≡ total fs
 unfolding encodeAll
@@ -126,24 +128,24 @@ length-all [] = refl
 length-all (f ∷ fs) = omega (arith, length-append (encode (f .tag) (f .content)) (encodeAll fs), length-all fs)
 
 module _ (c : Card) (w : Shaped c) where
-  pub length-before : c .initialised ≡ 0 → length (recordOf c) ≡ 91
+  pub length-before : c .initialised ≡ 0 → length (recordOf c) ≡ recordFresh
   unfolding recordOf fields
   length-before i =
       ap (λ (n : ℕ). length (encodeAll (identityFields (c .initialised) (c .identity) ++ cond (isZero n) [] (ownerFields c)))) i
       ∙ length-all (identityFields (c .initialised) (c .identity))
       ∙ omega (arith, w .uid, w .«public_key»)
 
-  key-length : length (keyUid (c .keys)) ≤ 32
+  key-length : length (keyUid (c .keys)) ≤ keyBytes
   key-length = by-kind (isZero (c .keys .kind))
     where
-      by-kind : (b : Bool) → length (cond b [] (c .keys .uid)) ≤ 32
+      by-kind : (b : Bool) → length (cond b [] (c .keys .uid)) ≤ keyBytes
       by-kind true = omega arith
       by-kind false = omega (arith, w .keyuid)
 
-  path-length : (p : Path) → p .len ≤ 40 → length (p .bytes) ≡ 40 → length (pathBytes p) ≤ 40
+  path-length : (p : Path) → p .len ≤ pathMostBytes → length (p .bytes) ≡ pathMostBytes → length (pathBytes p) ≤ pathMostBytes
   path-length p h l = omega (arith, length-take-le (p .len) (p .bytes) (omega arith))
 
-  pub length-after : c .initialised ≡ 1 → isSound c ≡ true → (336 ≤ length (recordOf c)) × (length (recordOf c) ≤ writeRoom)
+  pub length-after : c .initialised ≡ 1 → isSound c ≡ true → (recordLeast ≤ length (recordOf c)) × (length (recordOf c) ≤ recordMost)
   unfolding recordOf fields
   length-after i e =
       let l = ap (λ (n : ℕ). length (encodeAll (identityFields (c .initialised) (c .identity) ++ cond (isZero n) [] (ownerFields c)))) i
@@ -164,6 +166,6 @@ module _ (c : Card) (w : Shaped c) where
         path-length (c .keys .pinless) (m .1) (w .pinless),
       )
 
-  -- 91 bytes before INIT, 336 to 448 after it
-  pub record-length : isSound c ≡ true → (length (recordOf c) ≡ 91) ⊎ ((336 ≤ length (recordOf c)) × (length (recordOf c) ≤ writeRoom))
+  -- before INIT and after it
+  pub record-length : isSound c ≡ true → (length (recordOf c) ≡ recordFresh) ⊎ ((recordLeast ≤ length (recordOf c)) × (length (recordOf c) ≤ recordMost))
   record-length e = ⊎-elim (λ b. inl (length-before (b .flag))) (λ a. inr (length-after (a .flag) e)) (sound-cases c e)

@@ -13,7 +13,8 @@ use Rattle.card.specs.declared.Keys.{Keys}
 use Rattle.card.specs.declared.Pins.{Pins}
 use Rattle.card.specs.declared.Pairing.{Pairing}
 use Rattle.card.specs.declared.Card.{Card}
-use Rattle.card.specs.State.{zeros, slotCount, resetOf, closedOf, unverified, notPending, pathBytes}
+use Rattle.card.specs.Sizes.{uidBytes, publicKeyBytes, pinBytes, pukBytes, keyBytes, slotBytes, slotCount}
+use Rattle.card.specs.State.{zeros, resetOf, closedOf, unverified, notPending, pathBytes}
 use Rattle.card.specs.Shape.{Shaped}
 use Rattle.card.specs.Slots.{isZero}
 use Rattle.card.specs.Sound.{isSound}
@@ -44,27 +45,27 @@ same-card i {d} {e} {p} {r} {q} {t} {k} {m} f g h j =
 
 -- ---- after INIT
 module _ (c : Card) (w : Shaped c) where
-  identity-back : _≡_ {A = Identity} (record { uid = fit 16 (c .identity .uid); «public_key» = fit 65 (c .identity .«public_key») }) (c .identity)
+  identity-back : _≡_ {A = Identity} (record { uid = fit uidBytes (c .identity .uid); «public_key» = fit publicKeyBytes (c .identity .«public_key») }) (c .identity)
   identity-back =
       ap₂ {C = Identity} (λ (u k : List ℕ). record { uid = u; «public_key» = k })
-      (fit-exact 16 (c .identity .uid) (w .uid)) (fit-exact 65 (c .identity .«public_key») (w .«public_key»))
+      (fit-exact uidBytes (c .identity .uid) (w .uid)) (fit-exact publicKeyBytes (c .identity .«public_key») (w .«public_key»))
 
   pins-back : pinsFrom (λ k. firstContent (drop k (table c))) ≡ unverified (c .pins)
   pins-back =
       ap₂ {C = Pins}
       (λ (x y : List ℕ). record { pin = x; puk = y; «pin_tries» = c .pins .«pin_tries»; «puk_tries» = c .pins .«puk_tries»; verified = 0 })
-      (fit-exact 6 (c .pins .pin) (w .pin)) (fit-exact 12 (c .pins .puk) (w .puk))
+      (fit-exact pinBytes (c .pins .pin) (w .pin)) (fit-exact pukBytes (c .pins .puk) (w .puk))
 
-  slots-here : slotsFrom slotCount (fit (33 * slotCount) (slotsBytes (c .pairing .slots))) ≡ c .pairing .slots
+  slots-here : slotsFrom slotCount (fit (slotBytes * slotCount) (slotsBytes (c .pairing .slots))) ≡ c .pairing .slots
   slots-here =
-      ap (slotsFrom slotCount) (fit-exact (33 * slotCount) (slotsBytes (c .pairing .slots)) (omega (arith, slots-long (c .pairing .slots) (w .keys), w .slots)))
+      ap (slotsFrom slotCount) (fit-exact (slotBytes * slotCount) (slotsBytes (c .pairing .slots)) (omega (arith, slots-long (c .pairing .slots) (w .keys), w .slots)))
       ∙ ap (λ (n : ℕ). slotsFrom n (slotsBytes (c .pairing .slots))) (sym (w .slots))
       ∙ slots-back (c .pairing .slots) (w .keys)
 
   pairing-back : pairingFrom (λ k. firstContent (drop k (table c))) ≡ notPending (c .pairing)
   pairing-back =
-      ap₂ {C = Pairing} (λ (x : List ℕ) (s : List Slot). record { secret = x; slots = s; pending = 0; expected = zeros 32 })
-      (fit-exact 32 (c .pairing .secret) (w .secret)) slots-here
+      ap₂ {C = Pairing} (λ (x : List ℕ) (s : List Slot). record { secret = x; slots = s; pending = 0; expected = zeros keyBytes })
+      (fit-exact keyBytes (c .pairing .secret) (w .secret)) slots-here
 
   keys-back : KeysRules (c .keys) → keysFrom (λ k. firstContent (drop k (table c))) ≡ c .keys
   keys-back r =

@@ -3,15 +3,17 @@ use Prim.Native.Nat.{ℕ}
 use mathlib.Core.Bool.{Bool, cond, _&&_}
 use mathlib.Core.List.{List, []}
 use lib.Dec.{ltb}
-use Rattle.refusals.specs.Refusals.{noRefusal, unsound, noRoom, notRecord, writeRoom}
+use Rattle.refusals.specs.Refusals.{noRefusal, unsound, noRoom, notRecord}
 use Rattle.octets.specs.Bytes.{sameBytes}
 use Rattle.card.specs.declared.Card.{Card}
+use Rattle.card.specs.Sizes.{uidBytes, publicKeyBytes}
 use Rattle.card.specs.State.{freshOf, zeros}
 use Rattle.card.specs.Sound.{isSound}
 use Rattle.sound.specs.Reset.{refused, done}
 use Rattle.sound.specs.declared.Answer.{Answer}
 use Rattle.record.specs.Fields.{recordOf}
 use Rattle.record.specs.Parse.{cardOf}
+pub use Rattle.record.specs.Lengths.{writeRoom}
 
 -- ---- WRITE of a card into a buffer of `room` bytes: the refusal's number or 0, and the bytes written
 unfoldable pub writeRefusal : Card → ℕ → ℕ
@@ -26,4 +28,4 @@ unfoldable pub isRecordOf : List ℕ → Card → Bool
 isRecordOf s c = isSound c && sameBytes (recordOf c) s
 
 unfoldable pub readAnswer : List ℕ → Answer
-readAnswer s = cond (isRecordOf s (cardOf s)) (done (cardOf s)) (refused notRecord (freshOf (zeros 16) (zeros 65)))
+readAnswer s = cond (isRecordOf s (cardOf s)) (done (cardOf s)) (refused notRecord (freshOf (zeros uidBytes) (zeros publicKeyBytes)))

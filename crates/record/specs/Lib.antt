@@ -1,3 +1,4 @@
 pub mod Fields
+pub mod Lengths
 pub mod Parse
 pub mod Answers

@@ -11,7 +11,9 @@ use Rattle.card.specs.declared.Pairing.{Pairing}
 use Rattle.card.specs.declared.Path.{Path}
 use Rattle.card.specs.declared.Keys.{Keys}
 use Rattle.card.specs.declared.Card.{Card}
-use Rattle.card.specs.State.{slotCount, zeros, closedOf}
+use Rattle.card.specs.Sizes.{uidBytes, publicKeyBytes, pinBytes, pukBytes, keyBytes, pathMostBytes, slotBytes, slotCount}
+use Rattle.card.specs.State.{zeros, closedOf}
+use Rattle.record.specs.Lengths.{headBytes}
 
 -- ---- fields of a list of bytes
 -- the length that the first field's head gives, its content, and what stands behind it
@@ -19,10 +21,10 @@ abbrev pub headLength : List ℕ → ℕ
 headLength s = getD s 1 0 * 256 + getD s 2 0
 
 unfoldable pub body : List ℕ → List ℕ
-body s = take (headLength s) (drop 3 s)
+body s = take (headLength s) (drop headBytes s)
 
 unfoldable pub rest : List ℕ → List ℕ
-rest s = drop (headLength s) (drop 3 s)
+rest s = drop (headLength s) (drop headBytes s)
 
 -- what stands behind the first k fields, and the content of the field number k, counted from 0
 abbrev pub behind : ℕ → List ℕ → List ℕ
@@ -38,22 +40,22 @@ abbrev pub fit : ℕ → List ℕ → List ℕ
 fit n x = tabulate n (λ k. getD x k 0)
 
 abbrev pub pathFrom : List ℕ → Path
-pathFrom x = record { len = min (length x) 40; bytes = fit 40 x }
+pathFrom x = record { len = min (length x) pathMostBytes; bytes = fit pathMostBytes x }
 
 abbrev pub slotFrom : List ℕ → Slot
-slotFrom x = record { filled = getD x 0 0; key = fit 32 (drop 1 x) }
+slotFrom x = record { filled = getD x 0 0; key = fit keyBytes (drop 1 x) }
 
 unfoldable pub slotsFrom : ℕ → List ℕ → List Slot
 slotsFrom zero x = []
-slotsFrom (suc n) x = slotFrom x ∷ slotsFrom n (drop 33 x)
+slotsFrom (suc n) x = slotFrom x ∷ slotsFrom n (drop slotBytes x)
 
 abbrev pub identityFrom : (ℕ → List ℕ) → Identity
-identityFrom f = record { uid = fit 16 (f 1); «public_key» = fit 65 (f 2) }
+identityFrom f = record { uid = fit uidBytes (f 1); «public_key» = fit publicKeyBytes (f 2) }
 
 abbrev pub pinsFrom : (ℕ → List ℕ) → Pins
 pinsFrom f = record {
-  pin = fit 6 (f 3);
-  puk = fit 12 (f 4);
+  pin = fit pinBytes (f 3);
+  puk = fit pukBytes (f 4);
   «pin_tries» = getD (f 6) 0 0;
   «puk_tries» = getD (f 6) 1 0;
   verified = 0;
@@ -61,16 +63,16 @@ pinsFrom f = record {
 
 abbrev pub pairingFrom : (ℕ → List ℕ) → Pairing
 pairingFrom f = record {
-  secret = fit 32 (f 5);
-  slots = slotsFrom slotCount (fit (33 * slotCount) (f 7));
+  secret = fit keyBytes (f 5);
+  slots = slotsFrom slotCount (fit (slotBytes * slotCount) (f 7));
   pending = 0;
-  expected = zeros 32;
+  expected = zeros keyBytes;
 }
 
 abbrev pub keysFrom : (ℕ → List ℕ) → Keys
 keysFrom f = record {
   kind = getD (f 8) 0 0;
-  uid = fit 32 (f 9);
+  uid = fit keyBytes (f 9);
   current = pathFrom (f 10);
   pinless = pathFrom (f 11);
 }

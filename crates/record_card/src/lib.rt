@@ -9,7 +9,7 @@ use card::Identity;
 use card::Keys;
 use card::Pairing;
 use card::Pins;
-use record::SLOTS_BYTES;
+use card::SLOTS_BYTES;
 use record_spans::slots_from;
 use record_spans::take_field;
 use record_spans::take_path;

@@ -8,19 +8,21 @@ use lib.ListN.{length, take, getD, length-append}
 use Rattle.octets.specs.Bytes.{overwrite}
 use Rattle.octets.proofs.Lists.{overwrite-next, length-overwrite, take-overwrite}
 use Rattle.card.specs.declared.Slot.{Slot}
+use Rattle.card.specs.Sizes.{keyBytes, slotBytes}
+use Rattle.record.specs.Lengths.{headBytes}
 use Rattle.record.specs.Fields.{Field, recordField, encodeAll, slotsBytes}
 use Rattle.record.proofs.FieldFacts.{encode-append, encode-one, length-encode-one, slots-suc}
 use Rattle.record_fields.specs.Put.{Put}
 
 -- ---- one field: its head and then its content
-pub put-one : (t : ℕ) (x : List ℕ) (at : ℕ) (b m a : List ℕ) → at + 3 + length x ≤ length b
-    → m ≡ overwrite b at (t ∷ length x / 256 ∷ length x % 256 ∷ []) → a ≡ overwrite m (at + 3) x
-    → Put (recordField t x ∷ []) at b (at + 3 + length x) a
+pub put-one : (t : ℕ) (x : List ℕ) (at : ℕ) (b m a : List ℕ) → at + headBytes + length x ≤ length b
+    → m ≡ overwrite b at (t ∷ length x / 256 ∷ length x % 256 ∷ []) → a ≡ overwrite m (at + headBytes) x
+    → Put (recordField t x ∷ []) at b (at + headBytes + length x) a
 put-one t x at b m a fits p q = record {
   place = omega (arith, length-encode-one t x);
   bytes =
-      q ∙ ap (λ (l : List ℕ). overwrite l (at + 3) x) p
-      ∙ overwrite-next b at (at + 3) (t ∷ length x / 256 ∷ length x % 256 ∷ []) x refl fits
+      q ∙ ap (λ (l : List ℕ). overwrite l (at + headBytes) x) p
+      ∙ overwrite-next b at (at + headBytes) (t ∷ length x / 256 ∷ length x % 256 ∷ []) x refl fits
       ∙ ap (overwrite b at) (sym (encode-one t x));
 }
 
@@ -45,18 +47,18 @@ put-length {fs} {at} {b} {r} {a} p fits =
     ap length (p .bytes) ∙ length-overwrite b at (encodeAll fs) (omega (arith, p .place))
 
 -- ---- the slots' content: one slot more
-pub slots-next : (s : List Slot) (k : ℕ) (d : Slot) (out m : List ℕ) → k < length s → length (getD s k d .key) ≡ 32
-    → 33 * k + 33 ≤ length out → take (33 * k) out ≡ slotsBytes (take k s)
-    → m ≡ overwrite out (33 * k) (getD s k d .filled ∷ getD s k d .key)
-    → take (33 * (k + 1)) m ≡ slotsBytes (take (k + 1) s)
+pub slots-next : (s : List Slot) (k : ℕ) (d : Slot) (out m : List ℕ) → k < length s → length (getD s k d .key) ≡ keyBytes
+    → slotBytes * k + slotBytes ≤ length out → take (slotBytes * k) out ≡ slotsBytes (take k s)
+    → m ≡ overwrite out (slotBytes * k) (getD s k d .filled ∷ getD s k d .key)
+    → take (slotBytes * (k + 1)) m ≡ slotsBytes (take (k + 1) s)
 slots-next s k d out m h long fits done put =
     ap₂ (λ (n : ℕ) (l : List ℕ). take n l) wide put
-    ∙ take-overwrite out (33 * k) one (omega (arith, long))
+    ∙ take-overwrite out (slotBytes * k) one (omega (arith, long))
     ∙ ap (λ (l : List ℕ). l ++ one) done
     ∙ sym (slots-suc s k d h)
   where
     one : List ℕ
     one = getD s k d .filled ∷ getD s k d .key
 
-    wide : 33 * (k + 1) ≡ 33 * k + length one
+    wide : slotBytes * (k + 1) ≡ slotBytes * k + length one
     wide = omega (arith, long)

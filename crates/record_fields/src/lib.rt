@@ -7,15 +7,17 @@ ghost use Prim.Native.Nat.{_+_, _≤_, _<_};
 ghost use lib.ListN.{length};
 ghost use Rattle.octets.specs.Bytes.{overwrite};
 ghost use Rattle.card.specs.State.{keyUid, pathBytes};
+ghost use Rattle.card.specs.Sizes.{keyBytes, pathMostBytes, slotBytes};
 ghost use Rattle.record.specs.Fields.{recordField, slotsBytes};
+ghost use Rattle.record.specs.Lengths.{headBytes, fieldBytes};
 ghost use Rattle.record_fields.specs.Put.{Put};
 use card::Card;
 use card::Keys;
 use card::Path;
+use card::SLOT_BYTES;
+use card::SLOTS_BYTES;
 use card::Slot;
 use record::HEAD_BYTES;
-use record::SLOT_BYTES;
-use record::SLOTS_BYTES;
 
 // The tag of the key UID.
 const TAG_KEY_UID: u8 = 0x31;
@@ -25,8 +27,8 @@ const BYTE_VALUES: usize = 256;
 
 // Writes a field at a place, and gives the place behind it.
 pub fn put_field(buf: &mut [u8], at: usize, tag: u8, src: &[u8]) -> usize
-    requires { ⌜ (length (now src) < 65536) × (at + 3 + length (now src) ≤ length (now buf)) ⌝ }
-    ensures { λ r. ⌜ (Put (recordField tag (now (src .entry)) ∷ []) at (now (buf .entry)) r (now (buf .exit))) × (r ≡ at + 3 + length (now (src .entry))) ⌝ }
+    requires { ⌜ (length (now src) < 65536) × (at + headBytes + length (now src) ≤ length (now buf)) ⌝ }
+    ensures { λ r. ⌜ (Put (recordField tag (now (src .entry)) ∷ []) at (now (buf .entry)) r (now (buf .exit))) × (r ≡ at + headBytes + length (now (src .entry))) ⌝ }
 {
     let high = (src.len() / BYTE_VALUES) as u8;
     let low = (src.len() % BYTE_VALUES) as u8;
@@ -39,8 +41,8 @@ pub fn put_field(buf: &mut [u8], at: usize, tag: u8, src: &[u8]) -> usize
 
 // Writes a slot's flag and key at a place.
 fn put_slot(buf: &mut [u8], at: usize, slot: Slot)
-    requires { ⌜ at + 33 ≤ length (now buf) ⌝ }
-    ensures { λ _. ⌜ (length (slot .key) ≡ 32) × (now (buf .exit) ≡ overwrite (now (buf .entry)) at (slot .filled ∷ slot .key)) ⌝ }
+    requires { ⌜ at + slotBytes ≤ length (now buf) ⌝ }
+    ensures { λ _. ⌜ (length (slot .key) ≡ keyBytes) × (now (buf .exit) ≡ overwrite (now (buf .entry)) at (slot .filled ∷ slot .key)) ⌝ }
 {
     let flag = [slot.filled];
     let key = slot.key;
@@ -63,8 +65,8 @@ pub fn slots_bytes(slots: [Slot; Card::SLOTS]) -> [u8; SLOTS_BYTES]
 }
 
 pub fn put_path(buf: &mut [u8], at: usize, tag: u8, p: Path) -> usize
-    requires { ⌜ (p .len ≤ 40) × (at + 43 ≤ length (now buf)) ⌝ }
-    ensures { λ r. ⌜ (Put (recordField tag (pathBytes p) ∷ []) at (now (buf .entry)) r (now (buf .exit))) × (r ≤ at + 43) ⌝ }
+    requires { ⌜ (p .len ≤ pathMostBytes) × (at + fieldBytes pathMostBytes ≤ length (now buf)) ⌝ }
+    ensures { λ r. ⌜ (Put (recordField tag (pathBytes p) ∷ []) at (now (buf .entry)) r (now (buf .exit))) × (r ≤ at + fieldBytes pathMostBytes) ⌝ }
 {
     let bytes = p.bytes;
     let len = card::wide(p.len);
@@ -72,8 +74,8 @@ pub fn put_path(buf: &mut [u8], at: usize, tag: u8, p: Path) -> usize
 }
 
 pub fn put_key_uid(buf: &mut [u8], at: usize, k: Keys) -> usize
-    requires { ⌜ at + 35 ≤ length (now buf) ⌝ }
-    ensures { λ r. ⌜ (Put (recordField 0x31 (keyUid k) ∷ []) at (now (buf .entry)) r (now (buf .exit))) × (r ≤ at + 35) ⌝ }
+    requires { ⌜ at + fieldBytes keyBytes ≤ length (now buf) ⌝ }
+    ensures { λ r. ⌜ (Put (recordField 0x31 (keyUid k) ∷ []) at (now (buf .entry)) r (now (buf .exit))) × (r ≤ at + fieldBytes keyBytes) ⌝ }
 {
     let uid = k.uid;
     if k.kind == 0 {

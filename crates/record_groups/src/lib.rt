@@ -2,10 +2,11 @@
 // Every length, place and count is in bytes.
 // Proved: the fields of the group stand one behind the other, nothing else has changed, and the place behind them is told.
 ghost use mathlib.Core.Path.{_≡_};
-ghost use Prim.Native.Nat.{_+_, _*_, _≤_};
+ghost use Prim.Native.Nat.{_+_, _≤_};
 ghost use lib.ListN.{length};
-ghost use Rattle.card.specs.State.{slotCount};
+ghost use Rattle.card.specs.Sizes.{pathMostBytes};
 ghost use Rattle.record.specs.Fields.{identityFields, secretFields, keyFields};
+ghost use Rattle.record.specs.Lengths.{identityFieldsBytes, secretFieldsBytes, keyFieldsMost};
 ghost use Rattle.record_fields.specs.Put.{Put};
 use card::Identity;
 use card::Keys;
@@ -40,8 +41,8 @@ const TAG_CURRENT: u8 = 0x32;
 const TAG_PINLESS: u8 = 0x33;
 
 pub fn put_identity(buf: &mut [u8], initialised: u8, identity: Identity) -> usize
-    requires { ⌜ 91 ≤ length (now buf) ⌝ }
-    ensures { λ r. ⌜ (Put (identityFields initialised identity) 0 (now (buf .entry)) r (now (buf .exit))) × (r ≡ 91) ⌝ }
+    requires { ⌜ identityFieldsBytes ≤ length (now buf) ⌝ }
+    ensures { λ r. ⌜ (Put (identityFields initialised identity) 0 (now (buf .entry)) r (now (buf .exit))) × (r ≡ identityFieldsBytes) ⌝ }
 {
     let flag = [initialised];
     let uid = identity.uid;
@@ -52,8 +53,8 @@ pub fn put_identity(buf: &mut [u8], initialised: u8, identity: Identity) -> usiz
 }
 
 pub fn put_secrets(buf: &mut [u8], at: usize, pins: Pins, pairing: Pairing) -> usize
-    requires { ⌜ at + (67 + 33 * slotCount) ≤ length (now buf) ⌝ }
-    ensures { λ r. ⌜ (Put (secretFields pins pairing) at (now (buf .entry)) r (now (buf .exit))) × (r ≡ at + (67 + 33 * slotCount)) ⌝ }
+    requires { ⌜ at + secretFieldsBytes ≤ length (now buf) ⌝ }
+    ensures { λ r. ⌜ (Put (secretFields pins pairing) at (now (buf .entry)) r (now (buf .exit))) × (r ≡ at + secretFieldsBytes) ⌝ }
 {
     let pin = pins.pin;
     let puk = pins.puk;
@@ -69,8 +70,8 @@ pub fn put_secrets(buf: &mut [u8], at: usize, pins: Pins, pairing: Pairing) -> u
 }
 
 pub fn put_keys(buf: &mut [u8], at: usize, keys: Keys) -> usize
-    requires { ⌜ (keys .current .len ≤ 40) × ((keys .pinless .len ≤ 40) × (at + 125 ≤ length (now buf))) ⌝ }
-    ensures { λ r. ⌜ (Put (keyFields keys) at (now (buf .entry)) r (now (buf .exit))) × (r ≤ at + 125) ⌝ }
+    requires { ⌜ (keys .current .len ≤ pathMostBytes) × ((keys .pinless .len ≤ pathMostBytes) × (at + keyFieldsMost ≤ length (now buf))) ⌝ }
+    ensures { λ r. ⌜ (Put (keyFields keys) at (now (buf .entry)) r (now (buf .exit))) × (r ≤ at + keyFieldsMost) ⌝ }
 {
     let kind = [keys.kind];
     let current = keys.current;

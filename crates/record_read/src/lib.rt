@@ -5,10 +5,10 @@
 ghost use mathlib.Core.Path.{_≡_};
 ghost use Rattle.record.specs.Answers.{isRecordOf, readAnswer};
 use card::Card;
+use record::WRITE_ROOM_BYTES;
 use record_card::card_of;
 use refusals::REFUSAL_NONE;
 use refusals::REFUSAL_NOT_RECORD;
-use refusals::WRITE_ROOM_BYTES;
 use sound::Answer;
 
 // Whether the bytes are the record of this card, and the card is sound.

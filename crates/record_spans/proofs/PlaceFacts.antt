@@ -10,6 +10,8 @@ use lib.Seq.{take-suc-set, drop-drop, getD-drop, take-all, take-nil, drop-nil, d
 use Rattle.octets.specs.Bytes.{tabulate}
 use Rattle.card.specs.declared.Slot.{Slot}
 use Rattle.card.specs.declared.Path.{Path}
+use Rattle.card.specs.Sizes.{keyBytes, pathMostBytes, slotBytes}
+use Rattle.record.specs.Lengths.{headBytes}
 use Rattle.record.specs.Parse.{headLength, body, rest, fit, pathFrom, slotFrom, slotsFrom}
 use Rattle.record_spans.specs.declared.FieldSpan.{FieldSpan}
 use Rattle.record_spans.specs.Spans.{Spans}
@@ -41,16 +43,16 @@ module _ (s : List ℕ) (at : ℕ) where
   pub head-at : headLength (drop at s) ≡ getD s (at + 1) 0 * 256 + getD s (at + 2) 0
   head-at = rw (getD-drop at s 1 0, getD-drop at s 2 0)
 
-  body-at : (n : ℕ) → n ≡ headLength (drop at s) → body (drop at s) ≡ take n (drop (at + 3) s)
+  body-at : (n : ℕ) → n ≡ headLength (drop at s) → body (drop at s) ≡ take n (drop (at + headBytes) s)
   unfolding body
-  body-at n e = ap₂ (λ (k : ℕ) (l : List ℕ). take k l) (sym e) (drop-drop 3 at s)
+  body-at n e = ap₂ (λ (k : ℕ) (l : List ℕ). take k l) (sym e) (drop-drop headBytes at s)
 
-  rest-at : (n : ℕ) → n ≡ headLength (drop at s) → rest (drop at s) ≡ drop n (drop (at + 3) s)
+  rest-at : (n : ℕ) → n ≡ headLength (drop at s) → rest (drop at s) ≡ drop n (drop (at + headBytes) s)
   unfolding rest
-  rest-at n e = ap₂ (λ (k : ℕ) (l : List ℕ). drop k l) (sym e) (drop-drop 3 at s)
+  rest-at n e = ap₂ (λ (k : ℕ) (l : List ℕ). drop k l) (sym e) (drop-drop headBytes at s)
 
   -- no whole head is left
-  pub spans-none : at ≤ length s → length s < at + 3 → Spans s at (record { start = length s; «end» = length s })
+  pub spans-none : at ≤ length s → length s < at + headBytes → Spans s at (record { start = length s; «end» = length s })
   spans-none fits h = record {
     follows = fits;
     ordered = omega arith;
@@ -64,45 +66,45 @@ module _ (s : List ℕ) (at : ℕ) where
       n : ℕ
       n = headLength (drop at s)
 
-      gone : drop (at + 3) s ≡ []
-      gone = drop-of-length-le s {i = at + 3} (omega arith)
+      gone : drop (at + headBytes) s ≡ []
+      gone = drop-of-length-le s {i = at + headBytes} (omega arith)
 
   -- the content is cut off by the slice's end
-  pub spans-cut : (n : ℕ) → n ≡ headLength (drop at s) → at + 3 ≤ length s → length s - (at + 3) < n
-      → Spans s at (record { start = at + 3; «end» = length s })
+  pub spans-cut : (n : ℕ) → n ≡ headLength (drop at s) → at + headBytes ≤ length s → length s - (at + headBytes) < n
+      → Spans s at (record { start = at + headBytes; «end» = length s })
   spans-cut n e h short = record {
     follows = omega arith;
     ordered = h;
     within = omega arith;
     inside =
-        take-all (length s - (at + 3)) (drop (at + 3) s) (omega (arith, left))
-        ∙ sym (body-at n e ∙ take-all n (drop (at + 3) s) (omega (arith, left)));
-    behind = drop-length s ∙ sym (rest-at n e ∙ drop-of-length-le (drop (at + 3) s) {i = n} (omega (arith, left)));
+        take-all (length s - (at + headBytes)) (drop (at + headBytes) s) (omega (arith, left))
+        ∙ sym (body-at n e ∙ take-all n (drop (at + headBytes) s) (omega (arith, left)));
+    behind = drop-length s ∙ sym (rest-at n e ∙ drop-of-length-le (drop (at + headBytes) s) {i = n} (omega (arith, left)));
   }
     where
-      left : length (drop (at + 3) s) ≡ length s - (at + 3)
-      left = length-drop (at + 3) s
+      left : length (drop (at + headBytes) s) ≡ length s - (at + headBytes)
+      left = length-drop (at + headBytes) s
 
   -- the content is there in full
-  pub spans-whole : (n : ℕ) → n ≡ headLength (drop at s) → at + 3 + n ≤ length s
-      → Spans s at (record { start = at + 3; «end» = at + 3 + n })
+  pub spans-whole : (n : ℕ) → n ≡ headLength (drop at s) → at + headBytes + n ≤ length s
+      → Spans s at (record { start = at + headBytes; «end» = at + headBytes + n })
   spans-whole n e h = record {
     follows = omega arith;
     ordered = omega arith;
     within = h;
-    inside = ap (λ (k : ℕ). take k (drop (at + 3) s)) long ∙ sym (body-at n e);
-    behind = sym (rest-at n e ∙ drop-drop n (at + 3) s);
+    inside = ap (λ (k : ℕ). take k (drop (at + headBytes) s)) long ∙ sym (body-at n e);
+    behind = sym (rest-at n e ∙ drop-drop n (at + headBytes) s);
   }
     where
-      long : at + 3 + n - (at + 3) ≡ n
+      long : at + headBytes + n - (at + headBytes) ≡ n
       long = omega arith
 
--- ---- pathFrom: a path of at most 40 bytes, and a longer one
-pub path-short : (x b : List ℕ) (n : ℕ) → length x ≡ n → n ≤ 40 → b ≡ fit 40 x
+-- ---- pathFrom: a path of at most its room, and a longer one
+pub path-short : (x b : List ℕ) (n : ℕ) → length x ≡ n → n ≤ pathMostBytes → b ≡ fit pathMostBytes x
     → _≡_ {A = Path} (record { len = n; bytes = b }) (pathFrom x)
 path-short x b n e h f = rw (f, e, min-eq-left h)
 
-pub path-long : (x b : List ℕ) → 40 < length x → b ≡ fit 40 x → _≡_ {A = Path} (record { len = 40; bytes = b }) (pathFrom x)
+pub path-long : (x b : List ℕ) → pathMostBytes < length x → b ≡ fit pathMostBytes x → _≡_ {A = Path} (record { len = pathMostBytes; bytes = b }) (pathFrom x)
 path-long x b h f = rw (f, min-eq-right (le-of-lt h))
 
 -- ---- Spans: how long the content is
@@ -112,19 +114,19 @@ span-length {s} {at} {r} p =
     ∙ length-take-le (r .«end» - r .start) (drop (r .start) s) (omega (arith, p .ordered, p .within, length-drop (r .start) s))
 
 -- ---- slotsFrom: one slot more
-slots-from-suc : (n : ℕ) (x : List ℕ) → slotsFrom (suc n) x ≡ slotsFrom n x ++ (slotFrom (drop (33 * n) x) ∷ [])
+slots-from-suc : (n : ℕ) (x : List ℕ) → slotsFrom (suc n) x ≡ slotsFrom n x ++ (slotFrom (drop (slotBytes * n) x) ∷ [])
 unfolding slotsFrom
 slots-from-suc zero x = refl
 slots-from-suc (suc n) x =
     ap {B = List Slot} (λ r. slotFrom x ∷ r)
-    (slots-from-suc n (drop 33 x)
-    ∙ ap (λ (l : List ℕ). slotsFrom n (drop 33 x) ++ (slotFrom l ∷ [])) (drop-drop (33 * n) 33 x ∙ ap (λ (k : ℕ). drop k x) next))
+    (slots-from-suc n (drop slotBytes x)
+    ∙ ap (λ (l : List ℕ). slotsFrom n (drop slotBytes x) ++ (slotFrom l ∷ [])) (drop-drop (slotBytes * n) slotBytes x ∙ ap (λ (k : ℕ). drop k x) next))
   where
-    next : 33 + 33 * n ≡ 33 * suc n
+    next : slotBytes + slotBytes * n ≡ slotBytes * suc n
     next = omega arith
 
 pub slots-from-next : (x : List ℕ) (slots : List Slot) (i : ℕ) (v : Slot) → i < length slots → take i slots ≡ slotsFrom i x
-    → v ≡ slotFrom (drop (33 * i) x) → take (i + 1) (set slots i v) ≡ slotsFrom (i + 1) x
+    → v ≡ slotFrom (drop (slotBytes * i) x) → take (i + 1) (set slots i v) ≡ slotsFrom (i + 1) x
 slots-from-next x slots i v h e f =
     rw (add-one i)
     (take-suc-set slots i v h
@@ -132,9 +134,9 @@ slots-from-next x slots i v h e f =
     ∙ sym (slots-from-suc i x))
 
 -- the flag, and the key behind it
-pub slot-at : (x key : List ℕ) (at n : ℕ) → length x ≡ n → key ≡ fit 32 (take (n - (at + 1)) (drop (at + 1) x))
+pub slot-at : (x key : List ℕ) (at n : ℕ) → length x ≡ n → key ≡ fit keyBytes (take (n - (at + 1)) (drop (at + 1) x))
     → _≡_ {A = Slot} (record { filled = getD x at 0; key = key }) (slotFrom (drop at x))
 slot-at x key at n l e =
     ap₂ {C = Slot} (λ (b : ℕ) (k : List ℕ). record { filled = b; key = k })
     (ap (λ (j : ℕ). getD x j 0) (sym (add-zero at)) ∙ sym (getD-drop at x 0 0))
-    (e ∙ ap (fit 32) (take-all (n - (at + 1)) (drop (at + 1) x) (omega (arith, length-drop (at + 1) x)) ∙ sym (drop-drop 1 at x)))
+    (e ∙ ap (fit keyBytes) (take-all (n - (at + 1)) (drop (at + 1) x) (omega (arith, length-drop (at + 1) x)) ∙ sym (drop-drop 1 at x)))

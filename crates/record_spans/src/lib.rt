@@ -9,11 +9,11 @@ ghost use Rattle.record.specs.Parse.{body, fit, pathFrom, slotsFrom};
 ghost use Rattle.record_spans.specs.Spans.{Spans, Behind};
 use card::Card;
 use card::Path;
+use card::SLOT_BYTES;
+use card::SLOTS_BYTES;
 use card::Slot;
 use card::wide;
 use record::HEAD_BYTES;
-use record::SLOT_BYTES;
-use record::SLOTS_BYTES;
 
 // Where a field's content starts and ends.
 pub struct FieldSpan {

@@ -1,21 +1,22 @@
 // WRITE: the stored record of a card, written from the buffer's start.
 // Every length, place and count is in bytes.
 // Proved: the bytes written are the record of the card, the count is their number, and no other byte changes; a card that is
-// not sound is refused with 1, a buffer under 448 with 2, and then nothing is written.
+// not sound is refused with 1, a buffer with less room than any record needs with 2, and then nothing is written.
 ghost use Prim.Native.Nat.{_≤_};
 ghost use lib.ListN.{length};
-ghost use Rattle.refusals.specs.Refusals.{writeRoom};
+ghost use Rattle.card.specs.Sizes.{pathMostBytes};
 ghost use Rattle.record.specs.Fields.{fields};
+ghost use Rattle.record.specs.Lengths.{writeRoom};
 ghost use Rattle.record_fields.specs.Put.{Put};
 ghost use Rattle.record_write.specs.Wrote.{WroteRecord};
 use card::Card;
+use record::WRITE_ROOM_BYTES;
 use record_groups::put_identity;
 use record_groups::put_keys;
 use record_groups::put_secrets;
 use refusals::REFUSAL_NONE;
 use refusals::REFUSAL_ROOM;
 use refusals::REFUSAL_UNSOUND;
-use refusals::WRITE_ROOM_BYTES;
 
 // What WRITE answers: the refusal's number, or 0 for none, and how many bytes it wrote.
 pub struct Written {
@@ -23,9 +24,9 @@ pub struct Written {
     pub count: usize,
 }
 
-// Writes the record of a card whose paths are at most 40 bytes long, and gives its length.
+// Writes the record of a card whose paths are no longer than their room, and gives its length.
 pub fn put_record(buf: &mut [u8], card: Card) -> usize
-    requires { ⌜ (card .keys .current .len ≤ 40) × ((card .keys .pinless .len ≤ 40) × (writeRoom ≤ length (now buf))) ⌝ }
+    requires { ⌜ (card .keys .current .len ≤ pathMostBytes) × ((card .keys .pinless .len ≤ pathMostBytes) × (writeRoom ≤ length (now buf))) ⌝ }
     ensures { λ r. ⌜ (Put (fields card) 0 (now (buf .entry)) r (now (buf .exit))) × (r ≤ writeRoom) ⌝ }
 {
     let identity = card.identity;

@@ -38,7 +38,7 @@ notGenuine = 7
 abbrev pub notRecord : ℕ
 notRecord = 8
 
--- ---- the rooms
+-- ---- the rooms; that of WRITE follows from the record's fields and stands with them (crate `record`, specs/Lengths.antt)
 abbrev pub askRoom : ℕ
 askRoom = 255
 
@@ -50,9 +50,6 @@ sealRoom = 261
 
 abbrev pub unsealRoom : ℕ
 unsealRoom = 223
-
-abbrev pub writeRoom : ℕ
-writeRoom = 448
 
 -- ---- the most data before padding (01, The sealed message), which SEAL takes, in bytes
 abbrev pub dataMost : ℕ

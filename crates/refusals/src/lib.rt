@@ -28,7 +28,7 @@ pub const REFUSAL_NOT_GENUINE: u8 = 7;
 // READ: not a record.
 pub const REFUSAL_NOT_RECORD: u8 = 8;
 
-// The room that each operation asks for, in bytes.
+// The room that each operation asks for, in bytes. That of WRITE follows from the stored record's fields: `record::WRITE_ROOM_BYTES`.
 pub const ASK_ROOM_BYTES: usize = 255;
 
 pub const ANSWER_ROOM_BYTES: usize = 258;
@@ -36,8 +36,6 @@ pub const ANSWER_ROOM_BYTES: usize = 258;
 pub const SEAL_ROOM_BYTES: usize = 261;
 
 pub const UNSEAL_ROOM_BYTES: usize = 223;
-
-pub const WRITE_ROOM_BYTES: usize = 448;
 
 // The most data that SEAL takes, in bytes.
 pub const SEAL_DATA_MAX_BYTES: usize = 223;

@@ -3,7 +3,7 @@
 // Proved: every card that code holds has it, by its type alone.
 ghost use mathlib.Core.Path.{_≡_};
 ghost use lib.ListN.{length};
-ghost use Rattle.card.specs.State.{slotCount};
+ghost use Rattle.card.specs.Sizes.{uidBytes, publicKeyBytes, pinBytes, pukBytes, keyBytes, pathMostBytes, slotCount};
 ghost use Rattle.card.specs.Shape.{KeysLong, Shaped};
 use card::Card;
 use card::Identity;
@@ -15,7 +15,7 @@ use card::Slot;
 
 // Each part as it is, or for the slots how many there are: what counts is what the type says of it.
 fn slot_shaped(s: Slot) -> Slot
-    ensures { λ _. ⌜ length (s .key) ≡ 32 ⌝ }
+    ensures { λ _. ⌜ length (s .key) ≡ keyBytes ⌝ }
 {
     s
 }
@@ -33,31 +33,31 @@ fn slots_shaped(slots: [Slot; Card::SLOTS]) -> usize
 }
 
 fn path_shaped(p: Path) -> Path
-    ensures { λ _. ⌜ length (p .bytes) ≡ 40 ⌝ }
+    ensures { λ _. ⌜ length (p .bytes) ≡ pathMostBytes ⌝ }
 {
     p
 }
 
 fn identity_shaped(i: Identity) -> Identity
-    ensures { λ _. ⌜ (length (i .uid) ≡ 16) × (length (i .«public_key») ≡ 65) ⌝ }
+    ensures { λ _. ⌜ (length (i .uid) ≡ uidBytes) × (length (i .«public_key») ≡ publicKeyBytes) ⌝ }
 {
     i
 }
 
 fn pins_shaped(p: Pins) -> Pins
-    ensures { λ _. ⌜ (length (p .pin) ≡ 6) × (length (p .puk) ≡ 12) ⌝ }
+    ensures { λ _. ⌜ (length (p .pin) ≡ pinBytes) × (length (p .puk) ≡ pukBytes) ⌝ }
 {
     p
 }
 
 fn pairing_shaped(p: Pairing) -> Pairing
-    ensures { λ _. ⌜ (length (p .secret) ≡ 32) × (length (p .expected) ≡ 32) ⌝ }
+    ensures { λ _. ⌜ (length (p .secret) ≡ keyBytes) × (length (p .expected) ≡ keyBytes) ⌝ }
 {
     p
 }
 
 fn keys_shaped(k: Keys) -> Keys
-    ensures { λ _. ⌜ length (k .uid) ≡ 32 ⌝ }
+    ensures { λ _. ⌜ length (k .uid) ≡ keyBytes ⌝ }
 {
     k
 }

@@ -130,7 +130,7 @@ fn write_in(d: Desk, buf: &mut [u8]) -> Desk {
     let found = d.card;
     let r = byte_calls::write(found, buf);
     if r.refusal != 0 {
-        say_refused(b"write:", r.refusal, refusals::WRITE_ROOM_BYTES);
+        say_refused(b"write:", r.refusal, record::WRITE_ROOM_BYTES);
         return d;
     }
     wrote(d, b"write:", buf, r.count, false)

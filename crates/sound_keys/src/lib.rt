@@ -8,8 +8,8 @@ use card::Keys;
 use card::Path;
 use card::wide;
 
-// The most bytes of a path: 10 components of 4 bytes.
-const PATH_MOST_BYTES: u8 = 40;
+// The most bytes of a path: its room.
+const PATH_MOST_BYTES: u8 = card::PATH_MAX_BYTES as u8;
 
 const COMPONENT_BYTES: u8 = 4;
 

@@ -29,6 +29,12 @@ const CHALLENGE: [u8; KEY_BYTES] = [0x93; KEY_BYTES];
 /// What fills a buffer before a call.
 pub const FILL: u8 = 0xA5;
 
+/// Where a field of this name lies in a card's bytes.
+pub fn place(name: &str) -> std::ops::Range<usize> {
+    let field = Card::FIELDS.iter().find(|field| field.name == name).expect(name);
+    field.offset..field.offset + field.bytes
+}
+
 /// A command without sealing: header, Lc and data; the header alone where there are no data.
 pub fn plain_command(header: [u8; HEADER_BYTES], data: &[u8]) -> Vec<u8> {
     let mut command = header.to_vec();

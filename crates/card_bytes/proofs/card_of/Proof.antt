@@ -4,6 +4,7 @@ use mathlib.Core.Path.{_≡_}
 use mathlib.Core.List.{List}
 use Prim.Native.Nat.{ℕ}
 use lib.ListN.{length}
+use Rattle.card.specs.Sizes.{cardBytes}
 use Rattle.card_bytes.specs.Places.{cardAt}
 use Rattle.card_bytes.proofs.Trips.{card-read}
 use borrow.Author.Needs.{needs}
@@ -31,7 +32,7 @@ channel-of-requires c κs = search needs
 returns : tie.Need-returns
 unfolding cardAt
 returns c = let s : List ℕ = c .before .before .before .before .before .args .t1 in
-    let l : length s ≡ 529 = search needs in
+    let l : length s ≡ cardBytes = search needs in
     card-read s l (rw (c .before .before .before .before .identity-of .ensures, c .before .before .before .pins-of .ensures, c .before .before .pairing-of .ensures, c .before .keys-of .ensures, c .channel-of .ensures))
 
 pub card-of-spec : {M : Type 1} → statement M

@@ -6,6 +6,8 @@ use native.Mathlib.Omega.{arith}
 use lib.ListN.{replicate}
 use lib.Seq.{take-all}
 use borrow.Author.Needs.{needs}
+use Rattle.card.specs.Sizes.{keyBytes, ivBytes, sessionBytes}
+use Rattle.card_bytes.specs.Offsets.{sessionMacKeyOffset, sessionIvOffset}
 use Rattle.card_bytes.proofs.Grown.{join, wrote-bytes}
 use Rattle.card_bytes.specs.Flat.{sessionFlat}
 use Rattle.card_bytes.proofs.session_bytes.Statement.{statement}
@@ -43,10 +45,10 @@ unfolding sessionFlat
 returns c = let g = c .before .before .before .before .before .before .before .before .before .before .before .before .before .before .before .args in
     sym (join [] _ _
     (join [] _ _
-    (wrote-bytes (replicate 80 0) 0 32 (g .x .«enc_key») (slice-aggregate-put-2 (c .before .before .before .before .before .before .before .before .before .before)) (omega (arith, slice-aggregate-put (c .before .before .before .before .before .before .before .before .before .before .before))) (c .before .before .before .before .before .before .before .before .before .put .ensures))
-    (wrote-bytes (c .before .before .before .before .before .before .before .before .before .put .last .0) 32 32 (g .x .«mac_key») (slice-aggregate-put-4 (c .before .before .before .before .before .before)) (omega (arith, slice-aggregate-put-3 (c .before .before .before .before .before .before .before))) (c .before .before .before .before .before .put2 .ensures)))
-    (wrote-bytes (c .before .before .before .before .before .put2 .last .0) 64 16 (g .x .iv) (slice-aggregate-put-6 (c .before .before)) (omega (arith, slice-aggregate-put-5 (c .before .before .before))) (c .before .put3 .ensures))
-    ∙ take-all 80 (c .before .put3 .last .0) (search needs))
+    (wrote-bytes (replicate sessionBytes 0) 0 keyBytes (g .x .«enc_key») (slice-aggregate-put-2 (c .before .before .before .before .before .before .before .before .before .before)) (omega (arith, slice-aggregate-put (c .before .before .before .before .before .before .before .before .before .before .before))) (c .before .before .before .before .before .before .before .before .before .put .ensures))
+    (wrote-bytes (c .before .before .before .before .before .before .before .before .before .put .last .0) sessionMacKeyOffset keyBytes (g .x .«mac_key») (slice-aggregate-put-4 (c .before .before .before .before .before .before)) (omega (arith, slice-aggregate-put-3 (c .before .before .before .before .before .before .before))) (c .before .before .before .before .before .put2 .ensures)))
+    (wrote-bytes (c .before .before .before .before .before .put2 .last .0) sessionIvOffset ivBytes (g .x .iv) (slice-aggregate-put-6 (c .before .before)) (omega (arith, slice-aggregate-put-5 (c .before .before .before))) (c .before .put3 .ensures))
+    ∙ take-all sessionBytes (c .before .put3 .last .0) (search needs))
 
 pub session-bytes-spec : {M : Type 1} → statement M
 session-bytes-spec =

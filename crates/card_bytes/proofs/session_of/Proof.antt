@@ -4,6 +4,7 @@ use mathlib.Core.Path.{_≡_}
 use mathlib.Core.List.{List}
 use Prim.Native.Nat.{ℕ}
 use lib.ListN.{length}
+use Rattle.card.specs.Sizes.{sessionBytes}
 use Rattle.card_bytes.specs.Places.{sessionAt}
 use Rattle.card_bytes.proofs.Trips.{session-read}
 use borrow.Author.Needs.{needs}
@@ -40,7 +41,7 @@ fill-requires-3 c κs = search needs
 returns : tie.Need-returns
 unfolding sessionAt
 returns c = let s : List ℕ = c .before .before .before .before .before .before .before .before .before .before .before .before .args .t1 in
-    let l : length s ≡ 80 = search needs in
+    let l : length s ≡ sessionBytes = search needs in
     session-read s l (rw (c .before .before .before .before .before .before .before .before .before .fill .ensures, c .before .before .before .before .before .fill2 .ensures, c .before .fill3 .ensures))
 
 pub session-of-spec : {M : Type 1} → statement M

@@ -5,6 +5,8 @@ use native.Mathlib.Omega.{arith}
 use lib.ListN.{take, set, length-set}
 use lib.Seq.{take-all}
 use borrow.Author.Needs.{needs}
+use Rattle.card.specs.Sizes.{keyBytes, ivBytes, cardBytes}
+use Rattle.card_bytes.specs.Offsets.{channelOffset, encKeyOffset, macKeyOffset, ivOffset}
 use Rattle.card_bytes.proofs.Grown.{join, wrote-byte, wrote-bytes}
 use Rattle.card_bytes.proofs.with_channel.Statement.{statement}
 use Rattle.card_bytes.proofs.with_channel.Tie as tie
@@ -41,14 +43,14 @@ put-requires-3 c κs = omega (arith, slice-aggregate-put-5 (c .before), slice-ag
 
 returns : tie.Need-returns
 returns c = let g = c .before .before .before .before .before .before .before .before .before .before .before .before .before .before .before .args in
-    join (take 448 (g .s)) _ _
-    (join (take 448 (g .s)) _ _
-    (join (take 448 (g .s)) _ _
-    (wrote-byte (g .s) 448 (g .x .stage) (omega (arith, slice-aggregate-put (c .before .before .before .before .before .before .before .before .before .before .before), length-set (g .s) 448 (g .x .stage))))
-    (wrote-bytes (set (g .s) 448 (g .x .stage)) 449 32 (g .x .«enc_key») (slice-aggregate-put-2 (c .before .before .before .before .before .before .before .before .before .before)) (omega (arith, slice-aggregate-put (c .before .before .before .before .before .before .before .before .before .before .before))) (c .before .before .before .before .before .before .before .before .before .put .ensures)))
-    (wrote-bytes (c .before .before .before .before .before .before .before .before .before .put .last .0) 481 32 (g .x .«mac_key») (slice-aggregate-put-4 (c .before .before .before .before .before .before)) (omega (arith, slice-aggregate-put-3 (c .before .before .before .before .before .before .before))) (c .before .before .before .before .before .put2 .ensures)))
-    (wrote-bytes (c .before .before .before .before .before .put2 .last .0) 513 16 (g .x .iv) (slice-aggregate-put-6 (c .before .before)) (omega (arith, slice-aggregate-put-5 (c .before .before .before))) (c .before .put3 .ensures))
-    ∙ take-all 529 (c .before .put3 .last .0) (search needs)
+    join (take channelOffset (g .s)) _ _
+    (join (take channelOffset (g .s)) _ _
+    (join (take channelOffset (g .s)) _ _
+    (wrote-byte (g .s) channelOffset (g .x .stage) (omega (arith, slice-aggregate-put (c .before .before .before .before .before .before .before .before .before .before .before), length-set (g .s) channelOffset (g .x .stage))))
+    (wrote-bytes (set (g .s) channelOffset (g .x .stage)) encKeyOffset keyBytes (g .x .«enc_key») (slice-aggregate-put-2 (c .before .before .before .before .before .before .before .before .before .before)) (omega (arith, slice-aggregate-put (c .before .before .before .before .before .before .before .before .before .before .before))) (c .before .before .before .before .before .before .before .before .before .put .ensures)))
+    (wrote-bytes (c .before .before .before .before .before .before .before .before .before .put .last .0) macKeyOffset keyBytes (g .x .«mac_key») (slice-aggregate-put-4 (c .before .before .before .before .before .before)) (omega (arith, slice-aggregate-put-3 (c .before .before .before .before .before .before .before))) (c .before .before .before .before .before .put2 .ensures)))
+    (wrote-bytes (c .before .before .before .before .before .put2 .last .0) ivOffset ivBytes (g .x .iv) (slice-aggregate-put-6 (c .before .before)) (omega (arith, slice-aggregate-put-5 (c .before .before .before))) (c .before .put3 .ensures))
+    ∙ take-all cardBytes (c .before .put3 .last .0) (search needs)
 
 pub with-channel-spec : {M : Type 1} → statement M
 with-channel-spec =

@@ -3,6 +3,8 @@
 use native.Mathlib.Omega.{arith}
 use lib.ListN.{take}
 use borrow.Author.Needs.{needs}
+use Rattle.card.specs.Sizes.{uidBytes, publicKeyBytes}
+use Rattle.card_bytes.specs.Offsets.{identityOffset, publicKeyOffset}
 use Rattle.card_bytes.proofs.Grown.{join, wrote-bytes}
 use Rattle.card_bytes.proofs.with_identity.Statement.{statement}
 use Rattle.card_bytes.proofs.with_identity.Tie as tie
@@ -30,9 +32,9 @@ put-requires-2 c κs = omega (arith, slice-aggregate-put-3 (c .before), slice-ag
 
 returns : tie.Need-returns
 returns c = let g = c .before .before .before .before .before .before .before .before .before .before .args in
-    join (take 1 (g .s)) _ _
-    (wrote-bytes (g .s) 1 16 (g .x .uid) (slice-aggregate-put-2 (c .before .before .before .before .before .before)) (omega (arith, slice-aggregate-put (c .before .before .before .before .before .before .before))) (c .before .before .before .before .before .put .ensures))
-    (wrote-bytes (c .before .before .before .before .before .put .last .0) 17 65 (g .x .«public_key») (slice-aggregate-put-4 (c .before .before)) (omega (arith, slice-aggregate-put-3 (c .before .before .before))) (c .before .put2 .ensures))
+    join (take identityOffset (g .s)) _ _
+    (wrote-bytes (g .s) identityOffset uidBytes (g .x .uid) (slice-aggregate-put-2 (c .before .before .before .before .before .before)) (omega (arith, slice-aggregate-put (c .before .before .before .before .before .before .before))) (c .before .before .before .before .before .put .ensures))
+    (wrote-bytes (c .before .before .before .before .before .put .last .0) publicKeyOffset publicKeyBytes (g .x .«public_key») (slice-aggregate-put-4 (c .before .before)) (omega (arith, slice-aggregate-put-3 (c .before .before .before))) (c .before .put2 .ensures))
 
 pub with-identity-spec : {M : Type 1} → statement M
 with-identity-spec =

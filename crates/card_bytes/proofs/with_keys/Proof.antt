@@ -3,6 +3,8 @@
 use native.Mathlib.Omega.{arith}
 use lib.ListN.{take, set, length-set}
 use borrow.Author.Needs.{needs}
+use Rattle.card.specs.Sizes.{keyBytes}
+use Rattle.card_bytes.specs.Offsets.{keysOffset, keyUidOffset}
 use Rattle.card_bytes.specs.Flat.{pathFlat}
 use Rattle.card_bytes.proofs.Grown.{join, wrote-byte, wrote-bytes}
 use Rattle.card_bytes.proofs.with_keys.Statement.{statement}
@@ -31,11 +33,11 @@ with-path-requires-2 c κs = search needs
 
 returns : tie.Need-returns
 returns c = let g = c .before .before .before .before .before .before .before .args in
-    join (take 333 (g .s)) _ (pathFlat (g .x .pinless))
-    (join (take 333 (g .s)) _ (pathFlat (g .x .current))
-    (join (take 333 (g .s)) _ _
-    (wrote-byte (g .s) 333 (g .x .kind) (omega (arith, slice-aggregate-put (c .before .before .before .before .before), length-set (g .s) 333 (g .x .kind))))
-    (wrote-bytes (set (g .s) 333 (g .x .kind)) 334 32 (g .x .uid) (slice-aggregate-put-2 (c .before .before .before .before)) (omega (arith, slice-aggregate-put (c .before .before .before .before .before))) (c .before .before .before .put .ensures)))
+    join (take keysOffset (g .s)) _ (pathFlat (g .x .pinless))
+    (join (take keysOffset (g .s)) _ (pathFlat (g .x .current))
+    (join (take keysOffset (g .s)) _ _
+    (wrote-byte (g .s) keysOffset (g .x .kind) (omega (arith, slice-aggregate-put (c .before .before .before .before .before), length-set (g .s) keysOffset (g .x .kind))))
+    (wrote-bytes (set (g .s) keysOffset (g .x .kind)) keyUidOffset keyBytes (g .x .uid) (slice-aggregate-put-2 (c .before .before .before .before)) (omega (arith, slice-aggregate-put (c .before .before .before .before .before))) (c .before .before .before .put .ensures)))
     (c .before .with-path .ensures))
     (c .with-path2 .ensures)
 

@@ -2,10 +2,12 @@
 -- Assumes nothing.
 use mathlib.Core.Path.{sym, ap, _∙_}
 use mathlib.Core.List.{List, _++_}
-use Prim.Native.Nat.{ℕ}
+use Prim.Native.Nat.{ℕ, _*_}
 use native.Mathlib.Omega.{arith}
 use lib.ListN.{take, set, length-set}
 use borrow.Author.Needs.{needs}
+use Rattle.card.specs.Sizes.{keyBytes, slotBytes, slotCount}
+use Rattle.card_bytes.specs.Offsets.{pairingOffset, slotsOffset, pendingOffset, expectedOffset}
 use Rattle.card_bytes.proofs.Grown.{join, wrote-byte, wrote-bytes}
 use Rattle.card_bytes.proofs.with_pairing.Statement.{statement}
 use Rattle.card_bytes.proofs.with_pairing.Tie as tie
@@ -48,14 +50,14 @@ put-requires-3 c κs = omega (arith, slice-aggregate-put-5 (c .before), slice-ag
 
 returns : tie.Need-returns
 returns c = let g = c .before .before .before .before .before .before .before .before .before .before .before .before .before .before .before .before .args in
-    join (take 103 (g .s)) _ _
-    (join (take 103 (g .s)) _ _
-    (wrote-bytes (g .s) 103 32 (g .x .secret) (slice-aggregate-put-2 (c .before .before .before .before .before .before .before .before .before .before)) (omega (arith, slice-aggregate-put (c .before .before .before .before .before .before .before .before .before .before .before))) (c .before .before .before .before .before .before .before .before .before .put .ensures))
-    (ap (λ (x : List ℕ). take 135 (c .before .before .before .before .before .before .before .before .before .put .last .0) ++ x) (sym (c .before .before .before .before .before .before .before .before .before .before .before .before .slots-bytes .ensures))
-    ∙ wrote-bytes (c .before .before .before .before .before .before .before .before .before .put .last .0) 135 165 (c .before .before .before .before .before .before .before .before .before .before .before .before .slots-bytes .result) (slice-aggregate-put-4 (c .before .before .before .before .before .before)) (omega (arith, slice-aggregate-put-3 (c .before .before .before .before .before .before .before))) (c .before .before .before .before .before .put2 .ensures)))
-    (join (take 300 (c .before .before .before .before .before .put2 .last .0)) _ _
-    (wrote-byte (c .before .before .before .before .before .put2 .last .0) 300 (g .x .pending) (omega (arith, slice-aggregate-put-5 (c .before .before .before), length-set (c .before .before .before .before .before .put2 .last .0) 300 (g .x .pending))))
-    (wrote-bytes (set (c .before .before .before .before .before .put2 .last .0) 300 (g .x .pending)) 301 32 (g .x .expected) (slice-aggregate-put-6 (c .before .before)) (omega (arith, slice-aggregate-put-5 (c .before .before .before))) (c .before .put3 .ensures)))
+    join (take pairingOffset (g .s)) _ _
+    (join (take pairingOffset (g .s)) _ _
+    (wrote-bytes (g .s) pairingOffset keyBytes (g .x .secret) (slice-aggregate-put-2 (c .before .before .before .before .before .before .before .before .before .before)) (omega (arith, slice-aggregate-put (c .before .before .before .before .before .before .before .before .before .before .before))) (c .before .before .before .before .before .before .before .before .before .put .ensures))
+    (ap (λ (x : List ℕ). take slotsOffset (c .before .before .before .before .before .before .before .before .before .put .last .0) ++ x) (sym (c .before .before .before .before .before .before .before .before .before .before .before .before .slots-bytes .ensures))
+    ∙ wrote-bytes (c .before .before .before .before .before .before .before .before .before .put .last .0) slotsOffset (slotBytes * slotCount) (c .before .before .before .before .before .before .before .before .before .before .before .before .slots-bytes .result) (slice-aggregate-put-4 (c .before .before .before .before .before .before)) (omega (arith, slice-aggregate-put-3 (c .before .before .before .before .before .before .before))) (c .before .before .before .before .before .put2 .ensures)))
+    (join (take pendingOffset (c .before .before .before .before .before .put2 .last .0)) _ _
+    (wrote-byte (c .before .before .before .before .before .put2 .last .0) pendingOffset (g .x .pending) (omega (arith, slice-aggregate-put-5 (c .before .before .before), length-set (c .before .before .before .before .before .put2 .last .0) pendingOffset (g .x .pending))))
+    (wrote-bytes (set (c .before .before .before .before .before .put2 .last .0) pendingOffset (g .x .pending)) expectedOffset keyBytes (g .x .expected) (slice-aggregate-put-6 (c .before .before)) (omega (arith, slice-aggregate-put-5 (c .before .before .before))) (c .before .put3 .ensures)))
 
 pub with-pairing-spec : {M : Type 1} → statement M
 with-pairing-spec =

@@ -5,6 +5,8 @@ use mathlib.Core.List.{[], _∷_}
 use native.Mathlib.Omega.{arith}
 use lib.ListN.{take}
 use borrow.Author.Needs.{needs}
+use Rattle.card.specs.Sizes.{pinBytes, pukBytes}
+use Rattle.card_bytes.specs.Offsets.{pinsOffset, pukOffset, pinTriesOffset}
 use Rattle.card_bytes.proofs.Grown.{join, wrote-bytes}
 use Rattle.card_bytes.proofs.with_pins.Statement.{statement}
 use Rattle.card_bytes.proofs.with_pins.Tie as tie
@@ -41,11 +43,11 @@ put-requires-3 c κs = search needs
 
 returns : tie.Need-returns
 returns c = let g = c .before .before .before .before .before .before .before .before .before .before .before .before .before .before .args in
-    join (take 82 (g .s)) _ _
-    (join (take 82 (g .s)) _ _
-    (wrote-bytes (g .s) 82 6 (g .x .pin) (slice-aggregate-put-2 (c .before .before .before .before .before .before .before .before .before .before)) (omega (arith, slice-aggregate-put (c .before .before .before .before .before .before .before .before .before .before .before))) (c .before .before .before .before .before .before .before .before .before .put .ensures))
-    (wrote-bytes (c .before .before .before .before .before .before .before .before .before .put .last .0) 88 12 (g .x .puk) (slice-aggregate-put-4 (c .before .before .before .before .before .before)) (omega (arith, slice-aggregate-put-3 (c .before .before .before .before .before .before .before))) (c .before .before .before .before .before .put2 .ensures)))
-    (wrote-bytes (c .before .before .before .before .before .put2 .last .0) 100 3 (g .x .«pin_tries» ∷ g .x .«puk_tries» ∷ g .x .verified ∷ []) refl (omega (arith, slice-aggregate-put-5 (c .before .before .before))) (c .before .put3 .ensures))
+    join (take pinsOffset (g .s)) _ _
+    (join (take pinsOffset (g .s)) _ _
+    (wrote-bytes (g .s) pinsOffset pinBytes (g .x .pin) (slice-aggregate-put-2 (c .before .before .before .before .before .before .before .before .before .before)) (omega (arith, slice-aggregate-put (c .before .before .before .before .before .before .before .before .before .before .before))) (c .before .before .before .before .before .before .before .before .before .put .ensures))
+    (wrote-bytes (c .before .before .before .before .before .before .before .before .before .put .last .0) pukOffset pukBytes (g .x .puk) (slice-aggregate-put-4 (c .before .before .before .before .before .before)) (omega (arith, slice-aggregate-put-3 (c .before .before .before .before .before .before .before))) (c .before .before .before .before .before .put2 .ensures)))
+    (wrote-bytes (c .before .before .before .before .before .put2 .last .0) pinTriesOffset 3 (g .x .«pin_tries» ∷ g .x .«puk_tries» ∷ g .x .verified ∷ []) refl (omega (arith, slice-aggregate-put-5 (c .before .before .before))) (c .before .put3 .ensures))
 
 pub with-pins-spec : {M : Type 1} → statement M
 with-pins-spec =

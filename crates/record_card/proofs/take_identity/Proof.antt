@@ -1,5 +1,6 @@
 -- Three fields, each at the place behind the one before it, by `at-next`.
 -- Assumes nothing.
+use Rattle.card.specs.Sizes.{uidBytes, publicKeyBytes}
 use mathlib.Core.Path.{ap, _∙_}
 use mathlib.Core.List.{List}
 use Prim.Native.Nat.{ℕ}
@@ -31,7 +32,7 @@ array-read-t19 : tie.Need-array-read-t19
 array-read-t19 c = search needs
 
 returns : tie.Need-returns
-returns c = let z = at-start (c .before .before .before .before .before .before .before .before .before .before .args .s .now) in let a = at-next z (c .before .before .before .before .before .before .before .take-field .ensures .1) in let b = at-next a (c .before .before .before .before .take-field2 .ensures .1) in record { flag = ap (λ (l : List ℕ). getD l 0 0) (c .before .before .before .before .before .before .before .take-field .ensures .0 ∙ fit-at 1 z); identity = rw (c .before .before .before .before .take-field2 .ensures .0 ∙ fit-at 16 a, c .before .take-field3 .ensures .0 ∙ fit-at 65 b); next = at-next b (c .before .take-field3 .ensures .1) }
+returns c = let z = at-start (c .before .before .before .before .before .before .before .before .before .before .args .s .now) in let a = at-next z (c .before .before .before .before .before .before .before .take-field .ensures .1) in let b = at-next a (c .before .before .before .before .take-field2 .ensures .1) in record { flag = ap (λ (l : List ℕ). getD l 0 0) (c .before .before .before .before .before .before .before .take-field .ensures .0 ∙ fit-at 1 z); identity = rw (c .before .before .before .before .take-field2 .ensures .0 ∙ fit-at uidBytes a, c .before .take-field3 .ensures .0 ∙ fit-at publicKeyBytes b); next = at-next b (c .before .take-field3 .ensures .1) }
 
 pub take-identity-spec : {M : Type 1} → statement M
 take-identity-spec =

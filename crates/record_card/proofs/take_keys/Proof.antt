@@ -1,5 +1,6 @@
 -- Four fields, each at the place behind the one before it, by `at-next`.
 -- Assumes nothing.
+use Rattle.card.specs.Sizes.{keyBytes}
 use mathlib.Core.Path.{_∙_}
 use Rattle.record_card.proofs.AtFacts.{at-next, fit-at, path-at}
 use borrow.Author.Needs.{needs}
@@ -28,7 +29,7 @@ array-read-t18 : tie.Need-array-read-t18
 array-read-t18 c = search needs
 
 returns : tie.Need-returns
-returns c = let z = c .before .before .before .before .before .before .before .before .before .before .before .pre in let a = at-next z (c .before .before .before .before .before .before .before .before .take-field .ensures .1) in let b = at-next a (c .before .before .before .before .before .take-field2 .ensures .1) in let d = at-next b (c .before .before .before .take-path .ensures .1) in rw (c .before .before .before .before .before .before .before .before .take-field .ensures .0 ∙ fit-at 1 z, c .before .before .before .before .before .take-field2 .ensures .0 ∙ fit-at 32 a, c .before .before .before .take-path .ensures .0 ∙ path-at b, c .before .before .take-path2 .ensures .0 ∙ path-at d)
+returns c = let z = c .before .before .before .before .before .before .before .before .before .before .before .pre in let a = at-next z (c .before .before .before .before .before .before .before .before .take-field .ensures .1) in let b = at-next a (c .before .before .before .before .before .take-field2 .ensures .1) in let d = at-next b (c .before .before .before .take-path .ensures .1) in rw (c .before .before .before .before .before .before .before .before .take-field .ensures .0 ∙ fit-at 1 z, c .before .before .before .before .before .take-field2 .ensures .0 ∙ fit-at keyBytes a, c .before .before .before .take-path .ensures .0 ∙ path-at b, c .before .before .take-path2 .ensures .0 ∙ path-at d)
 
 pub take-keys-spec : {M : Type 1} → statement M
 take-keys-spec =

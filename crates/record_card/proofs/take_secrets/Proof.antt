@@ -1,10 +1,10 @@
 -- Five fields, each at the place behind the one before it, by `at-next`.
 -- Assumes nothing.
+use Rattle.card.specs.Sizes.{pinBytes, pukBytes, keyBytes, slotBytes, slotCount}
 use mathlib.Core.Path.{ap, _∙_}
 use mathlib.Core.List.{List}
 use Prim.Native.Nat.{ℕ}
 use Prim.Native.Nat.{_*_}
-use Rattle.card.specs.State.{slotCount}
 use Rattle.record.specs.Parse.{slotsFrom}
 use Rattle.record_card.proofs.AtFacts.{at-next, fit-at}
 use borrow.Author.Needs.{needs}
@@ -51,7 +51,7 @@ slots-from-requires : tie.Need-slots-from-requires
 slots-from-requires c κs = search needs
 
 returns : tie.Need-returns
-returns c = let z = c .before .before .before .before .before .before .before .before .before .before .before .before .before .before .before .before .before .pre in let a = at-next z (c .before .before .before .before .before .before .before .before .before .before .before .before .before .before .take-field .ensures .1) in let b = at-next a (c .before .before .before .before .before .before .before .before .before .before .before .take-field2 .ensures .1) in let d = at-next b (c .before .before .before .before .before .before .before .before .take-field3 .ensures .1) in let e = at-next d (c .before .before .before .before .before .take-field4 .ensures .1) in record { pins = rw (c .before .before .before .before .before .before .before .before .before .before .before .before .before .before .take-field .ensures .0 ∙ fit-at 6 z, c .before .before .before .before .before .before .before .before .before .before .before .take-field2 .ensures .0 ∙ fit-at 12 a, c .before .before .before .before .before .take-field4 .ensures .0 ∙ fit-at 2 d); pairing = rw (c .before .before .before .before .before .before .before .before .take-field3 .ensures .0 ∙ fit-at 32 b, c .slots-from .ensures ∙ ap (λ (l : List ℕ). slotsFrom slotCount l) (c .before .before .take-field5 .ensures .0 ∙ fit-at (33 * slotCount) e)); next = at-next e (c .before .before .take-field5 .ensures .1) }
+returns c = let z = c .before .before .before .before .before .before .before .before .before .before .before .before .before .before .before .before .before .pre in let a = at-next z (c .before .before .before .before .before .before .before .before .before .before .before .before .before .before .take-field .ensures .1) in let b = at-next a (c .before .before .before .before .before .before .before .before .before .before .before .take-field2 .ensures .1) in let d = at-next b (c .before .before .before .before .before .before .before .before .take-field3 .ensures .1) in let e = at-next d (c .before .before .before .before .before .take-field4 .ensures .1) in record { pins = rw (c .before .before .before .before .before .before .before .before .before .before .before .before .before .before .take-field .ensures .0 ∙ fit-at pinBytes z, c .before .before .before .before .before .before .before .before .before .before .before .take-field2 .ensures .0 ∙ fit-at pukBytes a, c .before .before .before .before .before .take-field4 .ensures .0 ∙ fit-at 2 d); pairing = rw (c .before .before .before .before .before .before .before .before .take-field3 .ensures .0 ∙ fit-at keyBytes b, c .slots-from .ensures ∙ ap (λ (l : List ℕ). slotsFrom slotCount l) (c .before .before .take-field5 .ensures .0 ∙ fit-at (slotBytes * slotCount) e)); next = at-next e (c .before .before .take-field5 .ensures .1) }
 
 pub take-secrets-spec : {M : Type 1} → statement M
 take-secrets-spec =

@@ -6,14 +6,14 @@ use native.Mathlib.Omega.{arith}
 use borrow.Author.Needs.{needs}
 use lib.ListN.{length, take}
 use lib.Seq.{take-all}
-use Rattle.card.specs.State.{slotCount}
+use Rattle.card.specs.Sizes.{slotBytes, slotCount}
 use Rattle.record.specs.Fields.{slotsBytes}
 use Rattle.record_fields.proofs.Chain.{slots-next}
 use Rattle.record_fields.proofs.slots_bytes.Statement.{statement}
 use Rattle.record_fields.proofs.slots_bytes.Tie as tie
 
 abbrev Inv-loop : tie.InvT-loop
-Inv-loop slots out₀ i₀ out i = (i ≤ slotCount) × ((length slots ≡ slotCount) × ((length out ≡ 33 * slotCount) × (take (33 * i) out ≡ slotsBytes (take i slots))))
+Inv-loop slots out₀ i₀ out i = (i ≤ slotCount) × ((length slots ≡ slotCount) × ((length out ≡ slotBytes * slotCount) × (take (slotBytes * i) out ≡ slotsBytes (take i slots))))
 
 abbrev μ-loop : tie.MeasureT-loop
 μ-loop slots out₀ i₀ out i = slotCount - i
@@ -47,7 +47,7 @@ loop-again : tie.Need-loop-again Inv-loop μ-loop
 loop-again c = (omega arith, (c .before .before .before .before .before .loop .inv .1 .0, (omega arith, slots-next (c .before .before .before .before .before .before .args .t1) (c .before .before .before .before .before .loop .i) _ (c .before .before .before .before .before .loop .out) (c .before .put-slot .last .0) (omega arith) (c .before .put-slot .ensures .0) (omega arith) (c .before .before .before .before .before .loop .inv .1 .1 .1) (c .before .put-slot .ensures .1))))
 
 returns : tie.Need-returns Inv-loop μ-loop
-returns c = sym (take-all (33 * c .before .loop .i) (c .before .loop .out) (omega arith)) ∙ c .before .loop .inv .1 .1 .1 ∙ ap slotsBytes (take-all (c .before .loop .i) (c .before .before .args .t1) (omega arith))
+returns c = sym (take-all (slotBytes * c .before .loop .i) (c .before .loop .out) (omega arith)) ∙ c .before .loop .inv .1 .1 .1 ∙ ap slotsBytes (take-all (c .before .loop .i) (c .before .before .args .t1) (omega arith))
 
 pub slots-bytes-spec : {M : Type 1} → statement M
 slots-bytes-spec =

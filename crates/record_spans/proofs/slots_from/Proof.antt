@@ -7,13 +7,13 @@ use native.Mathlib.Omega.{arith}
 use borrow.Author.Needs.{needs}
 use lib.ListN.{length, take, length-set}
 use lib.Seq.{take-all}
-use Rattle.card.specs.State.{slotCount}
+use Rattle.card.specs.Sizes.{slotBytes, slotCount}
 use Rattle.record.specs.Parse.{slotsFrom}
 use Rattle.record_spans.proofs.slots_from.Statement.{statement}
 use Rattle.record_spans.proofs.slots_from.Tie as tie
 
 abbrev Inv-loop : tie.InvT-loop
-Inv-loop x slots₀ i₀ slots i = (i ≤ slotCount) × ((length x ≡ 33 * slotCount) × ((length slots ≡ slotCount) × (take i slots ≡ slotsFrom i x)))
+Inv-loop x slots₀ i₀ slots i = (i ≤ slotCount) × ((length x ≡ slotBytes * slotCount) × ((length slots ≡ slotCount) × (take i slots ≡ slotsFrom i x)))
 
 abbrev μ-loop : tie.MeasureT-loop
 μ-loop x slots₀ i₀ slots i = slotCount - i
@@ -59,7 +59,7 @@ loop-less : tie.Need-loop-less Inv-loop μ-loop
 loop-less c = search needs
 
 loop-again : tie.Need-loop-again Inv-loop μ-loop
-loop-again c = (omega arith, (c .before .before .before .before .before .before .loop .inv .1 .0, (simp length-set (c .before .before .before .before .before .before .loop .inv .1 .1 .0), slots-from-next (c .before .before .before .before .before .before .before .args .t1) (c .before .before .before .before .before .before .loop .slots) (c .before .before .before .before .before .before .loop .i) _ (omega arith) (c .before .before .before .before .before .before .loop .inv .1 .1 .1) (slot-at (c .before .before .before .before .before .before .before .args .t1) (c .before .fill .last .0) (33 * c .before .before .before .before .before .before .loop .i) (33 * slotCount) (c .before .before .before .before .before .before .loop .inv .1 .0) (c .before .fill .ensures)))))
+loop-again c = (omega arith, (c .before .before .before .before .before .before .loop .inv .1 .0, (simp length-set (c .before .before .before .before .before .before .loop .inv .1 .1 .0), slots-from-next (c .before .before .before .before .before .before .before .args .t1) (c .before .before .before .before .before .before .loop .slots) (c .before .before .before .before .before .before .loop .i) _ (omega arith) (c .before .before .before .before .before .before .loop .inv .1 .1 .1) (slot-at (c .before .before .before .before .before .before .before .args .t1) (c .before .fill .last .0) (slotBytes * c .before .before .before .before .before .before .loop .i) (slotBytes * slotCount) (c .before .before .before .before .before .before .loop .inv .1 .0) (c .before .fill .ensures)))))
 
 returns : tie.Need-returns Inv-loop μ-loop
 returns c = let e : c .before .loop .i ≡ slotCount = omega arith in sym (take-all (c .before .loop .i) (c .before .loop .slots) (omega arith)) ∙ c .before .loop .inv .1 .1 .1 ∙ ap (λ (n : ℕ). slotsFrom n (c .before .before .args .t1)) e

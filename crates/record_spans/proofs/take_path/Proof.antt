@@ -1,5 +1,6 @@
 -- A path from its field, by cases on whether the content is longer than a path may be.
 -- Assumes nothing.
+use Rattle.card.specs.Sizes.{pathMostBytes}
 use mathlib.Core.Path.{ap, _∙_}
 use mathlib.Core.List.{List}
 use Prim.Native.Nat.{ℕ}
@@ -36,13 +37,13 @@ cast-t18 : tie.Need-cast-t18
 cast-t18 c = search needs
 
 returns : tie.Need-returns
-returns c = let p = c .before .before .before .before .before .content-span .ensures in (path-long (body (drop (c .before .before .before .before .before .before .before .args .at) (c .before .before .before .before .before .before .before .args .s .now))) (c .before .before .fill .last .0) (omega (arith, span-length p, c .if1 .taken)) (c .before .before .fill .ensures ∙ ap (λ (x : List ℕ). fit 40 x) (p .inside)), record { within = p .within; rest = p .behind })
+returns c = let p = c .before .before .before .before .before .content-span .ensures in (path-long (body (drop (c .before .before .before .before .before .before .before .args .at) (c .before .before .before .before .before .before .before .args .s .now))) (c .before .before .fill .last .0) (omega (arith, span-length p, c .if1 .taken)) (c .before .before .fill .ensures ∙ ap (λ (x : List ℕ). fit pathMostBytes x) (p .inside)), record { within = p .within; rest = p .behind })
 
 cast-t20 : tie.Need-cast-t20
 cast-t20 c = search needs
 
 returns-2 : tie.Need-returns-2
-returns-2 c = let p = c .before .before .before .before .before .content-span .ensures in (path-short (body (drop (c .before .before .before .before .before .before .before .args .at) (c .before .before .before .before .before .before .before .args .s .now))) (c .before .before .fill .last .0) _ (span-length p) (c .if1 .left) (c .before .before .fill .ensures ∙ ap (λ (x : List ℕ). fit 40 x) (p .inside)), record { within = p .within; rest = p .behind })
+returns-2 c = let p = c .before .before .before .before .before .content-span .ensures in (path-short (body (drop (c .before .before .before .before .before .before .before .args .at) (c .before .before .before .before .before .before .before .args .s .now))) (c .before .before .fill .last .0) _ (span-length p) (c .if1 .left) (c .before .before .fill .ensures ∙ ap (λ (x : List ℕ). fit pathMostBytes x) (p .inside)), record { within = p .within; rest = p .behind })
 
 pub take-path-spec : {M : Type 1} → statement M
 take-path-spec =

@@ -1,4 +1,4 @@
--- Each slot has a key of 32 bytes. Invariant: so have the slots passed.
+-- Each slot's key has the length of a key. Invariant: so have the slots passed.
 -- Assumes nothing.
 use mathlib.Core.Path.{_≡_, subst}
 use Prim.Native.Nat.{_≤_, _-_}

@@ -1,0 +1,39 @@
+-- How long the stored record is, in bytes: each group of fields as the sum of its fields, and the record as the sum of its groups.
+use Prim.Native.Nat.{ℕ, _+_, _*_}
+use Rattle.card.specs.Sizes.{uidBytes, publicKeyBytes, pinBytes, pukBytes, keyBytes, pathMostBytes, slotBytes, slotCount}
+
+-- a field's head, a tag of one byte and a length of two; and the field whose content has n bytes
+abbrev pub headBytes : ℕ
+headBytes = 1 + 2
+
+abbrev pub fieldBytes : ℕ → ℕ
+fieldBytes n = headBytes + n
+
+-- ---- the groups, in the table's order
+abbrev pub identityFieldsBytes : ℕ
+identityFieldsBytes = fieldBytes 1 + fieldBytes uidBytes + fieldBytes publicKeyBytes
+
+abbrev pub secretFieldsBytes : ℕ
+secretFieldsBytes =
+    fieldBytes pinBytes + fieldBytes pukBytes + fieldBytes keyBytes + fieldBytes (1 + 1) + fieldBytes (slotBytes * slotCount)
+
+-- without a key and with empty paths, and with all of them as long as they can be
+abbrev pub keyFieldsLeast : ℕ
+keyFieldsLeast = fieldBytes 1 + fieldBytes 0 + fieldBytes 0 + fieldBytes 0
+
+abbrev pub keyFieldsMost : ℕ
+keyFieldsMost = fieldBytes 1 + fieldBytes keyBytes + fieldBytes pathMostBytes + fieldBytes pathMostBytes
+
+-- ---- the record: before INIT, and the least and the greatest after it
+abbrev pub recordFresh : ℕ
+recordFresh = identityFieldsBytes
+
+abbrev pub recordLeast : ℕ
+recordLeast = identityFieldsBytes + secretFieldsBytes + keyFieldsLeast
+
+abbrev pub recordMost : ℕ
+recordMost = identityFieldsBytes + secretFieldsBytes + keyFieldsMost
+
+-- ---- the room that WRITE asks of a buffer (01, table of refusals): enough for any record
+abbrev pub writeRoom : ℕ
+writeRoom = recordMost

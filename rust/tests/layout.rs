@@ -1,0 +1,194 @@
+//! The numbers that `docs/LAYOUT.md` and `include/treadlewisp.h` write out, held against the crate's own, which follow from the fields.
+
+use std::collections::{BTreeMap, BTreeSet};
+use std::fs;
+
+use treadlewisp::*;
+
+/// A file of the repository.
+fn text(path: &str) -> String {
+    let file = format!("{}/../{path}", env!("CARGO_MANIFEST_DIR"));
+    fs::read_to_string(&file).unwrap_or_else(|why| panic!("{file}: {why}"))
+}
+
+/// A row of the layout's table: where the field begins, which a whole part's row leaves out, its length in bytes, and its name.
+type Row = (Option<usize>, usize, String);
+
+/// The rows of a table in the text, those whose second cell is a number.
+fn written_rows(text: &str) -> Vec<Row> {
+    let cells = |line: &str| -> Vec<String> {
+        let bare = |cell: &str| cell.trim().trim_matches(['*', '`']).to_string();
+        line.split('|').map(bare).collect()
+    };
+    let row = |line: &str| -> Option<Row> {
+        let cells = cells(line);
+        let bytes = cells.get(2)?.parse().ok()?;
+        Some((cells[1].parse().ok(), bytes, cells.get(3)?.clone()))
+    };
+    text.lines().filter_map(row).collect()
+}
+
+/// The rows of one field: a slot's flag and key stand apart for the first slot, a path's length and room for each path.
+fn field_rows(field: &CardField) -> Vec<Row> {
+    let row = |at: usize, bytes: usize, name: String| (Some(field.offset + at), bytes, name);
+    let path = field.path;
+    match field.name {
+        "slots" => {
+            let first = [row(0, 1, format!("{path}[0].filled")), row(1, KEY_BYTES, format!("{path}[0].key"))];
+            let other = |slot: usize| row(slot * SLOT_BYTES, SLOT_BYTES, format!("{path}[{slot}]"));
+            first.into_iter().chain((1..SLOTS).map(other)).collect()
+        }
+        "current" | "pinless" => vec![row(0, 1, format!("{path}.len")), row(1, PATH_MAX_BYTES, format!("{path}.bytes"))],
+        _ => vec![row(0, field.bytes, path.to_string())],
+    }
+}
+
+fn part_of(field: &CardField) -> Option<&'static str> {
+    field.path.split_once('.').map(|(part, _)| part)
+}
+
+#[test]
+fn the_table_of_the_layout() {
+    let mut rows: Vec<Row> = Vec::new();
+    let mut part = None;
+    for field in Card::FIELDS {
+        if part_of(field) != part {
+            part = part_of(field);
+            let of_part = Card::FIELDS.iter().filter(|field| part_of(field) == part);
+            let bytes = of_part.map(|field| field.bytes).sum();
+            rows.push((None, bytes, part.unwrap_or_default().to_string()));
+        }
+        rows.extend(field_rows(field));
+    }
+    assert_eq!(written_rows(&text("docs/LAYOUT.md")), rows);
+}
+
+#[test]
+fn the_lengths_that_the_layout_names() {
+    let layout = text("docs/LAYOUT.md");
+    let whole = format!("**{CARD_BYTES} bytes in all.**");
+    assert!(layout.contains(&whole), "{whole}");
+    let stored = format!("is {RECORD_FRESH_BYTES} to {RECORD_MAX_BYTES} bytes long");
+    assert!(layout.contains(&stored), "{stored}");
+}
+
+/// An array in C: the struct that it is in, its name, and how many elements it has.
+type Array = (String, String, usize);
+
+/// The arrays of a line such as `struct { uint8_t uid[16], public_key[65]; } identity;`.
+fn arrays(line: &str) -> Vec<Array> {
+    let (before, rest) = line.split_once('{').unwrap_or(("", line));
+    let (members, after) = rest.rsplit_once('}').unwrap_or((rest, ""));
+    let named = |text: &str| text.replace("struct", "").replace(';', "").trim().to_string();
+    let of = if named(before).is_empty() { named(after) } else { named(before) };
+    let array = |member: &str| {
+        let (name, count) = member.split_once('[')?;
+        let count = count.split_once(']')?.0.parse().ok()?;
+        Some((of.clone(), name.rsplit(' ').next()?.to_string(), count))
+    };
+    members.split([',', ';']).filter_map(array).collect()
+}
+
+#[test]
+fn the_struct_of_the_layout() {
+    let layout = text("docs/LAYOUT.md");
+    let block = layout
+        .split("```c")
+        .nth(1)
+        .and_then(|rest| rest.split("```").next())
+        .expect("a block of C");
+    let written: BTreeSet<Array> = block.lines().flat_map(arrays).collect();
+    let own = |of: &str, name: &str, count: usize| (of.to_string(), name.to_string(), count);
+    let mut expected = BTreeSet::from([
+        own("slot", "key", KEY_BYTES),
+        own("path", "bytes", PATH_MAX_BYTES),
+        own("pairing", "slots", SLOTS),
+    ]);
+    for field in Card::FIELDS {
+        if let Some((part, name)) = field.path.split_once('.') {
+            if field.bytes > 1 && !["slots", "current", "pinless"].contains(&name) {
+                expected.insert(own(part, name, field.bytes));
+            }
+        }
+    }
+    assert_eq!(written, expected);
+}
+
+/// The value of a sum of products of numbers and names.
+fn value(expression: &str, known: &BTreeMap<String, usize>) -> usize {
+    let factor = |word: &str| match word.strip_prefix("0x") {
+        Some(digits) => usize::from_str_radix(digits, 16).expect(word),
+        None => word.parse().unwrap_or_else(|_| *known.get(word).expect(word)),
+    };
+    let product = |term: &str| term.split('*').map(|word| factor(word.trim())).product::<usize>();
+    expression.split('+').map(product).sum()
+}
+
+/// The header's constants.
+fn header() -> BTreeMap<String, usize> {
+    let mut known = BTreeMap::new();
+    for line in text("include/treadlewisp.h").lines() {
+        let line = line.split("/*").next().unwrap_or_default().trim().trim_end_matches(',');
+        if let Some((name, expression)) = line.split_once(" = ") {
+            if name.starts_with("TW_") {
+                let number = value(expression, &known);
+                known.insert(name.to_string(), number);
+            }
+        }
+    }
+    known
+}
+
+/// The crate's constants of these names, with the header's names.
+macro_rules! named {
+    ($($name:ident),* $(,)?) => {
+        [$((concat!("TW_", stringify!($name)), $name as usize)),*]
+    };
+}
+
+#[test]
+fn the_constants_of_the_header() {
+    let header = header();
+    let constants = named![
+        SLOTS,
+        PIN_TRIES,
+        PUK_TRIES,
+        WALK_DEPTH_MAX,
+        UID_BYTES,
+        PUBLIC_KEY_BYTES,
+        PIN_BYTES,
+        PUK_BYTES,
+        KEY_BYTES,
+        IV_BYTES,
+        MAC_BYTES,
+        COMPONENT_BYTES,
+        PATH_MAX_BYTES,
+        SLOT_BYTES,
+        PATH_BYTES,
+        HEADER_BYTES,
+        STATUS_BYTES,
+        CARD_BYTES,
+        SESSION_BYTES,
+        FIELD_HEAD_BYTES,
+        RECORD_FRESH_BYTES,
+        RECORD_MIN_BYTES,
+        RECORD_MAX_BYTES,
+        ASK_ROOM_BYTES,
+        ANSWER_ROOM_BYTES,
+        SEAL_ROOM_BYTES,
+        UNSEAL_ROOM_BYTES,
+        WRITE_ROOM_BYTES,
+        DATA_MAX_BYTES,
+        SUPPLY_MAX_BYTES,
+    ];
+    for (name, number) in constants {
+        assert_eq!(header.get(name), Some(&number), "{name}");
+    }
+}
+
+#[test]
+fn the_offsets_of_the_header() {
+    let written: BTreeMap<String, usize> = header().into_iter().filter(|(name, _)| name.starts_with("TW_AT_")).collect();
+    let own = |field: &CardField| (format!("TW_AT_{}", field.name.to_uppercase()), field.offset);
+    assert_eq!(written, Card::FIELDS.iter().map(own).collect());
+}
