@@ -9,7 +9,7 @@ use native.Mathlib.Omega.{arith}
 use borrow.Author.Tests.{ltb-true, ltb-false}
 use lib.Dec.{ltb}
 use lib.ListN.{length}
-use Rattle.refusals.specs.Refusals.{writeRoom}
+use Rattle.record.specs.Lengths.{writeRoom}
 use Rattle.message.specs.declared.Session.{Session}
 use Rattle.message.specs.Terminal.{sealOut}
 use Rattle.walk.specs.declared.Fault.the-variants as fault
@@ -64,7 +64,7 @@ write-refuses c room = go (isSound c) (ltb room writeRoom) refl refl
         let z : writeRefusal c room ≡ 2 = rw (e, t) in
         record {
           unsound = (λ h. absurd (omega arith), λ h. never e h);
-          small = (λ h. (e, ltb-true room 448 t), λ h. z);
+          small = (λ h. (e, ltb-true room writeRoom t), λ h. z);
           others = omega arith;
           nothing = λ n. rw (e, t);
         }
@@ -72,7 +72,7 @@ write-refuses c room = go (isSound c) (ltb room writeRoom) refl refl
         let z : writeRefusal c room ≡ 0 = rw (e, t) in
         record {
           unsound = (λ h. absurd (omega arith), λ h. never e h);
-          small = (λ h. absurd (omega arith), λ h. absurd (omega (arith, ltb-false room 448 t, h .1)));
+          small = (λ h. absurd (omega arith), λ h. absurd (omega (arith, ltb-false room writeRoom t, h .1)));
           others = omega arith;
           nothing = λ n. absurd (n z);
         }

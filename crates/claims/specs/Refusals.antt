@@ -17,6 +17,7 @@ use Rattle.card.specs.Sound.{isSound}
 use Rattle.card.specs.Shape.{Shaped}
 use Rattle.sound.specs.Reset.{resetAnswer}
 use Rattle.record.specs.Fields.{recordOf}
+use Rattle.record.specs.Lengths.{writeRoom}
 use Rattle.record.specs.Answers.{writeRefusal, writeBytes, readAnswer}
 use Rattle.rules.specs.Supplies.{suits}
 use Rattle.rules.specs.Steps.{decide}
@@ -49,7 +50,7 @@ pub record ResetRefuses (c : Card) : Type 0 where
 -- ---- WRITE: 1, 2
 pub record WriteRefuses (c : Card) (room : ℕ) : Type 0 where
   pub unsound : writeRefusal c room ≡ 1 ↔ isSound c ≡ false
-  pub small : writeRefusal c room ≡ 2 ↔ (isSound c ≡ true) × (room < 448)
+  pub small : writeRefusal c room ≡ 2 ↔ (isSound c ≡ true) × (room < writeRoom)
   pub others : writeRefusal c room ≤ 2
   pub nothing : (writeRefusal c room ≡ 0 → ⊥) → writeBytes c room ≡ []
 

@@ -18,6 +18,7 @@ use Rattle.card.specs.Sound.{isSound}
 use Rattle.card.specs.Shape.{Shaped}
 use Rattle.sound.specs.Reset.{resetAnswer}
 use Rattle.record.specs.Fields.{recordOf}
+use Rattle.record.specs.Lengths.{recordFresh, recordLeast, recordMost, writeRoom}
 use Rattle.record.specs.Answers.{writeRefusal, writeBytes, readAnswer}
 use Rattle.rules.specs.Supplies.{suits}
 use Rattle.rules.specs.Steps.{goes, Arrived, arrival, decide}
@@ -31,7 +32,7 @@ pub record Responses : Type 0 where
 -- ---- the stored record: READ of WRITE is RESET, WRITE of READ is the record
 pub record Records : Type 0 where
   pub readwrite : (c : Card) (room : ℕ) → Shaped c → writeRefusal c room ≡ 0 → readAnswer (writeBytes c room) ≡ resetAnswer c
-  pub writeread : (s : List ℕ) (room : ℕ) → readAnswer s .refusal ≡ 0 → 448 ≤ room
+  pub writeread : (s : List ℕ) (room : ℕ) → readAnswer s .refusal ≡ 0 → writeRoom ≤ room
       → (writeRefusal (readAnswer s .card) room ≡ 0) × (writeBytes (readAnswer s .card) room ≡ s)
 
 -- ---- WALK: fields one behind the other add up, and each template that a command answers has the fields that it is made of, where each length
@@ -70,7 +71,7 @@ pub record Sizes : Type 0 where
   pub ask : (c : Card) (cmd : List ℕ) (room : ℕ) → Bytes cmd → isSound c ≡ true → 255 ≤ room → length (askOut c cmd room .bytes) ≤ 255
   pub answer : (c : Card) (cmd s : List ℕ) (room : ℕ) → Shaped c → length (answerOut c cmd s room .bytes) ≤ 242
   pub write : (c : Card) → Shaped c → isSound c ≡ true
-      → (length (recordOf c) ≡ 91) ⊎ ((336 ≤ length (recordOf c)) × (length (recordOf c) ≤ 448))
+      → (length (recordOf c) ≡ recordFresh) ⊎ ((recordLeast ≤ length (recordOf c)) × (length (recordOf c) ≤ recordMost))
 
 pub record Trips : Type 0 where
   pub responses : Responses

@@ -19,6 +19,7 @@ use Rattle.card.specs.Sound.{isSound, channelSound, sessionZero}
 use Rattle.card.specs.Shape.{Shaped}
 use Rattle.card.proofs.Tests.{both}
 use Rattle.card.proofs.Rules.{parts-rules, blank-rules, sound-cases}
+use Rattle.card.proofs.ShapeFacts.{fresh-shape}
 use Rattle.rules.specs.declared.Instruction.{Instruction}
 use Rattle.rules.specs.declared.Loss.{Loss}
 use Rattle.rules.specs.declared.Loss.the-variants as loss
@@ -159,19 +160,7 @@ answer-shaped c cmd s room e h = answer-fit c cmd s room e .shaped h
 
 -- ---- FRESH has the shape, and RESET keeps it; that both are sound is shown in crate `card`
 pub fresh-shaped : (uid key : List ℕ) → length uid ≡ 16 → length key ≡ 65 → Shaped (freshOf uid key)
-fresh-shaped uid key u k = record {
-  uid = u;
-  «public_key» = k;
-  pin = refl;
-  puk = refl;
-  secret = refl;
-  slots = refl;
-  keys = (refl, (refl, (refl, (refl, (refl, tt)))));
-  expected = refl;
-  keyuid = refl;
-  current = refl;
-  pinless = refl;
-}
+fresh-shaped = fresh-shape
 
 pub reset-shaped : (c : Card) → Shaped c → Shaped (resetOf c)
 reset-shaped c h = record {
