@@ -1,4 +1,5 @@
-//! The numbers that `docs/LAYOUT.md` and `include/treadlewisp.h` write out, held against the crate's own, which follow from the fields.
+//! The numbers that `docs/LAYOUT.md`, `include/treadlewisp.h` and the proved crates `card` and `record` have, held against this crate's own,
+//! which follow from the fields.
 
 use std::collections::{BTreeMap, BTreeSet};
 use std::fs;
@@ -114,41 +115,56 @@ fn the_struct_of_the_layout() {
     assert_eq!(written, expected);
 }
 
-/// The value of a sum of products of numbers and names.
-fn value(expression: &str, known: &BTreeMap<String, usize>) -> usize {
+/// Constants by their names, each as it is written: a sum of products of numbers and names.
+type Written = BTreeMap<String, String>;
+
+fn value(expression: &str, written: &Written) -> usize {
     let factor = |word: &str| match word.strip_prefix("0x") {
         Some(digits) => usize::from_str_radix(digits, 16).expect(word),
-        None => word.parse().unwrap_or_else(|_| *known.get(word).expect(word)),
+        None => word.parse().unwrap_or_else(|_| value(written.get(word).expect(word), written)),
     };
-    let product = |term: &str| term.split('*').map(|word| factor(word.trim())).product::<usize>();
+    let name = |word: &str| word.rsplit("::").next().unwrap_or(word).trim().to_string();
+    let product = |term: &str| term.split('*').map(|word| factor(&name(word))).product::<usize>();
     expression.split('+').map(product).sum()
 }
 
 /// The header's constants.
-fn header() -> BTreeMap<String, usize> {
-    let mut known = BTreeMap::new();
-    for line in text("include/treadlewisp.h").lines() {
-        let line = line.split("/*").next().unwrap_or_default().trim().trim_end_matches(',');
-        if let Some((name, expression)) = line.split_once(" = ") {
-            if name.starts_with("TW_") {
-                let number = value(expression, &known);
-                known.insert(name.to_string(), number);
-            }
-        }
-    }
-    known
+fn header() -> Written {
+    let constant = |line: &str| {
+        let line = line.split("/*").next()?.trim().trim_end_matches(',');
+        let (name, expression) = line.split_once(" = ")?;
+        name.starts_with("TW_").then(|| (name.to_string(), expression.to_string()))
+    };
+    text("include/treadlewisp.h").lines().filter_map(constant).collect()
 }
 
-/// The crate's constants of these names, with the header's names.
+/// The constants of a Rattle crate.
+fn rattle(name: &str) -> Written {
+    let constant = |item: &str| {
+        let (name, rest) = item.rsplit_once("const ")?.1.split_once(':')?;
+        let (_, expression) = rest.split_once('=')?;
+        Some((name.to_string(), expression.trim().to_string()))
+    };
+    text(&format!("crates/{name}/src/lib.rt")).split(';').filter_map(constant).collect()
+}
+
+/// The crate's constants of these names.
 macro_rules! named {
     ($($name:ident),* $(,)?) => {
-        [$((concat!("TW_", stringify!($name)), $name as usize)),*]
+        [$((stringify!($name), $name as usize)),*]
     };
+}
+
+/// Each constant is written with that value.
+fn hold(constants: &[(&str, usize)], front: &str, written: &Written) {
+    for (name, number) in constants {
+        let name = format!("{front}{name}");
+        assert_eq!(value(&name, written), *number, "{name}");
+    }
 }
 
 #[test]
 fn the_constants_of_the_header() {
-    let header = header();
     let constants = named![
         SLOTS,
         PIN_TRIES,
@@ -181,14 +197,42 @@ fn the_constants_of_the_header() {
         DATA_MAX_BYTES,
         SUPPLY_MAX_BYTES,
     ];
-    for (name, number) in constants {
-        assert_eq!(header.get(name), Some(&number), "{name}");
-    }
+    hold(&constants, "TW_", &header());
+}
+
+/// The proved code's lengths are the crate's, so that neither can change alone.
+#[test]
+fn the_constants_of_the_engine() {
+    let mut engine = rattle("card");
+    engine.extend(rattle("record"));
+    let constants = named![
+        SLOTS,
+        PIN_TRIES,
+        PUK_TRIES,
+        UID_BYTES,
+        PUBLIC_KEY_BYTES,
+        PIN_BYTES,
+        PUK_BYTES,
+        KEY_BYTES,
+        IV_BYTES,
+        PATH_MAX_BYTES,
+        SLOT_BYTES,
+        PATH_BYTES,
+        SESSION_BYTES,
+        CARD_BYTES,
+        RECORD_FRESH_BYTES,
+        RECORD_MIN_BYTES,
+        RECORD_MAX_BYTES,
+        WRITE_ROOM_BYTES,
+    ];
+    hold(&constants, "", &engine);
 }
 
 #[test]
 fn the_offsets_of_the_header() {
-    let written: BTreeMap<String, usize> = header().into_iter().filter(|(name, _)| name.starts_with("TW_AT_")).collect();
+    let header = header();
+    let offsets = header.keys().filter(|name| name.starts_with("TW_AT_"));
+    let written: BTreeMap<String, usize> = offsets.map(|name| (name.clone(), value(name, &header))).collect();
     let own = |field: &CardField| (format!("TW_AT_{}", field.name.to_uppercase()), field.offset);
     assert_eq!(written, Card::FIELDS.iter().map(own).collect());
 }

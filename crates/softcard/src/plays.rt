@@ -107,7 +107,11 @@ fn takes(call: Call, n: usize) -> bool {
 }
 
 fn help() {
-    say(b"fresh UID KEY                  a pre-initialised card; UID has 16 bytes, KEY 65 bytes\n");
+    say(b"fresh UID KEY                  a pre-initialised card; UID has ");
+    print::say_length(card::UID_BYTES);
+    say(b", KEY ");
+    print::say_length(card::PUBLIC_KEY_BYTES);
+    say(b"\n");
     say(b"reset                          power-up\n");
     say(b"ask COMMAND [room N]           which supply the card will read\n");
     say(b"answer COMMAND SUPPLY [room N] the card's response\n");
@@ -134,9 +138,13 @@ fn card_help() {
 }
 
 fn last_help() {
-    say(
-        b"session [ENC MAC IV]           the terminal's session, or a new one: 32, 32 and 16 bytes\n",
-    );
+    say(b"session [ENC MAC IV]           the terminal's session, or a new one: ");
+    print::say_size(card::KEY_BYTES);
+    say(b", ");
+    print::say_size(card::KEY_BYTES);
+    say(b" and ");
+    print::say_length(card::IV_BYTES);
+    say(b"\n");
     say(b"session card                   the session of the card's channel\n");
     say(b"Bytes: 00A4, 00*32 (32 times), A0+16 (16 rising), last, - (none), 01.11*32 (joined).\n");
     say(b"room N lends a buffer of N bytes, 0 to 1024. Every length is in bytes.\n");
