@@ -1,11 +1,11 @@
-// AES-256 in CBC mode and CBC-MAC for callers in C and Rust: the functions of the crate `cbc`, on slices of any length.
+// AES-256 in CBC mode and CBC-MAC for callers in C and Rust: the functions of the crate `aes_cbc`, on slices of any length.
 // A key has 32 bytes, an IV and a MAC 16 bytes, the data whole blocks of 16 bytes; a call with another length is refused with a number
 // (specs/Calls.antt has them) and changes nothing.
 // Proved, for every call: the number, and every byte of the caller's buffer, are the definition's.
 ghost use mathlib.Core.Path.{_≡_};
 ghost use lib.ListN.{length};
-ghost use Rattle.aes.specs.Aes.{aes256, invAes256};
-ghost use Rattle.cbc.specs.Mode.{cbcEncrypt, cbcDecrypt, cbcMac};
+ghost use Rattle.aes_rules.specs.Aes.{aes256, invAes256};
+ghost use Rattle.aes_cbc.specs.Mode.{cbcEncrypt, cbcDecrypt, cbcMac};
 ghost use Rattle.aes_c.specs.Calls.{cbcAnswer, macAnswer, Did};
 use aes_keys::KEY_BYTES;
 use octets::BLOCK_BYTES;
@@ -77,7 +77,7 @@ pub extern "C" fn tw_cbc_encrypt(key: &[u8], iv: &[u8], buf: &mut [u8]) -> u8
         return answer;
     }
     let k = key_of(key);
-    cbc::cbc_encrypt(&k, octets::block(iv), buf);
+    aes_cbc::cbc_encrypt(&k, octets::block(iv), buf);
     DONE
 }
 
@@ -93,7 +93,7 @@ pub extern "C" fn tw_cbc_decrypt(key: &[u8], iv: &[u8], buf: &mut [u8]) -> u8
         return answer;
     }
     let k = key_of(key);
-    cbc::cbc_decrypt(&k, octets::block(iv), buf);
+    aes_cbc::cbc_decrypt(&k, octets::block(iv), buf);
     DONE
 }
 
@@ -110,7 +110,7 @@ pub extern "C" fn tw_cbc_mac(key: &[u8], text: &[u8], mac: &mut [u8]) -> u8
     }
     let k = key_of(key);
     let head = octets::block(&text[..BLOCK_BYTES]);
-    let m = cbc::cbc_mac(&k, head, &text[BLOCK_BYTES..]);
+    let m = aes_cbc::cbc_mac(&k, head, &text[BLOCK_BYTES..]);
     octets::put(mac, 0, &m);
     DONE
 }

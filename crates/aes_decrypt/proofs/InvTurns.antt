@@ -5,8 +5,8 @@ use mathlib.Core.List.{List}
 use Prim.Native.Nat.{ℕ, suc, _+_, _-_, _≤_, _<_}
 use native.Mathlib.Omega.{arith}
 use Rattle.octets.specs.Bytes.{xorBytes}
-use Rattle.aes.specs.Cipher.{addRoundKey, roundKey}
-use Rattle.aes.specs.InvCipher.{invShiftRows, invSubBytes, invMixColumns, invRound, invRounds, invCipher}
+use Rattle.aes_rules.specs.Cipher.{addRoundKey, roundKey}
+use Rattle.aes_rules.specs.InvCipher.{invShiftRows, invSubBytes, invMixColumns, invRound, invRounds, invCipher}
 
 -- behind round r, t is the state from which the rounds r - 1 to 1 are left
 pub turn : (w t t₀ v : List ℕ) (r : ℕ) → 1 < r → invRounds w (r - 1) t ≡ invRounds w 13 t₀

@@ -4,15 +4,15 @@
 ghost use mathlib.Core.Path.{_≡_};
 ghost use mathlib.Core.List.{[], _∷_};
 ghost use lib.ListN.{length};
-ghost use Rattle.field.specs.Tables.{invSbox};
-ghost use Rattle.aes.specs.InvCipher.{invShiftRows, invSubBytes, invMixRow, invMixColumns, invCipher};
+ghost use Rattle.aes_field.specs.Tables.{invSbox};
+ghost use Rattle.aes_rules.specs.InvCipher.{invShiftRows, invSubBytes, invMixRow, invMixColumns, invCipher};
+use aes_bytes::inv_sub_byte;
+use aes_bytes::times_9;
+use aes_bytes::times_11;
+use aes_bytes::times_13;
+use aes_bytes::times_14;
 use aes_keys::ROUNDS;
 use aes_keys::round_key;
-use byte_ops::inv_sub_byte;
-use byte_ops::times_9;
-use byte_ops::times_11;
-use byte_ops::times_13;
-use byte_ops::times_14;
 use octets::xor_blocks;
 
 // Byte i is in row i % 4; its row is shifted to the right by as many columns of 4 bytes, so to the left by 12 bytes for each.

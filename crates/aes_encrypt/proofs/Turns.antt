@@ -5,7 +5,7 @@ use mathlib.Core.List.{List}
 use Prim.Native.Nat.{ℕ, suc, _+_, _-_, _≤_}
 use native.Mathlib.Omega.{arith}
 use Rattle.octets.specs.Bytes.{xorBytes}
-use Rattle.aes.specs.Cipher.{subBytes, shiftRows, mixColumns, addRoundKey, roundKey, round, rounds, cipher}
+use Rattle.aes_rules.specs.Cipher.{subBytes, shiftRows, mixColumns, addRoundKey, roundKey, round, rounds, cipher}
 
 -- ahead of round r, t is the state after the rounds 1 to r - 1
 pub turn : (w t t₀ v : List ℕ) (r : ℕ) → 1 ≤ r → t ≡ rounds w (r - 1) t₀ → v ≡ xorBytes (mixColumns (shiftRows (subBytes t))) (roundKey w r)

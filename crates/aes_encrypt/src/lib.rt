@@ -4,12 +4,12 @@
 ghost use mathlib.Core.Path.{_≡_};
 ghost use mathlib.Core.List.{[], _∷_};
 ghost use lib.ListN.{length};
-ghost use Rattle.field.specs.Tables.{sbox};
-ghost use Rattle.aes.specs.Cipher.{subBytes, shiftRows, mixRow, mixColumns, cipher};
+ghost use Rattle.aes_field.specs.Tables.{sbox};
+ghost use Rattle.aes_rules.specs.Cipher.{subBytes, shiftRows, mixRow, mixColumns, cipher};
+use aes_bytes::sub_byte;
+use aes_bytes::x_times;
 use aes_keys::ROUNDS;
 use aes_keys::round_key;
-use byte_ops::sub_byte;
-use byte_ops::x_times;
 use octets::xor_blocks;
 
 fn sub_bytes(table: &[u8; 256], s: [u8; 16]) -> [u8; 16]

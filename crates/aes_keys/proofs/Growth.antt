@@ -7,7 +7,7 @@ use native.Mathlib.Omega.{arith}
 use lib.ListN.{length, take, drop}
 use Rattle.octets.specs.Bytes.{overwrite}
 use Rattle.octets.proofs.Lists.{take-overwrite}
-use Rattle.aes.specs.Schedule.{nextWord, expand}
+use Rattle.aes_rules.specs.Schedule.{nextWord, expand}
 
 -- the first n bytes of w are the schedule so far; m is n as the code counts the part
 pub grown : (key w word : List ℕ) (n m : ℕ) → take n w ≡ expand ((n - 32) / 4) key → 32 ≤ n → m ≡ n → n + 4 ≤ length w

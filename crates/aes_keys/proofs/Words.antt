@@ -10,7 +10,7 @@ use lib.ListN.{length, take, drop, getD, length-take, length-drop}
 use lib.Seq.{getD-take, getD-drop}
 use Rattle.octets.specs.Bytes.{xorBytes}
 use Rattle.octets.proofs.Lists.{written, _&_}
-use Rattle.aes.specs.Schedule.{rotWord, subWord, rcon, changed, wordAt, nextWord}
+use Rattle.aes_rules.specs.Schedule.{rotWord, subWord, rcon, changed, wordAt, nextWord}
 
 -- ---- wordAt
 byte-of : (w : List ℕ) (m k : ℕ) → k < 4 → getD (wordAt w m) k 0 ≡ getD w (m + k) 0

@@ -5,10 +5,10 @@ ghost use mathlib.Core.Path.{_≡_};
 ghost use Prim.Native.Nat.{_+_, _≤_, _<_};
 ghost use lib.ListN.{length};
 ghost use Rattle.octets.specs.Bytes.{xorBytes};
-ghost use Rattle.field.specs.Tables.{sbox};
-ghost use Rattle.aes.specs.Cipher.{roundKey};
-ghost use Rattle.aes.specs.Schedule.{rotWord, subWord, rcon, wordAt, nextWord, keyExpansion};
-use byte_ops::sub_byte;
+ghost use Rattle.aes_field.specs.Tables.{sbox};
+ghost use Rattle.aes_rules.specs.Cipher.{roundKey};
+ghost use Rattle.aes_rules.specs.Schedule.{rotWord, subWord, rcon, wordAt, nextWord, keyExpansion};
+use aes_bytes::sub_byte;
 
 // A key of AES-256 and its schedule, in bytes.
 pub const KEY_BYTES: usize = 32;

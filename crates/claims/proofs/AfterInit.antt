@@ -7,7 +7,7 @@ use mathlib.Core.List.{List}
 use mathlib.Core.Option.{some}
 use Prim.Native.Nat.{ℕ}
 use lib.Dec.{ltb, eqb}
-use Rattle.template.proofs.HeadFacts.{by-test}
+use Rattle.template_rules.proofs.HeadFacts.{by-test}
 use Rattle.refusals.specs.Refusals.{answerRoom}
 use Rattle.card.specs.declared.Card.{Card}
 use Rattle.card.specs.Sound.{isSound}
@@ -20,12 +20,12 @@ use Rattle.rules.specs.Rows.{rowOf, offered, isPlain}
 use Rattle.rules.specs.Channel.{Outgoing, tell}
 use Rattle.rules.specs.Steps.{Step, step1, p1Of, p2Of, isInitialised, Opened, Arrived, arrival, checksOf, supplyOf, replyOf, Decision, byVerdict, step6, finish, decide}
 use Rattle.rules.specs.Engine.{AnswerOut, answerOut}
-use Rattle.rule_laws.specs.Lawful.{Full, Filled}
-use Rattle.rule_laws.proofs.Checks.{by-verdict}
-use Rattle.rule_laws.proofs.Arrival.{At, cardAt, lostAt, arrivedAt, by-step5, by-opened, by-pastStep1, ready}
-use Rattle.rule_laws.proofs.Parts.{before-init}
-use Rattle.rule_laws.proofs.Table.{lawful}
-use Rattle.engine_laws.proofs.Sound.{step1-keeps, begun-keeps, failed-keeps}
+use Rattle.laws_commands.specs.Lawful.{Full, Filled}
+use Rattle.laws_commands.proofs.Checks.{by-verdict}
+use Rattle.laws_commands.proofs.Arrival.{At, cardAt, lostAt, arrivedAt, by-step5, by-opened, by-pastStep1, ready}
+use Rattle.laws_commands.proofs.Parts.{before-init}
+use Rattle.laws_commands.proofs.Table.{lawful}
+use Rattle.laws_engine.proofs.Sound.{step1-keeps, begun-keeps, failed-keeps}
 
 -- a card that is not initialised and has no key
 abbrev Bare : Card → Type 0

@@ -1,6 +1,6 @@
 -- The claims, proved.
 -- Assumes nothing.
-use Rattle.exchange_laws.proofs.Exchanges.{together}
+use Rattle.laws_exchange.proofs.Exchanges.{together}
 use Rattle.claims.specs.Claims.{Claims}
 use Rattle.claims.proofs.Rows.{rows}
 use Rattle.claims.proofs.RowsMet.{rows-met}

@@ -12,19 +12,19 @@ use lib.Dec.{ltb}
 use lib.ListN.{length, take, drop, length-drop}
 use Rattle.octets.specs.Bytes.{Bytes, sameBytes}
 use Rattle.octets.proofs.Lists.{bytes-take, bytes-drop}
-use Rattle.aes.specs.Aes.{aes256, invAes256}
-use Rattle.aes.proofs.Permutation.{aes-permutes}
-use Rattle.cbc.specs.Mode.{cbcDecrypt}
-use Rattle.cbc.proofs.Laws.{bytes-cbc-decrypt}
-use Rattle.padding.specs.Padding.{unpad}
-use Rattle.padding.proofs.Laws.{unpad-front}
-use Rattle.message.specs.declared.Session.{Session}
-use Rattle.message.specs.Message.{Keyed, responseHead, macOf, fieldForm, openField}
-use Rattle.message.specs.Terminal.{Out, refused, plainSuccess, sealedResponse, sealedField, unsealed, unsealOut}
-use Rattle.message.proofs.Fields.{provided-some, provided-is, form-is, opened-short}
-use Rattle.message.proofs.Trips.{unseal-seals}
-use Rattle.message.proofs.Accepted.{unseal-sound}
-use Rattle.template.proofs.HeadFacts.{by-test}
+use Rattle.aes_rules.specs.Aes.{aes256, invAes256}
+use Rattle.aes_rules.proofs.Permutation.{aes-permutes}
+use Rattle.aes_cbc.specs.Mode.{cbcDecrypt}
+use Rattle.aes_cbc.proofs.Laws.{bytes-cbc-decrypt}
+use Rattle.aes_padding.specs.Padding.{unpad}
+use Rattle.aes_padding.proofs.Laws.{unpad-front}
+use Rattle.channel_rules.specs.declared.Session.{Session}
+use Rattle.channel_rules.specs.Message.{Keyed, responseHead, macOf, fieldForm, openField}
+use Rattle.channel_rules.specs.Terminal.{Out, refused, plainSuccess, sealedResponse, sealedField, unsealed, unsealOut}
+use Rattle.channel_rules.proofs.Fields.{provided-some, provided-is, form-is, opened-short}
+use Rattle.channel_rules.proofs.Trips.{unseal-seals}
+use Rattle.channel_rules.proofs.Accepted.{unseal-sound}
+use Rattle.template_rules.proofs.HeadFacts.{by-test}
 use Rattle.claims.specs.Refusals.{Genuine, UnsealRefuses}
 
 -- ---- what opens is bytes

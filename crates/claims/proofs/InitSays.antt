@@ -9,7 +9,7 @@ use Prim.Native.Nat.{ℕ}
 use native.Mathlib.Omega.{arith}
 use lib.Dec.{ltb, eqb}
 use lib.ListN.{length, getD}
-use Rattle.template.proofs.HeadFacts.{by-test}
+use Rattle.template_rules.proofs.HeadFacts.{by-test}
 use Rattle.refusals.specs.Refusals.{answerRoom}
 use Rattle.card.specs.declared.Card.{Card}
 use Rattle.card.specs.Slots.{isZero}
@@ -25,7 +25,7 @@ use Rattle.rules.specs.Rows.{rowOf}
 use Rattle.rules.specs.Channel.{plainText, tell}
 use Rattle.rules.specs.Steps.{then, step1, dataOf, byForm, claOf, insOf, p1Of, p2Of, nameOf, isInitialised, step3, step4, Arrived, byChoice, step5, pastStep1, arrival, Decision, byVerdict, step6, finish, decide}
 use Rattle.rules.specs.Engine.{AnswerOut, answerOut}
-use Rattle.engine_laws.proofs.Sound.{step1-keeps}
+use Rattle.laws_engine.proofs.Sound.{step1-keeps}
 
 abbrev says : List ℕ
 says = 0x90 ∷ 0x00 ∷ []

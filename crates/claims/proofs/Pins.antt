@@ -10,7 +10,7 @@ use borrow.Author.Tests.{ne-eqb}
 use lib.ListN.{take}
 use Rattle.octets.specs.Bytes.{sameBytes}
 use Rattle.octets.proofs.Lists.{same-eq}
-use Rattle.message.specs.Terminal.{sealedResponse}
+use Rattle.channel_rules.specs.Terminal.{sealedResponse}
 use Rattle.card.specs.declared.Channel.{Channel}
 use Rattle.card.specs.declared.Pins.{Pins}
 use Rattle.card.specs.declared.Card.{Card}
@@ -25,9 +25,9 @@ use Rattle.rules.specs.Commands.{pinWrong, verifyChecks, verifyReply, ruleOf}
 use Rattle.rules.specs.Channel.{sessionOf, withMac, plainText, sealed}
 use Rattle.rules.specs.Steps.{step1, Arrived, checksOf, supplyOf}
 use Rattle.rules.specs.Engine.{AnswerOut, answered, answerOut}
-use Rattle.engine_laws.proofs.Sound.{step1-keeps, answer-sound}
-use Rattle.exchange_laws.specs.Opens.{outcome}
-use Rattle.exchange_laws.proofs.Answers.{arrived-in2, result-channel, answer-stage2}
+use Rattle.laws_engine.proofs.Sound.{step1-keeps, answer-sound}
+use Rattle.laws_exchange.specs.Opens.{outcome}
+use Rattle.laws_exchange.proofs.Answers.{arrived-in2, result-channel, answer-stage2}
 use Rattle.claims.specs.Rows.{Sent, Gives, Entry, entered, after, Entries}
 
 -- ---- any command over the channel

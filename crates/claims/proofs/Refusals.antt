@@ -9,22 +9,22 @@ use native.Mathlib.Omega.{arith}
 use borrow.Author.Tests.{ltb-true, ltb-false}
 use lib.Dec.{ltb}
 use lib.ListN.{length}
-use Rattle.record.specs.Lengths.{writeRoom}
-use Rattle.message.specs.declared.Session.{Session}
-use Rattle.message.specs.Terminal.{sealOut}
-use Rattle.walk.specs.declared.Fault.the-variants as fault
-use Rattle.walk.specs.declared.Walked.{Walked}
-use Rattle.walk.specs.declared.Walked.the-variants as walked
-use Rattle.walk.specs.Walk.{walkOf, report}
+use Rattle.record_rules.specs.Lengths.{writeRoom}
+use Rattle.channel_rules.specs.declared.Session.{Session}
+use Rattle.channel_rules.specs.Terminal.{sealOut}
+use Rattle.template_walk.specs.declared.Fault.the-variants as fault
+use Rattle.template_walk.specs.declared.Walked.{Walked}
+use Rattle.template_walk.specs.declared.Walked.the-variants as walked
+use Rattle.template_walk.specs.Walk.{walkOf, report}
 use Rattle.card.specs.declared.Card.{Card}
 use Rattle.card.specs.Sound.{isSound}
 use Rattle.card.specs.Shape.{Shaped}
 use Rattle.sound.specs.declared.Answer.{Answer}
 use Rattle.sound.specs.Reset.{resetAnswer}
-use Rattle.record.specs.Parse.{slotsFrom, cardOf}
-use Rattle.record.specs.Answers.{writeRefusal, writeBytes, readAnswer}
-use Rattle.record.proofs.ReadFacts.{read-cases, read-refuses}
-use Rattle.engine_laws.proofs.Refusals.{ask-refused, ask-unsound, ask-room, ask-numbers, answer-refused, answer-unsound, answer-room, answer-supply, answer-numbers}
+use Rattle.record_rules.specs.Parse.{slotsFrom, cardOf}
+use Rattle.record_rules.specs.Answers.{writeRefusal, writeBytes, readAnswer}
+use Rattle.record_rules.proofs.ReadFacts.{read-cases, read-refuses}
+use Rattle.laws_engine.proofs.Refusals.{ask-refused, ask-unsound, ask-room, ask-numbers, answer-refused, answer-unsound, answer-room, answer-supply, answer-numbers}
 use Rattle.claims.specs.Refusals.{ResetRefuses, WriteRefuses, IsRecord, ReadRefuses, SealRefuses, WalkRefuses, Refusals}
 use Rattle.claims.proofs.Genuine.{unseal-refuses}
 

@@ -10,10 +10,10 @@ use borrow.Author.Tests.{le-ltb}
 use lib.Dec.{eqb}
 use lib.ListN.{length, take, drop, length-append}
 use lib.Seq.{take-at, drop-at}
-use Rattle.padding.specs.Padding.{paddedBytes, pad, unpad}
-use Rattle.padding.proofs.Laws.{length-pad}
-use Rattle.walk.specs.Walk.{fieldWith, fieldsOf, valueOf}
-use Rattle.answer_templates.specs.Answers.{signature}
+use Rattle.aes_padding.specs.Padding.{paddedBytes, pad, unpad}
+use Rattle.aes_padding.proofs.Laws.{length-pad}
+use Rattle.template_walk.specs.Walk.{fieldWith, fieldsOf, valueOf}
+use Rattle.template_answers.specs.Answers.{signature}
 use Rattle.card.specs.declared.Pins.{Pins}
 use Rattle.card.specs.declared.Keys.{Keys}
 use Rattle.card.specs.declared.Card.{Card}
@@ -29,8 +29,8 @@ use Rattle.rules.specs.Rows.{rowOf}
 use Rattle.rules.specs.Channel.{plainText}
 use Rattle.rules.specs.Steps.{then, stopsWith, begins, forgetting, step1, dataOf, nameOf, isInitialised, byName, step4, step5, pastStep1, arrival, supplyOf, replyOf, decide}
 use Rattle.rules.specs.Engine.{answerOut}
-use Rattle.rule_laws.specs.Lawful.{Full}
-use Rattle.exchange_laws.specs.Opens.{outcome}
+use Rattle.laws_commands.specs.Lawful.{Full}
+use Rattle.laws_exchange.specs.Opens.{outcome}
 use Rattle.claims.specs.Rows.{Sent, Gives, Initialises, initialised, InChannel, number32, Rows}
 use Rattle.claims.proofs.Pins.{here-keeps, gives, first-wrong, third-wrong, right-then}
 use Rattle.claims.proofs.AfterInit.{init-full}

@@ -11,7 +11,7 @@ use lib.Dec.{leb}
 use lib.ListN.{length}
 use Rattle.octets.specs.Bytes.{Bytes}
 use Rattle.octets.proofs.Lists.{bytes-replicate}
-use Rattle.message.specs.Terminal.{Out, sealedCommand}
+use Rattle.channel_rules.specs.Terminal.{Out, sealedCommand}
 use Rattle.card.specs.declared.Card.{Card}
 use Rattle.card.specs.State.{zeros, noKeys}
 use Rattle.card.specs.Slots.{allOf}
@@ -28,12 +28,12 @@ use Rattle.rules.specs.Rows.{rowOf, isPlain}
 use Rattle.rules.specs.Channel.{sessionOf}
 use Rattle.rules.specs.Steps.{isInitialised}
 use Rattle.rules.specs.Engine.{answerOut}
-use Rattle.engine_laws.proofs.Sound.{answer-sound}
-use Rattle.exchange_laws.specs.Exchange.{Typed, Turn, answeredBy, unsealedBy, Names, InStage2}
-use Rattle.exchange_laws.proofs.Seals.{gives, is-after}
-use Rattle.exchange_laws.proofs.Exchanges.{opens2, in-stage2, names}
-use Rattle.two_runs.specs.Runs.{nextAt}
-use Rattle.two_runs.proofs.Reached.{fresh, initCommand, initialisedCard, init-reaches, inChannel, session-keyed, stage2-reached, reached-sound}
+use Rattle.laws_engine.proofs.Sound.{answer-sound}
+use Rattle.laws_exchange.specs.Exchange.{Typed, Turn, answeredBy, unsealedBy, Names, InStage2}
+use Rattle.laws_exchange.proofs.Seals.{gives, is-after}
+use Rattle.laws_exchange.proofs.Exchanges.{opens2, in-stage2, names}
+use Rattle.laws_two_runs.specs.Runs.{nextAt}
+use Rattle.laws_two_runs.proofs.Reached.{fresh, initCommand, initialisedCard, init-reaches, inChannel, session-keyed, stage2-reached, reached-sound}
 use Rattle.claims.specs.Rows.{Entry, after, Entries, Initialises}
 use Rattle.claims.specs.RowsMet.{RowsMet}
 use Rattle.claims.proofs.InitSays.{init-initialises}

@@ -1,4 +1,4 @@
--- Demand 3: the theorem of crate `two_runs`, and cards and lists of calls that show that it is not empty.
+-- Demand 3: the theorem of crate `laws_two_runs`, and cards and lists of calls that show that it is not empty.
 -- Assumes nothing.
 use mathlib.Core.Path.{_≡_, refl, ap, ap₂, _∙_}
 use mathlib.Core.Bool.{true, false}
@@ -16,13 +16,13 @@ use Rattle.card.specs.Sound.{isSound}
 use Rattle.rules.specs.Commands.{keyWith}
 use Rattle.rules.specs.Rules.{pin, puk}
 use Rattle.rules.specs.Comparison.{Comparison}
-use Rattle.two_runs.specs.Runs.{Call}
-use Rattle.two_runs.proofs.TwoRuns.{two-runs}
-use Rattle.two_runs.proofs.Sealed.{InStage2}
-use Rattle.two_runs.proofs.Meets.{secrets-meet, Met, by, unblock-meets}
-use Rattle.two_runs.proofs.WrongEntries.{verifyCall, verifyCalls, AllCompare}
-use Rattle.two_runs.proofs.Reached.{Reachable, initialisedCard, initialised-sound, initialised-reached, stage1-reached, inChannel, session-keyed, stage2-reached, kind1-reached, kind2-reached, reached-sound}
-use Rattle.two_runs.proofs.Examples.{digits, card000000, card111111, cardOtherPuk, wrong-entry, right-entry, threeTimes, three-wrong}
+use Rattle.laws_two_runs.specs.Runs.{Call}
+use Rattle.laws_two_runs.proofs.TwoRuns.{two-runs}
+use Rattle.laws_two_runs.proofs.Sealed.{InStage2}
+use Rattle.laws_two_runs.proofs.Meets.{secrets-meet, Met, by, unblock-meets}
+use Rattle.laws_two_runs.proofs.WrongEntries.{verifyCall, verifyCalls, AllCompare}
+use Rattle.laws_two_runs.proofs.Reached.{Reachable, initialisedCard, initialised-sound, initialised-reached, stage1-reached, inChannel, session-keyed, stage2-reached, kind1-reached, kind2-reached, reached-sound}
+use Rattle.laws_two_runs.proofs.Examples.{digits, card000000, card111111, cardOtherPuk, wrong-entry, right-entry, threeTimes, three-wrong}
 use Rattle.claims.specs.Secrecy.{Reaches, comparisonsOf, Meets, Secrecy}
 
 -- ---- what is reached from FRESH

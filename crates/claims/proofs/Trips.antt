@@ -5,24 +5,24 @@ use mathlib.Core.Bool.{Bool, true, false}
 use mathlib.Core.List.{List, _++_}
 use Prim.Native.Nat.{ℕ, _+_}
 use native.Mathlib.Omega.{arith}
-use Rattle.message.proofs.Trips.{unseal-seals}
-use Rattle.walk.specs.declared.Fault.the-variants as fault
-use Rattle.walk.specs.declared.Walked.{Walked}
-use Rattle.walk.specs.declared.Walked.the-variants as walked
-use Rattle.walk.specs.Walk.{walkOf, WalkOut, report, WALK}
-use Rattle.walk.proofs.Joining.{walk-sum}
-use Rattle.answer_templates.proofs.Walks.{walk-pre-initialised, walk-application-info, walk-status, walk-signature}
+use Rattle.channel_rules.proofs.Trips.{unseal-seals}
+use Rattle.template_walk.specs.declared.Fault.the-variants as fault
+use Rattle.template_walk.specs.declared.Walked.{Walked}
+use Rattle.template_walk.specs.declared.Walked.the-variants as walked
+use Rattle.template_walk.specs.Walk.{walkOf, WalkOut, report, WALK}
+use Rattle.template_walk.proofs.Joining.{walk-sum}
+use Rattle.template_answers.proofs.Walks.{walk-pre-initialised, walk-application-info, walk-status, walk-signature}
 use Rattle.card.specs.declared.Card.{Card}
 use Rattle.card.specs.State.{resetOf}
 use Rattle.card.specs.Sound.{isSound}
 use Rattle.card.proofs.SoundFacts.{fresh-sound, reset-sound}
 use Rattle.sound.specs.declared.Answer.{Answer}
 use Rattle.sound.specs.Reset.{done, resetAnswer}
-use Rattle.record.specs.Answers.{writeRefusal}
-use Rattle.record.proofs.ReadFacts.{read-write, write-read, read-sound, record-length}
-use Rattle.engine_laws.proofs.Sound.{answer-sound}
-use Rattle.engine_laws.proofs.Rooms.{answer-most, ask-most}
-use Rattle.engine_laws.proofs.Agreement.{kind-is, ask-data, ask-empty, unread-taken, unread-same, read-refused, read-taken}
+use Rattle.record_rules.specs.Answers.{writeRefusal}
+use Rattle.record_rules.proofs.ReadFacts.{read-write, write-read, read-sound, record-length}
+use Rattle.laws_engine.proofs.Sound.{answer-sound}
+use Rattle.laws_engine.proofs.Rooms.{answer-most, ask-most}
+use Rattle.laws_engine.proofs.Agreement.{kind-is, ask-data, ask-empty, unread-taken, unread-same, read-refused, read-taken}
 use Rattle.claims.specs.Trips.{Trips}
 use Rattle.claims.proofs.Refusals.{refusals}
 

@@ -12,14 +12,14 @@ use Rattle.card.specs.declared.Card.{Card}
 use Rattle.card.specs.State.{zeros, withPairing}
 use Rattle.card.specs.Slots.{allOf, someOf}
 use Rattle.card.specs.Sound.{isSound}
-use Rattle.slots.specs.Free.{firstFree}
+use Rattle.card_slots.specs.Free.{firstFree}
 use Rattle.rules.specs.Supplies.{suits}
 use Rattle.rules.specs.Commands.{pendingWith, withSlot, filledWith, pairFirstChecks, pairFirstReply, pairFinalChecks, pairInto, pairFinalReply, ruleOf}
 use Rattle.rules.specs.Rows.{rowOf}
 use Rattle.rules.specs.Channel.{tell}
 use Rattle.rules.specs.Steps.{step1, dataOf, nameOf, step4, step5, pastStep1, arrival, step6, decide}
 use Rattle.rules.specs.Engine.{AnswerOut, answerOut}
-use Rattle.two_runs.proofs.Reached.{initialisedCard, initialised-sound}
+use Rattle.laws_two_runs.proofs.Reached.{initialisedCard, initialised-sound}
 use Rattle.claims.specs.WrongEngines.{WrongEngines}
 
 -- ---- the empty command

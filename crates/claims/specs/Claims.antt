@@ -1,7 +1,7 @@
 -- The claims, to be read first: what 01 demands of the card, the terminal's end and the stored record, as one statement. Each field names a
--- statement of this crate (Rows, RowsMet, WrongEngines, Refusals, Trips, Secrecy) or of crate `exchange_laws`; those cite nothing but
+-- statement of this crate (Rows, RowsMet, WrongEngines, Refusals, Trips, Secrecy) or of crate `laws_exchange`; those cite nothing but
 -- definitions, and the code's contracts cite the same definitions. The proof is `claims` of proofs/Claims.
-use Rattle.exchange_laws.specs.Exchange.{Together}
+use Rattle.laws_exchange.specs.Exchange.{Together}
 use Rattle.claims.specs.Rows.{Rows}
 use Rattle.claims.specs.RowsMet.{RowsMet}
 use Rattle.claims.specs.WrongEngines.{WrongEngines}

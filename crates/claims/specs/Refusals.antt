@@ -7,18 +7,18 @@ use mathlib.Core.List.{List, []}
 use mathlib.Core.Logic.{_↔_, _⊎_}
 use lib.ListN.{length}
 use Rattle.octets.specs.Bytes.{Bytes}
-use Rattle.message.specs.declared.Session.{Session}
-use Rattle.message.specs.Message.{Keyed}
-use Rattle.message.specs.Terminal.{sealOut, sealedResponse, unsealOut}
-use Rattle.walk.specs.Walk.{WALK}
+use Rattle.channel_rules.specs.declared.Session.{Session}
+use Rattle.channel_rules.specs.Message.{Keyed}
+use Rattle.channel_rules.specs.Terminal.{sealOut, sealedResponse, unsealOut}
+use Rattle.template_walk.specs.Walk.{WALK}
 use Rattle.card.specs.declared.Card.{Card}
 use Rattle.card.specs.State.{zeros, freshOf}
 use Rattle.card.specs.Sound.{isSound}
 use Rattle.card.specs.Shape.{Shaped}
 use Rattle.sound.specs.Reset.{resetAnswer}
-use Rattle.record.specs.Fields.{recordOf}
-use Rattle.record.specs.Lengths.{writeRoom}
-use Rattle.record.specs.Answers.{writeRefusal, writeBytes, readAnswer}
+use Rattle.record_rules.specs.Fields.{recordOf}
+use Rattle.record_rules.specs.Lengths.{writeRoom}
+use Rattle.record_rules.specs.Answers.{writeRefusal, writeBytes, readAnswer}
 use Rattle.rules.specs.Supplies.{suits}
 use Rattle.rules.specs.Steps.{decide}
 use Rattle.rules.specs.Engine.{askOut, answerOut}

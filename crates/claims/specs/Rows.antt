@@ -6,11 +6,11 @@ use mathlib.Core.Bool.{true, false}
 use mathlib.Core.List.{List, [], _∷_, _++_}
 use mathlib.Core.Option.{none}
 use lib.ListN.{length, take}
-use Rattle.padding.specs.Padding.{pad, unpad}
-use Rattle.message.specs.Message.{withIv}
-use Rattle.message.specs.Terminal.{sealedResponse}
-use Rattle.template.specs.Template.{field}
-use Rattle.walk.specs.Walk.{WALK}
+use Rattle.aes_padding.specs.Padding.{pad, unpad}
+use Rattle.channel_rules.specs.Message.{withIv}
+use Rattle.channel_rules.specs.Terminal.{sealedResponse}
+use Rattle.template_rules.specs.Template.{field}
+use Rattle.template_walk.specs.Walk.{WALK}
 use Rattle.card.specs.declared.Card.{Card}
 use Rattle.card.specs.State.{zeros}
 use Rattle.card.specs.Sound.{isSound}
@@ -19,7 +19,7 @@ use Rattle.rules.specs.declared.Command.the-variants as command
 use Rattle.rules.specs.Channel.{sessionOf}
 use Rattle.rules.specs.Steps.{isInitialised, replyOf}
 use Rattle.rules.specs.Engine.{answerOut}
-use Rattle.exchange_laws.specs.Opens.{Opens}
+use Rattle.laws_exchange.specs.Opens.{Opens}
 
 -- ---- a call of ANSWER with a command over the channel that opens on this card and comes to its checks; any supply, and room enough
 pub record Sent (c : Card) : Type 0 where

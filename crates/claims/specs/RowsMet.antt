@@ -11,8 +11,8 @@ use Rattle.card.specs.State.{zeros, freshOf}
 use Rattle.card.specs.Sound.{isSound}
 use Rattle.rules.specs.Steps.{claOf, insOf, isInitialised}
 use Rattle.rules.specs.Engine.{answerOut}
-use Rattle.exchange_laws.specs.Exchange.{Typed, Turn, unsealedBy}
-use Rattle.two_runs.specs.Runs.{Call, endOf}
+use Rattle.laws_exchange.specs.Exchange.{Typed, Turn, unsealedBy}
+use Rattle.laws_two_runs.specs.Runs.{Call, endOf}
 use Rattle.claims.specs.Rows.{Entries, Initialises, initialised, InChannel}
 
 -- INIT on FRESH, calls that open the channel, and a turn of SEAL, ANSWER and UNSEAL that reads the status

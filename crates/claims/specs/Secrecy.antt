@@ -1,5 +1,5 @@
 -- Demand 3: the two runs (01, The two runs of demand 3), one claim about the list of calls; and that it is not empty. The definitions of
--- calls, runs and premise are those of crate `two_runs`, Runs, and those of comparisons are the rulebook's, Comparison.
+-- calls, runs and premise are those of crate `laws_two_runs`, Runs, and those of comparisons are the rulebook's, Comparison.
 use Prim.Native.Nat.{ℕ}
 use mathlib.Core.Path.{_≡_}
 use mathlib.Core.Bool.{Bool, true, false}
@@ -11,7 +11,7 @@ use Rattle.card.specs.Slots.{allOf}
 use Rattle.card.specs.Sound.{isSound, isDigit}
 use Rattle.rules.specs.Rules.{Secret, pin, puk}
 use Rattle.rules.specs.Comparison.{Comparison}
-use Rattle.two_runs.specs.Runs.{Call, comparisonAt, nextAt, endOf, Agree, Premise, SameRuns}
+use Rattle.laws_two_runs.specs.Runs.{Call, comparisonAt, nextAt, endOf, Agree, Premise, SameRuns}
 
 -- ---- what keeps the claim from being empty
 -- some list of calls leads from FRESH to a sound, initialised card in this stage and with this kind of key

@@ -1,5 +1,5 @@
 -- Demand 2: what goes out comes back, what ASK says ANSWER does, soundness is kept, and the room asked for is enough. Terminal and card
--- together stand in crate `exchange_laws`, Exchange. Every length, room and count is in bytes.
+-- together stand in crate `laws_exchange`, Exchange. Every length, room and count is in bytes.
 use Prim.Native.Nat.{ℕ, _+_, _≤_, _<_}
 use mathlib.Core.Path.{_≡_}
 use mathlib.Core.Bool.{Bool, true, false}
@@ -7,19 +7,19 @@ use mathlib.Core.List.{List, [], _++_}
 use mathlib.Core.Logic.{_↔_, _⊎_}
 use lib.ListN.{length}
 use Rattle.octets.specs.Bytes.{Bytes}
-use Rattle.message.specs.declared.Session.{Session}
-use Rattle.message.specs.Message.{Keyed, withIv, responseHead, fieldMac}
-use Rattle.message.specs.Terminal.{sealedResponse, unsealOut}
-use Rattle.walk.specs.Walk.{WALK}
-use Rattle.answer_templates.specs.Answers.{preInitialised, applicationInfo, status, signature}
+use Rattle.channel_rules.specs.declared.Session.{Session}
+use Rattle.channel_rules.specs.Message.{Keyed, withIv, responseHead, fieldMac}
+use Rattle.channel_rules.specs.Terminal.{sealedResponse, unsealOut}
+use Rattle.template_walk.specs.Walk.{WALK}
+use Rattle.template_answers.specs.Answers.{preInitialised, applicationInfo, status, signature}
 use Rattle.card.specs.declared.Card.{Card}
 use Rattle.card.specs.State.{freshOf}
 use Rattle.card.specs.Sound.{isSound}
 use Rattle.card.specs.Shape.{Shaped}
 use Rattle.sound.specs.Reset.{resetAnswer}
-use Rattle.record.specs.Fields.{recordOf}
-use Rattle.record.specs.Lengths.{recordFresh, recordLeast, recordMost, writeRoom}
-use Rattle.record.specs.Answers.{writeRefusal, writeBytes, readAnswer}
+use Rattle.record_rules.specs.Fields.{recordOf}
+use Rattle.record_rules.specs.Lengths.{recordFresh, recordLeast, recordMost, writeRoom}
+use Rattle.record_rules.specs.Answers.{writeRefusal, writeBytes, readAnswer}
 use Rattle.rules.specs.Supplies.{suits}
 use Rattle.rules.specs.Steps.{goes, Arrived, arrival, decide}
 use Rattle.rules.specs.Engine.{askOut, answerOut}

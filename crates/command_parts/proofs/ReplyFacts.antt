@@ -8,7 +8,7 @@ use native.Mathlib.Omega.{arith}
 use lib.ListN.{length, drop, length-append}
 use Rattle.octets.specs.Bytes.{overwrite}
 use Rattle.octets.proofs.Lists.{overwrite-next}
-use Rattle.template.specs.Writing.{Wrote}
+use Rattle.template_rules.specs.Writing.{Wrote}
 use Rattle.card.specs.declared.Card.{Card}
 use Rattle.rules.specs.declared.Replied.{Replied}
 use Rattle.rules.specs.Words.{success, Reply, succeeds, fails}

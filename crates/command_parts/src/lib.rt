@@ -6,7 +6,7 @@ ghost use mathlib.Core.Bool.{cond};
 ghost use mathlib.Core.List.{[], _++_};
 ghost use Prim.Native.Nat.{_+_, _≤_};
 ghost use lib.ListN.{length};
-ghost use Rattle.template.specs.Writing.{Wrote};
+ghost use Rattle.template_rules.specs.Writing.{Wrote};
 ghost use Rattle.card.specs.State.{withPins, withPairing, withKeys, withChannel};
 ghost use Rattle.rules.specs.declared.Verdict.the-variants.{Reads, Fails};
 ghost use Rattle.rules.specs.Words.{success, triesLeft, succeeds, fails};

@@ -3,14 +3,14 @@
 // Proved: refusal, kind, count, next card and every byte of the buffer are the rulebook's, for any card, command, supply and buffer.
 ghost use lib.ListN.{length};
 ghost use Rattle.rules.specs.Engine.{askOut, answerOut};
-ghost use Rattle.responses.specs.Did.{AskDid, AnswerDid};
+ghost use Rattle.engine_responses.specs.Did.{AskDid, AnswerDid};
 use card::Card;
+use engine_responses::Answered;
+use engine_responses::Asked;
 use refusals::ANSWER_ROOM_BYTES;
 use refusals::ASK_ROOM_BYTES;
 use refusals::REFUSAL_ROOM;
 use refusals::REFUSAL_UNSOUND;
-use responses::Answered;
-use responses::Asked;
 
 // ANSWER (01, Operations): response data then status word from the buffer's start, and the next card.
 pub fn answer(card: Card, cmd: &[u8], supply: &[u8], buf: &mut [u8]) -> Answered
@@ -19,11 +19,11 @@ pub fn answer(card: Card, cmd: &[u8], supply: &[u8], buf: &mut [u8]) -> Answered
 {
     if sound::sound(card) {
         if buf.len() < ANSWER_ROOM_BYTES {
-            return answering::refused(card, REFUSAL_ROOM);
+            return engine_sound::refused(card, REFUSAL_ROOM);
         }
-        return answering::answer_sound(card, cmd, supply, buf);
+        return engine_sound::answer_sound(card, cmd, supply, buf);
     }
-    answering::refused(card, REFUSAL_UNSOUND)
+    engine_sound::refused(card, REFUSAL_UNSOUND)
 }
 
 // ASK (01, Operations): which supply ANSWER will read, with the command's data for it from the buffer's start.
@@ -32,9 +32,9 @@ pub fn ask(card: Card, cmd: &[u8], buf: &mut [u8]) -> Asked
 {
     if sound::sound(card) {
         if buf.len() < ASK_ROOM_BYTES {
-            return answering::ask_refused(REFUSAL_ROOM);
+            return engine_sound::ask_refused(REFUSAL_ROOM);
         }
-        return answering::ask_sound(card, cmd, buf);
+        return engine_sound::ask_sound(card, cmd, buf);
     }
-    answering::ask_refused(REFUSAL_UNSOUND)
+    engine_sound::ask_refused(REFUSAL_UNSOUND)
 }

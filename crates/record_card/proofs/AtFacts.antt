@@ -4,7 +4,7 @@ use mathlib.Core.List.{List}
 use Prim.Native.Nat.{ℕ, suc}
 use native.Mathlib.Omega.{arith}
 use lib.ListN.{drop}
-use Rattle.record.specs.Parse.{body, rest, content, fit, pathFrom}
+use Rattle.record_rules.specs.Parse.{body, rest, content, fit, pathFrom}
 use Rattle.record_spans.specs.Spans.{Behind}
 use Rattle.record_card.specs.Taken.{At}
 

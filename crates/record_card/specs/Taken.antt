@@ -3,7 +3,7 @@ use Prim.Native.Nat.{ℕ, _≤_}
 use mathlib.Core.Path.{_≡_}
 use mathlib.Core.List.{List}
 use lib.ListN.{length, drop, getD}
-use Rattle.record.specs.Parse.{behind, content, identityFrom, pinsFrom, pairingFrom}
+use Rattle.record_rules.specs.Parse.{behind, content, identityFrom, pinsFrom, pairingFrom}
 use Rattle.record_card.specs.declared.IdentityRead.{IdentityRead}
 use Rattle.record_card.specs.declared.SecretsRead.{SecretsRead}
 

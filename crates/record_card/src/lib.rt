@@ -2,7 +2,7 @@
 // Every length and place is in bytes.
 // Proved: it is the card of the definition, for any bytes of any length.
 ghost use mathlib.Core.Path.{_≡_};
-ghost use Rattle.record.specs.Parse.{content, keysFrom, cardOf};
+ghost use Rattle.record_rules.specs.Parse.{content, keysFrom, cardOf};
 ghost use Rattle.record_card.specs.Taken.{At, IdentityTaken, SecretsTaken};
 use card::Card;
 use card::Identity;

@@ -9,9 +9,9 @@ use Rattle.octets.specs.Bytes.{overwrite}
 use Rattle.octets.proofs.Lists.{overwrite-next, length-overwrite, take-overwrite}
 use Rattle.card.specs.declared.Slot.{Slot}
 use Rattle.card.specs.Sizes.{keyBytes, slotBytes}
-use Rattle.record.specs.Lengths.{headBytes}
-use Rattle.record.specs.Fields.{Field, recordField, encodeAll, slotsBytes}
-use Rattle.record.proofs.FieldFacts.{encode-append, encode-one, length-encode-one, slots-suc}
+use Rattle.record_rules.specs.Lengths.{headBytes}
+use Rattle.record_rules.specs.Fields.{Field, recordField, encodeAll, slotsBytes}
+use Rattle.record_rules.proofs.FieldFacts.{encode-append, encode-one, length-encode-one, slots-suc}
 use Rattle.record_fields.specs.Put.{Put}
 
 -- ---- one field: its head and then its content

@@ -4,7 +4,7 @@ use mathlib.Core.Path.{_≡_}
 use mathlib.Core.List.{List}
 use lib.ListN.{length}
 use Rattle.octets.specs.Bytes.{overwrite}
-use Rattle.record.specs.Fields.{Field, encodeAll}
+use Rattle.record_rules.specs.Fields.{Field, encodeAll}
 
 -- the fields stand in the buffer from the place `at` on, nothing else has changed, and `next` is the place behind them
 pub record Put (fs : List Field) (at : ℕ) (before : List ℕ) (next : ℕ) (after : List ℕ) : Type 0 where

@@ -8,8 +8,8 @@ ghost use lib.ListN.{length};
 ghost use Rattle.octets.specs.Bytes.{overwrite};
 ghost use Rattle.card.specs.State.{keyUid, pathBytes};
 ghost use Rattle.card.specs.Sizes.{keyBytes, pathMostBytes, slotBytes};
-ghost use Rattle.record.specs.Fields.{recordField, slotsBytes};
-ghost use Rattle.record.specs.Lengths.{headBytes, fieldBytes};
+ghost use Rattle.record_rules.specs.Fields.{recordField, slotsBytes};
+ghost use Rattle.record_rules.specs.Lengths.{headBytes, fieldBytes};
 ghost use Rattle.record_fields.specs.Put.{Put};
 use card::Card;
 use card::Keys;
@@ -17,7 +17,7 @@ use card::Path;
 use card::SLOT_BYTES;
 use card::SLOTS_BYTES;
 use card::Slot;
-use record::HEAD_BYTES;
+use record_rules::HEAD_BYTES;
 
 // The tag of the key UID.
 const TAG_KEY_UID: u8 = 0x31;

@@ -5,7 +5,7 @@ use Prim.Native.Nat.{ℕ, _≤_}
 use native.Mathlib.Omega.{arith}
 use lib.ListN.{length, take}
 use Rattle.octets.proofs.Lists.{take-overwrite}
-use Rattle.record.specs.Fields.{Field, encodeAll}
+use Rattle.record_rules.specs.Fields.{Field, encodeAll}
 use Rattle.record_fields.specs.Put.{Put}
 
 pub put-taken : {fs : List Field} {b : List ℕ} {n : ℕ} {a : List ℕ} → Put fs 0 b n a → n ≤ length b → take n a ≡ encodeAll fs

@@ -3,10 +3,10 @@
 // Proved: a card is given exactly where the bytes are the record of a sound card, and then it is that card reset; any other
 // bytes, of any length, are refused with 8 and FRESH of zeros.
 ghost use mathlib.Core.Path.{_≡_};
-ghost use Rattle.record.specs.Answers.{isRecordOf, readAnswer};
+ghost use Rattle.record_rules.specs.Answers.{isRecordOf, readAnswer};
 use card::Card;
-use record::WRITE_ROOM_BYTES;
 use record_card::card_of;
+use record_rules::WRITE_ROOM_BYTES;
 use refusals::REFUSAL_NONE;
 use refusals::REFUSAL_NOT_RECORD;
 use sound::Answer;

@@ -11,8 +11,8 @@ use Rattle.octets.specs.Bytes.{tabulate}
 use Rattle.card.specs.declared.Slot.{Slot}
 use Rattle.card.specs.declared.Path.{Path}
 use Rattle.card.specs.Sizes.{keyBytes, pathMostBytes, slotBytes}
-use Rattle.record.specs.Lengths.{headBytes}
-use Rattle.record.specs.Parse.{headLength, body, rest, fit, pathFrom, slotFrom, slotsFrom}
+use Rattle.record_rules.specs.Lengths.{headBytes}
+use Rattle.record_rules.specs.Parse.{headLength, body, rest, fit, pathFrom, slotFrom, slotsFrom}
 use Rattle.record_spans.specs.declared.FieldSpan.{FieldSpan}
 use Rattle.record_spans.specs.Spans.{Spans}
 

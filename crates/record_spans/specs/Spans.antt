@@ -3,7 +3,7 @@ use Prim.Native.Nat.{ℕ, _-_, _≤_}
 use mathlib.Core.Path.{_≡_}
 use mathlib.Core.List.{List}
 use lib.ListN.{length, take, drop}
-use Rattle.record.specs.Parse.{body, rest}
+use Rattle.record_rules.specs.Parse.{body, rest}
 use Rattle.record_spans.specs.declared.FieldSpan.{FieldSpan}
 
 -- the span is the content of the field at the place `at`

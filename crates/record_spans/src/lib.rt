@@ -5,7 +5,7 @@ ghost use mathlib.Core.Path.{_≡_};
 ghost use Prim.Native.Nat.{_≤_};
 ghost use lib.ListN.{length, drop, getD};
 ghost use Rattle.card.specs.State.{slotCount};
-ghost use Rattle.record.specs.Parse.{body, fit, pathFrom, slotsFrom};
+ghost use Rattle.record_rules.specs.Parse.{body, fit, pathFrom, slotsFrom};
 ghost use Rattle.record_spans.specs.Spans.{Spans, Behind};
 use card::Card;
 use card::Path;
@@ -13,7 +13,7 @@ use card::SLOT_BYTES;
 use card::SLOTS_BYTES;
 use card::Slot;
 use card::wide;
-use record::HEAD_BYTES;
+use record_rules::HEAD_BYTES;
 
 // Where a field's content starts and ends.
 pub struct FieldSpan {

@@ -8,10 +8,10 @@ use lib.ListN.{length}
 use borrow.Author.Tests.{lt-ltb, le-ltb}
 use Rattle.card.specs.declared.Card.{Card}
 use Rattle.card.specs.Sound.{isSound}
-use Rattle.record.specs.Fields.{fields, recordOf}
+use Rattle.record_rules.specs.Fields.{fields, recordOf}
 use Rattle.refusals.specs.Refusals.{noRefusal, unsound, noRoom}
-use Rattle.record.specs.Lengths.{writeRoom}
-use Rattle.record.specs.Answers.{writeRefusal, writeBytes}
+use Rattle.record_rules.specs.Lengths.{writeRoom}
+use Rattle.record_rules.specs.Answers.{writeRefusal, writeBytes}
 use Rattle.record_write.specs.Wrote.{WroteRecord}
 use Rattle.record_fields.specs.Put.{Put}
 

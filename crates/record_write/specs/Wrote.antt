@@ -5,7 +5,7 @@ use mathlib.Core.List.{List}
 use lib.ListN.{length}
 use Rattle.octets.specs.Bytes.{overwrite}
 use Rattle.card.specs.declared.Card.{Card}
-use Rattle.record.specs.Answers.{writeRefusal, writeBytes}
+use Rattle.record_rules.specs.Answers.{writeRefusal, writeBytes}
 use Rattle.record_write.specs.declared.Written.{Written}
 
 -- WRITE: the refusal's number and the count as the definition gives them, and its bytes from the buffer's start

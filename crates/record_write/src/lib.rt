@@ -5,15 +5,15 @@
 ghost use Prim.Native.Nat.{_≤_};
 ghost use lib.ListN.{length};
 ghost use Rattle.card.specs.Sizes.{pathMostBytes};
-ghost use Rattle.record.specs.Fields.{fields};
-ghost use Rattle.record.specs.Lengths.{writeRoom};
+ghost use Rattle.record_rules.specs.Fields.{fields};
+ghost use Rattle.record_rules.specs.Lengths.{writeRoom};
 ghost use Rattle.record_fields.specs.Put.{Put};
 ghost use Rattle.record_write.specs.Wrote.{WroteRecord};
 use card::Card;
-use record::WRITE_ROOM_BYTES;
 use record_groups::put_identity;
 use record_groups::put_keys;
 use record_groups::put_secrets;
+use record_rules::WRITE_ROOM_BYTES;
 use refusals::REFUSAL_NONE;
 use refusals::REFUSAL_ROOM;
 use refusals::REFUSAL_UNSOUND;

@@ -38,7 +38,7 @@ notGenuine = 7
 abbrev pub notRecord : ℕ
 notRecord = 8
 
--- ---- the rooms; that of WRITE follows from the record's fields and stands with them (crate `record`, specs/Lengths.antt)
+-- ---- the rooms; that of WRITE follows from the record's fields and stands with them (crate `record_rules`, specs/Lengths.antt)
 abbrev pub askRoom : ℕ
 askRoom = 255
 

@@ -28,7 +28,7 @@ pub const REFUSAL_NOT_GENUINE: u8 = 7;
 // READ: not a record.
 pub const REFUSAL_NOT_RECORD: u8 = 8;
 
-// The room that each operation asks for, in bytes. That of WRITE follows from the stored record's fields: `record::WRITE_ROOM_BYTES`.
+// The room that each operation asks for, in bytes. That of WRITE follows from the stored record's fields: `record_rules::WRITE_ROOM_BYTES`.
 pub const ASK_ROOM_BYTES: usize = 255;
 
 pub const ANSWER_ROOM_BYTES: usize = 258;

@@ -3,9 +3,9 @@ use Prim.Native.Nat.{ℕ}
 use mathlib.Core.Bool.{Bool, _&&_, cond}
 use mathlib.Core.List.{List, _++_}
 use lib.Dec.{eqb}
-use Rattle.message.specs.declared.Session.{Session}
-use Rattle.message.specs.Message.{responseHead, fieldMac}
-use Rattle.message.specs.Terminal.{sealedResponse}
+use Rattle.channel_rules.specs.declared.Session.{Session}
+use Rattle.channel_rules.specs.Message.{responseHead, fieldMac}
+use Rattle.channel_rules.specs.Terminal.{sealedResponse}
 use Rattle.card.specs.declared.Channel.{Channel}
 use Rattle.card.specs.declared.Card.{Card}
 use Rattle.card.specs.State.{withChannel}

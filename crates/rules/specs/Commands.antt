@@ -8,9 +8,9 @@ use mathlib.Core.Option.{Option, none, some}
 use lib.Dec.{leb, eqb}
 use lib.ListN.{length, take, drop, getD, set}
 use Rattle.octets.specs.Bytes.{sameBytes}
-use Rattle.aes.specs.Aes.{invAes256}
-use Rattle.cbc.specs.Mode.{cbcDecrypt}
-use Rattle.padding.specs.Padding.{unpad}
+use Rattle.aes_rules.specs.Aes.{invAes256}
+use Rattle.aes_cbc.specs.Mode.{cbcDecrypt}
+use Rattle.aes_padding.specs.Padding.{unpad}
 use Rattle.card.specs.declared.Identity.{Identity}
 use Rattle.card.specs.declared.Pins.{Pins}
 use Rattle.card.specs.declared.Slot.{Slot}
@@ -22,11 +22,11 @@ use Rattle.card.specs.declared.Card.{Card}
 use Rattle.card.specs.State.{pinTries, pukTries, freeSlot, noKeys, emptyPath, withInitialised, withPins, withPairing, withKeys, withChannel, closed, forgotten, unverified, notPending, pathBytes, pathOf, keyUid}
 use Rattle.card.specs.Slots.{allOf, someOf, isZero, isFree}
 use Rattle.card.specs.Sound.{isDigit}
-use Rattle.slots.specs.declared.Free.{Free}
-use Rattle.slots.specs.declared.Free.the-variants as free
-use Rattle.slots.specs.Free.{firstFree}
-use Rattle.keypair.specs.Keypair.{keypair}
-use Rattle.answer_templates.specs.Answers as answer
+use Rattle.card_slots.specs.declared.Free.{Free}
+use Rattle.card_slots.specs.declared.Free.the-variants as free
+use Rattle.card_slots.specs.Free.{firstFree}
+use Rattle.template_keypair.specs.Keypair.{keypair}
+use Rattle.template_answers.specs.Answers as answer
 use Rattle.rules.specs.declared.StatusKind.{StatusKind}
 use Rattle.rules.specs.declared.StatusKind.the-variants as status
 use Rattle.rules.specs.declared.SecretKind.{SecretKind}

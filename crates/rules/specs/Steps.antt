@@ -7,7 +7,7 @@ use mathlib.Core.Option.{Option, none, some}
 use lib.Dec.{ltb, leb, eqb}
 use lib.ListN.{length, take, drop, getD}
 use Rattle.octets.specs.Bytes.{sameBytes}
-use Rattle.message.specs.Message.{commandHead, openField}
+use Rattle.channel_rules.specs.Message.{commandHead, openField}
 use Rattle.card.specs.declared.Card.{Card}
 use Rattle.card.specs.State.{closed, forgotten}
 use Rattle.card.specs.Slots.{isZero}

@@ -3,10 +3,10 @@
 // Proved: every function is safe and ends. What the operations give is proved in the crates below.
 mod plays;
 
-use desk::Desk;
-use desk::args;
 use libc::STDIN_FILENO;
-use print::say;
+use soft_state::Desk;
+use soft_state::args;
+use text_print::say;
 
 const LINE_MAX_BYTES: usize = 4096;
 
@@ -28,11 +28,11 @@ fn echo(shown: bool, front: &[u8], line: &[u8]) {
 
 // One line, which is a call, a comment or blank.
 fn play_line(desk: Desk, shown: bool, line: &[u8]) -> Desk {
-    if words::count(line) == 0 {
+    if text_words::count(line) == 0 {
         echo(shown, b"", b"");
         return desk;
     }
-    if words::is_comment(line) {
+    if text_words::is_comment(line) {
         echo(shown, b"", line);
         return desk;
     }
@@ -46,7 +46,7 @@ fn turn(desk: Desk, shown: bool) -> Played {
         say(b"> ");
     }
     let mut buf = [0u8; LINE_MAX_BYTES];
-    let read = input_line::read_line(&mut buf);
+    let read = text_line::read_line(&mut buf);
     if !read.found {
         return Played { found: false, desk };
     }
@@ -54,8 +54,8 @@ fn turn(desk: Desk, shown: bool) -> Played {
         args::bad(b"longer than 4096 bytes");
         return Played { found: true, desk };
     }
-    let whole = content::bounded(read.len, &buf);
-    let n = words::trimmed(&buf[..whole]);
+    let whole = text_fill::bounded(read.len, &buf);
+    let n = text_words::trimmed(&buf[..whole]);
     let next = play_trimmed(desk, shown, &buf[..whole], n);
     Played {
         found: true,
@@ -64,7 +64,7 @@ fn turn(desk: Desk, shown: bool) -> Played {
 }
 
 fn play_trimmed(desk: Desk, shown: bool, line: &[u8], len: usize) -> Desk {
-    let n = content::bounded(len, line);
+    let n = text_fill::bounded(len, line);
     play_line(desk, shown, &line[..n])
 }
 
@@ -73,7 +73,7 @@ fn main() {
     if shown {
         say(b"A soft card. Every length is in bytes. help lists the calls.\n");
     }
-    let mut desk = desk::start();
+    let mut desk = soft_state::start();
     let mut left = usize::MAX;
     while left > 0 {
         let t = turn(desk, shown);

@@ -1,8 +1,8 @@
 // Which call a line is, whether it has the words that the call takes, and the call itself.
-use desk::Desk;
-use desk::args;
-use desk::args::is_word;
-use print::say;
+use soft_state::Desk;
+use soft_state::args;
+use soft_state::args::is_word;
+use text_print::say;
 
 enum Call {
     Fresh,
@@ -108,9 +108,9 @@ fn takes(call: Call, n: usize) -> bool {
 
 fn help() {
     say(b"fresh UID KEY                  a pre-initialised card; UID has ");
-    print::say_length(card::UID_BYTES);
+    text_print::say_length(card::UID_BYTES);
     say(b", KEY ");
-    print::say_length(card::PUBLIC_KEY_BYTES);
+    text_print::say_length(card::PUBLIC_KEY_BYTES);
     say(b"\n");
     say(b"reset                          power-up\n");
     say(b"ask COMMAND [room N]           which supply the card will read\n");
@@ -139,11 +139,11 @@ fn card_help() {
 
 fn last_help() {
     say(b"session [ENC MAC IV]           the terminal's session, or a new one: ");
-    print::say_size(card::KEY_BYTES);
+    text_print::say_size(card::KEY_BYTES);
     say(b", ");
-    print::say_size(card::KEY_BYTES);
+    text_print::say_size(card::KEY_BYTES);
     say(b" and ");
-    print::say_length(card::IV_BYTES);
+    text_print::say_length(card::IV_BYTES);
     say(b"\n");
     say(b"session card                   the session of the card's channel\n");
     say(b"Bytes: 00A4, 00*32 (32 times), A0+16 (16 rising), last, - (none), 01.11*32 (joined).\n");
@@ -152,17 +152,17 @@ fn last_help() {
 
 fn play_card(d: Desk, call: Call, line: &[u8]) -> Desk {
     match call {
-        Call::Fresh => card_calls::fresh(d, line),
-        Call::Reset => card_calls::reset(d),
-        Call::Read => card_calls::read(d, line),
-        Call::Write => card_calls::write(d, line),
-        Call::Set => card_calls::set(d, line),
+        Call::Fresh => soft_card_calls::fresh(d, line),
+        Call::Reset => soft_card_calls::reset(d),
+        Call::Read => soft_card_calls::read(d, line),
+        Call::Write => soft_card_calls::write(d, line),
+        Call::Set => soft_card_calls::set(d, line),
         Call::Sound => {
-            card_calls::sound(d);
+            soft_card_calls::sound(d);
             d
         }
         _ => {
-            card_calls::card(d);
+            soft_card_calls::card(d);
             d
         }
     }
@@ -170,17 +170,17 @@ fn play_card(d: Desk, call: Call, line: &[u8]) -> Desk {
 
 fn play_channel(d: Desk, call: Call, line: &[u8]) -> Desk {
     match call {
-        Call::Answer => channel_calls::answer(d, line),
-        Call::Seal => channel_calls::seal(d, line),
-        Call::Unseal => channel_calls::unseal(d, line),
-        Call::Send => channel_calls::send(d, line),
-        Call::Session => channel_calls::session(d, line),
+        Call::Answer => soft_channel_calls::answer(d, line),
+        Call::Seal => soft_channel_calls::seal(d, line),
+        Call::Unseal => soft_channel_calls::unseal(d, line),
+        Call::Send => soft_channel_calls::send(d, line),
+        Call::Session => soft_channel_calls::session(d, line),
         Call::Ask => {
-            channel_calls::ask(d, line);
+            soft_channel_calls::ask(d, line);
             d
         }
         _ => {
-            channel_calls::walk(d, line);
+            soft_channel_calls::walk(d, line);
             d
         }
     }
@@ -221,7 +221,7 @@ pub fn play(d: Desk, line: &[u8]) -> Desk {
         args::bad(b"no such call, help lists them");
         return d;
     }
-    if !takes(call, words::count(line)) {
+    if !takes(call, text_words::count(line)) {
         args::bad_words(line);
         return d;
     }

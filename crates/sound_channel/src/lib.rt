@@ -3,8 +3,8 @@
 // Proved: each answer is this part's line in the definition of soundness, whatever the part's bytes.
 ghost use mathlib.Core.Path.{_≡_};
 ghost use Rattle.card.specs.Sound.{sessionZero, channelSound, channelBlank};
-use byte_tests::zero_from;
 use card::Channel;
+use sound_bytes::zero_from;
 
 fn session_zero(k: Channel) -> bool
     ensures { λ r. ⌜ r ≡ sessionZero k ⌝ }

@@ -3,10 +3,10 @@
 // Proved: each answer is this part's line in the definition of soundness, whatever the part's bytes.
 ghost use mathlib.Core.Path.{_≡_};
 ghost use Rattle.card.specs.Sound.{pathSound, keysSound, pathBlank, keysBlank};
-use byte_tests::zero_from;
 use card::Keys;
 use card::Path;
 use card::wide;
+use sound_bytes::zero_from;
 
 // The most bytes of a path: its room.
 const PATH_MOST_BYTES: u8 = card::PATH_MAX_BYTES as u8;

@@ -4,10 +4,10 @@
 ghost use mathlib.Core.Path.{_≡_};
 ghost use Rattle.card.specs.Slots.{allOf, slotWithin};
 ghost use Rattle.card.specs.Sound.{pairingSound, pairingBlank};
-use byte_tests::zero_from;
 use card::Card;
 use card::Pairing;
 use card::Slot;
+use sound_bytes::zero_from;
 
 // Whether the slot's flag is at most `most`, and its key zero if the slot is free.
 fn slot_within(s: Slot, most: u8) -> bool
@@ -42,7 +42,7 @@ pub fn pairing_sound(p: Pairing) -> bool
     let within = slots_within(slots, 1);
     let flag = p.pending <= 1;
     let none = p.pending == 0;
-    let room = slots::has_free(slots);
+    let room = card_slots::has_free(slots);
     let some = p.pending != 0;
     let clear = zero_from(&expected, 0);
     within & flag & (none | room) & (some | clear)

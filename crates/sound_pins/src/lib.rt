@@ -3,10 +3,10 @@
 // Proved: each answer is this part's line in the definition of soundness, whatever the part's bytes.
 ghost use mathlib.Core.Path.{_≡_};
 ghost use Rattle.card.specs.Sound.{pinsSound, pinsBlank};
-use byte_tests::digits;
-use byte_tests::zero_from;
 use card::Card;
 use card::Pins;
+use sound_bytes::digits;
+use sound_bytes::zero_from;
 
 pub fn pins_sound(p: Pins) -> bool
     ensures { λ r. ⌜ r ≡ pinsSound p ⌝ }

@@ -5,11 +5,11 @@
 ghost use mathlib.Core.Path.{_≡_};
 ghost use Prim.Native.Nat.{_+_, _≤_, _<_};
 ghost use lib.ListN.{length};
-ghost use Rattle.template.specs.Template.{fieldHead, fieldBytes, field};
-ghost use Rattle.template.specs.Writing.{Wrote};
+ghost use Rattle.template_rules.specs.Template.{fieldHead, fieldBytes, field};
+ghost use Rattle.template_rules.specs.Writing.{Wrote};
 use octets::put;
-use template::LONG_FORM;
-use template::LONG_FORM_MIN_BYTES;
+use template_rules::LONG_FORM;
+use template_rules::LONG_FORM_MIN_BYTES;
 
 // How many bytes a field with this many bytes of value takes.
 pub fn field_bytes(value_bytes: usize) -> usize

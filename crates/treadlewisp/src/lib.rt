@@ -7,25 +7,25 @@ ghost use lib.ListN.{length};
 ghost use Rattle.card.specs.State.{freshOf};
 ghost use Rattle.card.specs.Sound.{isSound};
 ghost use Rattle.sound.specs.Reset.{resetAnswer};
-ghost use Rattle.record.specs.Answers.{readAnswer};
+ghost use Rattle.record_rules.specs.Answers.{readAnswer};
 ghost use Rattle.record_write.specs.Wrote.{WroteRecord};
 ghost use Rattle.rules.specs.Engine.{askOut, answerOut};
-ghost use Rattle.responses.specs.Did.{AskDid, AnswerDid};
-ghost use Rattle.message.specs.Terminal.{sealOut, unsealOut};
-ghost use Rattle.terminal.specs.Did.{Did};
-ghost use Rattle.walk.specs.Walk.{report, WALK};
-ghost use Rattle.boundary.specs.Left.{answerOf, answeredOf, outcomeOf, writtenOf, walkOutOf};
-use boundary::Counted;
+ghost use Rattle.engine_responses.specs.Did.{AskDid, AnswerDid};
+ghost use Rattle.channel_rules.specs.Terminal.{sealOut, unsealOut};
+ghost use Rattle.channel_terminal.specs.Did.{Did};
+ghost use Rattle.template_walk.specs.Walk.{report, WALK};
+ghost use Rattle.library_calls.specs.Left.{answerOf, answeredOf, outcomeOf, writtenOf, walkOutOf};
 use card::Card;
-use message::Session;
-use responses::Asked;
+use channel_rules::Session;
+use engine_responses::Asked;
+use library_calls::Counted;
 
 // FRESH: the card of a new device. What the record held before is not read.
 #[no_mangle]
 pub extern "C" fn tw_fresh(card: &mut Card, uid: &[u8; 16], public_key: &[u8; 65])
     ensures { λ _. ⌜ now (card .exit) ≡ freshOf (now (uid .entry)) (now («public_key» .entry)) ⌝ }
 {
-    let new = boundary::made(uid, public_key);
+    let new = library_calls::made(uid, public_key);
     *card = new;
 }
 
@@ -35,7 +35,7 @@ pub extern "C" fn tw_sound(card: &Card) -> u8
     ensures { λ r. ⌜ (r ≡ cond (isSound (now (card .entry))) 1 0) × (now (card .exit) ≡ now (card .entry)) ⌝ }
 {
     let found = *card;
-    boundary::sound_number(found)
+    library_calls::sound_number(found)
 }
 
 // RESET.
@@ -86,7 +86,7 @@ pub extern "C" fn tw_seal(
         (outcomeOf r (now (session .exit))) (now (buf .entry)) (now (buf .exit)) ⌝ }
 {
     let found = *session;
-    let told = boundary::sealed(found, header, plain, buf);
+    let told = library_calls::sealed(found, header, plain, buf);
     *session = told.session;
     Counted {
         refusal: told.refusal,
@@ -101,7 +101,7 @@ pub extern "C" fn tw_unseal(session: &mut Session, response: &[u8], buf: &mut [u
         (outcomeOf r (now (session .exit))) (now (buf .entry)) (now (buf .exit)) ⌝ }
 {
     let found = *session;
-    let told = terminal::unseal(found, response, buf);
+    let told = channel_terminal::unseal(found, response, buf);
     *session = told.session;
     Counted {
         refusal: told.refusal,
@@ -114,9 +114,9 @@ pub extern "C" fn tw_unseal(session: &mut Session, response: &[u8], buf: &mut [u
 pub extern "C" fn tw_walk(input: &[u8]) -> Counted
     ensures { λ r. ⌜ walkOutOf r ≡ WALK (now (input .entry)) ⌝ }
 {
-    let w = walk::walk(input);
-    let refusal = walk::refusal(w);
-    let count = walk::count(w);
+    let w = template_walk::walk(input);
+    let refusal = template_walk::refusal(w);
+    let count = template_walk::count(w);
     Counted { refusal, count }
 }
 
@@ -126,7 +126,7 @@ pub extern "C" fn tw_write(card: &Card, buf: &mut [u8]) -> Counted
     ensures { λ r. ⌜ WroteRecord (now (card .entry)) (writtenOf r) (now (buf .entry)) (now (buf .exit)) × (now (card .exit) ≡ now (card .entry)) ⌝ }
 {
     let found = *card;
-    boundary::written(found, buf)
+    library_calls::written(found, buf)
 }
 
 // READ: the record becomes READ's card. What it held before is not read.

@@ -5,8 +5,8 @@ use mathlib.Core.List.{List}
 use Prim.Native.Nat.{ℕ}
 use native.Mathlib.Omega.{arith}
 use lib.ListN.{length}
-use Rattle.aes.specs.Aes.{invAes256}
-use Rattle.cbc.specs.Mode.{cbcDecrypt}
+use Rattle.aes_rules.specs.Aes.{invAes256}
+use Rattle.aes_cbc.specs.Mode.{cbcDecrypt}
 use Rattle.aes_c.specs.Calls.{cbcAnswer}
 use Rattle.aes_c.proofs.Answers.{cbc-lengths, did-nothing, did-all}
 use borrow.Author.Needs.{needs}
@@ -16,7 +16,7 @@ use Rattle.aes_c.proofs.tw_cbc_decrypt.Reads as reads
 use Rattle.aes_c.proofs.tw_cbc_decrypt.Lts as lts
 use Rattle.aes_c.proofs.cbc_answer.Reads as cbc-answer-reads
 use Rattle.aes_c.proofs.key_of.Reads as key-of-reads
-use Rattle.cbc.proofs.cbc_decrypt.Reads as cbc-decrypt-reads
+use Rattle.aes_cbc.proofs.cbc_decrypt.Reads as cbc-decrypt-reads
 use Rattle.octets.proofs.block.Reads as block-reads
 
 -- src/lib.rt:91:9

@@ -6,8 +6,8 @@ use Prim.Native.Nat.{ℕ, _-_}
 use native.Mathlib.Omega.{arith}
 use lib.ListN.{length, take, drop, length-drop, take-append-drop}
 use lib.Seq.{length-take-le, take-all}
-use Rattle.aes.specs.Aes.{aes256}
-use Rattle.cbc.specs.Mode.{cbcMac}
+use Rattle.aes_rules.specs.Aes.{aes256}
+use Rattle.aes_cbc.specs.Mode.{cbcMac}
 use Rattle.octets.proofs.Lists.{overwrite-whole}
 use Rattle.aes_c.specs.Calls.{macAnswer}
 use Rattle.aes_c.proofs.Answers.{mac-lengths, did-nothing, did-all, behind-whole, rejoined}
@@ -18,7 +18,7 @@ use Rattle.aes_c.proofs.tw_cbc_mac.Reads as reads
 use Rattle.aes_c.proofs.tw_cbc_mac.Lts as lts
 use Rattle.aes_c.proofs.key_of.Reads as key-of-reads
 use Rattle.aes_c.proofs.mac_answer.Reads as mac-answer-reads
-use Rattle.cbc.proofs.cbc_mac.Reads as cbc-mac-reads
+use Rattle.aes_cbc.proofs.cbc_mac.Reads as cbc-mac-reads
 use Rattle.octets.proofs.block.Reads as block-reads
 use Rattle.octets.proofs.put.Reads as put-reads
 

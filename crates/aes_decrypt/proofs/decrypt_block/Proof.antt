@@ -6,7 +6,7 @@ use Prim.Native.Nat.{ℕ, _-_, _≤_}
 use native.Mathlib.Omega.{arith}
 use borrow.Author.Needs.{needs}
 use Rattle.octets.specs.Bytes.{xorBytes}
-use Rattle.aes.specs.InvCipher.{invSubBytes, invMixColumns, invRounds}
+use Rattle.aes_rules.specs.InvCipher.{invSubBytes, invMixColumns, invRounds}
 use Rattle.aes_decrypt.proofs.InvTurns.{turn, last-turn}
 use Rattle.aes_decrypt.proofs.decrypt_block.Statement.{statement}
 use Rattle.aes_decrypt.proofs.decrypt_block.Tie as tie

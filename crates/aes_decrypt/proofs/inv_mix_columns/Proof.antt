@@ -5,9 +5,9 @@ use Prim.Native.Nat.{ℕ, _-_, _%_}
 use native.Mathlib.Omega.{arith}
 use borrow.Author.Needs.{needs}
 use Rattle.octets.proofs.Filling.{Filled, filled-none, filled-all}
-use Rattle.aes.specs.Cipher.{columns}
-use Rattle.aes.proofs.Elements.{column-filled}
-use Rattle.aes.specs.InvCipher.{invMixRow, invMixColumns}
+use Rattle.aes_rules.specs.Cipher.{columns}
+use Rattle.aes_rules.proofs.Elements.{column-filled}
+use Rattle.aes_rules.specs.InvCipher.{invMixRow, invMixColumns}
 use Rattle.aes_decrypt.proofs.inv_mix_columns.Statement.{statement}
 use Rattle.aes_decrypt.proofs.inv_mix_columns.Tie as tie
 

@@ -2,7 +2,7 @@
 -- Assumes nothing.
 use mathlib.Core.Path.{ap₂}
 use lib.Bits.{bitXor}
-use Rattle.aes.specs.InvCipher.{invMixRow}
+use Rattle.aes_rules.specs.InvCipher.{invMixRow}
 use borrow.Author.Needs.{needs}
 use Rattle.aes_decrypt.proofs.inv_mix_row.Statement.{statement}
 use Rattle.aes_decrypt.proofs.inv_mix_row.Tie as tie

@@ -5,8 +5,8 @@ use Prim.Native.Nat.{ℕ, _-_}
 use native.Mathlib.Omega.{arith}
 use borrow.Author.Needs.{needs}
 use Rattle.octets.proofs.Filling.{Filled, filled-none, filled-one, filled-all}
-use Rattle.aes.specs.InvCipher.{invShiftRows}
-use Rattle.aes.proofs.Elements.{inv-shift-rows-at}
+use Rattle.aes_rules.specs.InvCipher.{invShiftRows}
+use Rattle.aes_rules.proofs.Elements.{inv-shift-rows-at}
 use Rattle.aes_decrypt.proofs.inv_shift_rows.Statement.{statement}
 use Rattle.aes_decrypt.proofs.inv_shift_rows.Tie as tie
 

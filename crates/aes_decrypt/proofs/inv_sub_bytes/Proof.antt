@@ -8,8 +8,8 @@ use borrow.Author.Needs.{needs}
 use lib.ListN.{length, length-map}
 use Rattle.octets.proofs.Lists.{getD-map}
 use Rattle.octets.proofs.Filling.{Filled, filled-none, filled-one, filled-all}
-use Rattle.field.specs.Field.{invSubByte}
-use Rattle.aes.specs.InvCipher.{invSubBytes}
+use Rattle.aes_field.specs.Field.{invSubByte}
+use Rattle.aes_rules.specs.InvCipher.{invSubBytes}
 use Rattle.aes_decrypt.proofs.inv_sub_bytes.Statement.{statement}
 use Rattle.aes_decrypt.proofs.inv_sub_bytes.Tie as tie
 

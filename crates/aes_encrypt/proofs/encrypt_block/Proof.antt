@@ -6,7 +6,7 @@ use Prim.Native.Nat.{ℕ, _-_, _≤_}
 use native.Mathlib.Omega.{arith}
 use borrow.Author.Needs.{needs}
 use Rattle.octets.specs.Bytes.{xorBytes}
-use Rattle.aes.specs.Cipher.{shiftRows, mixColumns, rounds}
+use Rattle.aes_rules.specs.Cipher.{shiftRows, mixColumns, rounds}
 use Rattle.aes_encrypt.proofs.Turns.{turn, last-turn}
 use Rattle.aes_encrypt.proofs.encrypt_block.Statement.{statement}
 use Rattle.aes_encrypt.proofs.encrypt_block.Tie as tie

@@ -3,9 +3,9 @@
 use mathlib.Core.Path.{_≡_, refl, ap, _∙_}
 use Prim.Native.Nat.{ℕ}
 use lib.Bits.{bitXor}
-use Rattle.field.specs.Field.{_⊕_}
+use Rattle.aes_field.specs.Field.{_⊕_}
 use Rattle.octets.proofs.Lists.{_&_}
-use Rattle.aes.proofs.Columns.{mix-row-by-sum, turn-sum}
+use Rattle.aes_rules.proofs.Columns.{mix-row-by-sum, turn-sum}
 use borrow.Author.Needs.{needs}
 use Rattle.aes_encrypt.proofs.mix_column.Statement.{statement}
 use Rattle.aes_encrypt.proofs.mix_column.Tie as tie

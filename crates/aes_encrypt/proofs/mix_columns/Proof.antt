@@ -5,8 +5,8 @@ use Prim.Native.Nat.{ℕ, _-_, _%_}
 use native.Mathlib.Omega.{arith}
 use borrow.Author.Needs.{needs}
 use Rattle.octets.proofs.Filling.{Filled, filled-none, filled-all}
-use Rattle.aes.specs.Cipher.{columns, mixRow, mixColumns}
-use Rattle.aes.proofs.Elements.{column-filled}
+use Rattle.aes_rules.specs.Cipher.{columns, mixRow, mixColumns}
+use Rattle.aes_rules.proofs.Elements.{column-filled}
 use Rattle.aes_encrypt.proofs.mix_columns.Statement.{statement}
 use Rattle.aes_encrypt.proofs.mix_columns.Tie as tie
 

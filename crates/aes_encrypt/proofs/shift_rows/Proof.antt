@@ -5,8 +5,8 @@ use Prim.Native.Nat.{ℕ, _-_}
 use native.Mathlib.Omega.{arith}
 use borrow.Author.Needs.{needs}
 use Rattle.octets.proofs.Filling.{Filled, filled-none, filled-one, filled-all}
-use Rattle.aes.specs.Cipher.{shiftRows}
-use Rattle.aes.proofs.Elements.{shift-rows-at}
+use Rattle.aes_rules.specs.Cipher.{shiftRows}
+use Rattle.aes_rules.proofs.Elements.{shift-rows-at}
 use Rattle.aes_encrypt.proofs.shift_rows.Statement.{statement}
 use Rattle.aes_encrypt.proofs.shift_rows.Tie as tie
 

@@ -8,8 +8,8 @@ use borrow.Author.Needs.{needs}
 use lib.ListN.{length, length-map}
 use Rattle.octets.proofs.Lists.{getD-map}
 use Rattle.octets.proofs.Filling.{Filled, filled-none, filled-one, filled-all}
-use Rattle.field.specs.Field.{subByte}
-use Rattle.aes.specs.Cipher.{subBytes}
+use Rattle.aes_field.specs.Field.{subByte}
+use Rattle.aes_rules.specs.Cipher.{subBytes}
 use Rattle.aes_encrypt.proofs.sub_bytes.Statement.{statement}
 use Rattle.aes_encrypt.proofs.sub_bytes.Tie as tie
 

@@ -8,7 +8,7 @@ use borrow.Author.Needs.{needs}
 use lib.ListN.{length, take, drop, length-take, length-drop}
 use lib.Seq.{take-all, take-at}
 use Rattle.octets.proofs.Lists.{length-overwrite}
-use Rattle.aes.specs.Schedule.{expand, keyExpansion}
+use Rattle.aes_rules.specs.Schedule.{expand, keyExpansion}
 use Rattle.aes_keys.proofs.Growth.{grown}
 use Rattle.aes_keys.proofs.key_expansion.Statement.{statement}
 use Rattle.aes_keys.proofs.key_expansion.Tie as tie

@@ -5,7 +5,7 @@ use mathlib.Core.List.{List, _++_}
 use Prim.Native.Nat.{ℕ}
 use lib.ListN.{drop, take}
 use Rattle.octets.proofs.Lists.{written}
-use Rattle.aes.specs.Schedule.{rotWord}
+use Rattle.aes_rules.specs.Schedule.{rotWord}
 use borrow.Author.Needs.{needs}
 use Rattle.aes_keys.proofs.rot_word.Statement.{statement}
 use Rattle.aes_keys.proofs.rot_word.Tie as tie

@@ -2,10 +2,10 @@
 -- Assumes nothing.
 use mathlib.Core.Path.{refl}
 use Prim.Native.Nat.{ℕ, _-_, _^_, _%_, _*_}
-use Rattle.field.specs.Field.{xTimes}
+use Rattle.aes_field.specs.Field.{xTimes}
 use Rattle.octets.proofs.Table.{agree-below}
 use Rattle.octets.proofs.Lists.{_&_}
-use Rattle.aes.specs.Schedule.{xPower, rcon}
+use Rattle.aes_rules.specs.Schedule.{xPower, rcon}
 use borrow.Author.Needs.{needs}
 use Rattle.aes_keys.proofs.round_constant.Statement.{statement}
 use Rattle.aes_keys.proofs.round_constant.Tie as tie

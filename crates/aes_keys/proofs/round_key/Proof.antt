@@ -6,7 +6,7 @@ use native.Mathlib.Omega.{arith}
 use mathlib.Core.Path.{_≡_, ap, _∙_}
 use Prim.Native.Nat.{ℕ}
 use lib.ListN.{take, drop}
-use Rattle.aes.specs.Cipher.{roundKey}
+use Rattle.aes_rules.specs.Cipher.{roundKey}
 use borrow.Author.Needs.{needs}
 use Rattle.aes_keys.proofs.round_key.Statement.{statement}
 use Rattle.aes_keys.proofs.round_key.Tie as tie

@@ -2,9 +2,9 @@
 -- Assumes nothing.
 use mathlib.Core.Path.{refl, sym, ap, _∙_}
 use mathlib.Core.List.{map}
-use Rattle.field.specs.Field.{subByte}
+use Rattle.aes_field.specs.Field.{subByte}
 use Rattle.octets.proofs.Lists.{written, _&_}
-use Rattle.aes.specs.Schedule.{subWord}
+use Rattle.aes_rules.specs.Schedule.{subWord}
 use borrow.Author.Needs.{needs}
 use Rattle.aes_keys.proofs.sub_word.Statement.{statement}
 use Rattle.aes_keys.proofs.sub_word.Tie as tie

@@ -3,7 +3,7 @@
 use Rattle.card.proofs.SoundFacts.{path-lengths}
 use mathlib.Core.List.{[]}
 use mathlib.Core.Path.{sym, _∙_}
-use Rattle.answering.proofs.Answers.{ask-as, ask-nothing}
+use Rattle.engine_sound.proofs.Answers.{ask-as, ask-nothing}
 use Rattle.engine.proofs.Answers.{ask-room, ask-sound, ask-unsound}
 use borrow.Author.Needs.{needs}
 use Rattle.engine.proofs.ask.Statement.{statement}

@@ -1,6 +1,6 @@
 -- A fresh card with the three groups of fields in their places.
 -- Assumes nothing.
-use Rattle.record.specs.Parse.{cardOf}
+use Rattle.record_rules.specs.Parse.{cardOf}
 use borrow.Author.Needs.{needs}
 use Rattle.record_card.proofs.card_of.Statement.{statement}
 use Rattle.record_card.proofs.card_of.Tie as tie

@@ -5,7 +5,7 @@ use mathlib.Core.Path.{ap, _∙_}
 use mathlib.Core.List.{List}
 use Prim.Native.Nat.{ℕ}
 use Prim.Native.Nat.{_*_}
-use Rattle.record.specs.Parse.{slotsFrom}
+use Rattle.record_rules.specs.Parse.{slotsFrom}
 use Rattle.record_card.proofs.AtFacts.{at-next, fit-at}
 use borrow.Author.Needs.{needs}
 use Rattle.record_card.proofs.take_secrets.Statement.{statement}

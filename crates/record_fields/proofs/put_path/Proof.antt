@@ -1,7 +1,7 @@
 -- A path is one field, with as many bytes as are in use.
 -- Assumes nothing.
 use Rattle.card.specs.Sizes.{pathMostBytes}
-use Rattle.record.specs.Fields.{recordField}
+use Rattle.record_rules.specs.Fields.{recordField}
 use Rattle.record_fields.specs.Put.{Put}
 use mathlib.Core.List.{[], _∷_}
 use Prim.Native.Nat.{ℕ, _≤_}

@@ -7,7 +7,7 @@ use borrow.Author.Needs.{needs}
 use lib.ListN.{length, take}
 use lib.Seq.{take-all}
 use Rattle.card.specs.Sizes.{slotBytes, slotCount}
-use Rattle.record.specs.Fields.{slotsBytes}
+use Rattle.record_rules.specs.Fields.{slotsBytes}
 use Rattle.record_fields.proofs.Chain.{slots-next}
 use Rattle.record_fields.proofs.slots_bytes.Statement.{statement}
 use Rattle.record_fields.proofs.slots_bytes.Tie as tie

@@ -8,8 +8,8 @@ use lib.Seq.{length-take-le}
 use borrow.Author.Tests.{not-true, not-false}
 use Rattle.octets.specs.Bytes.{sameBytes}
 use Rattle.card.proofs.SoundFacts.{path-lengths}
-use Rattle.record.specs.Fields.{recordOf}
-use Rattle.record.specs.Answers.{isRecordOf}
+use Rattle.record_rules.specs.Fields.{recordOf}
+use Rattle.record_rules.specs.Answers.{isRecordOf}
 use Rattle.record_read.proofs.PutFacts.{put-taken}
 use borrow.Author.Needs.{needs}
 use Rattle.record_read.proofs.is_record_of.Statement.{statement}

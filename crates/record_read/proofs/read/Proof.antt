@@ -1,6 +1,6 @@
 -- READ: by cases on whether the bytes are the record of the card that they describe.
 -- Assumes nothing.
-use Rattle.record.specs.Answers.{readAnswer}
+use Rattle.record_rules.specs.Answers.{readAnswer}
 use borrow.Author.Needs.{needs}
 use Rattle.record_read.proofs.read.Statement.{statement}
 use Rattle.record_read.proofs.read.Tie as tie

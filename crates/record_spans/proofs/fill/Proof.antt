@@ -6,7 +6,7 @@ use native.Mathlib.Omega.{arith}
 use borrow.Author.Needs.{needs}
 use lib.ListN.{length, take, length-set}
 use lib.Seq.{take-all}
-use Rattle.record.specs.Parse.{fit}
+use Rattle.record_rules.specs.Parse.{fit}
 use Rattle.record_spans.proofs.PlaceFacts.{fit-suc}
 use Rattle.record_spans.proofs.fill.Statement.{statement}
 use Rattle.record_spans.proofs.fill.Tie as tie

@@ -8,7 +8,7 @@ use borrow.Author.Needs.{needs}
 use lib.ListN.{length, take, length-set}
 use lib.Seq.{take-all}
 use Rattle.card.specs.Sizes.{slotBytes, slotCount}
-use Rattle.record.specs.Parse.{slotsFrom}
+use Rattle.record_rules.specs.Parse.{slotsFrom}
 use Rattle.record_spans.proofs.slots_from.Statement.{statement}
 use Rattle.record_spans.proofs.slots_from.Tie as tie
 

@@ -4,7 +4,7 @@ use mathlib.Core.Path.{ap, _∙_}
 use mathlib.Core.List.{List}
 use Prim.Native.Nat.{ℕ}
 use lib.ListN.{length}
-use Rattle.record.specs.Parse.{fit}
+use Rattle.record_rules.specs.Parse.{fit}
 use borrow.Author.Needs.{needs}
 use Rattle.record_spans.proofs.take_field.Statement.{statement}
 use Rattle.record_spans.proofs.take_field.Tie as tie

@@ -6,7 +6,7 @@ use mathlib.Core.List.{List}
 use Prim.Native.Nat.{ℕ}
 use native.Mathlib.Omega.{arith}
 use lib.ListN.{drop}
-use Rattle.record.specs.Parse.{fit, body}
+use Rattle.record_rules.specs.Parse.{fit, body}
 use Rattle.record_spans.proofs.PlaceFacts.{path-short, path-long, span-length}
 use borrow.Author.Needs.{needs}
 use Rattle.record_spans.proofs.take_path.Statement.{statement}

@@ -2,7 +2,7 @@
 -- Assumes nothing.
 use native.Mathlib.Omega.{arith}
 use borrow.Author.Tests.{eq-eqb, ne-eqb}
-use Rattle.record.specs.Fields.{fields}
+use Rattle.record_rules.specs.Fields.{fields}
 use Rattle.record_fields.proofs.Chain.{put-then}
 use borrow.Author.Needs.{needs}
 use Rattle.record_write.proofs.put_record.Statement.{statement}

@@ -3,8 +3,8 @@ use mathlib.Core.List.{[]}
 use native.Mathlib.Omega.{arith}
 use lib.ListN.{length}
 use borrow.Author.Needs.{needs}
-use Rattle.template.proofs.WritingFacts.{wrote-one, wrote-both}
-use Rattle.template.proofs.HeadFacts.{head-length-le}
+use Rattle.template_rules.proofs.WritingFacts.{wrote-one, wrote-both}
+use Rattle.template_rules.proofs.HeadFacts.{head-length-le}
 use Rattle.template_write.proofs.put_field.Statement.{statement}
 use Rattle.template_write.proofs.put_field.Tie as tie
 

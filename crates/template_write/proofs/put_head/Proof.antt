@@ -2,7 +2,7 @@
 use native.Mathlib.Omega.{arith}
 use borrow.Author.Tests.{lt-ltb, le-ltb}
 use borrow.Author.Needs.{needs}
-use Rattle.template.proofs.WritingFacts.{wrote-one}
+use Rattle.template_rules.proofs.WritingFacts.{wrote-one}
 use Rattle.template_write.proofs.put_head.Statement.{statement}
 use Rattle.template_write.proofs.put_head.Tie as tie
 

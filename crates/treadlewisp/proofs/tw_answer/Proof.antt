@@ -43,18 +43,18 @@ use denote.Exit.{yes}
 use Rattle.card.specs.declared.Card.{Card}
 use Rattle.card.proofs.Card as T
 use Rattle.card.proofs.Card.Laws as T′
-use Rattle.responses.specs.declared.Answered.{Answered}
+use Rattle.engine_responses.specs.declared.Answered.{Answered}
 use Rattle.rules.specs.Engine.{answerOut}
-use Rattle.responses.specs.Did.{AnswerDid}
-use Rattle.responses.proofs.Answered as S
-use Rattle.responses.proofs.Answered.Laws as S′
+use Rattle.engine_responses.specs.Did.{AnswerDid}
+use Rattle.engine_responses.proofs.Answered as S
+use Rattle.engine_responses.proofs.Answered.Laws as S′
 use Rattle.engine.proofs.answer as g
 use Rattle.engine.proofs.answer.Symbol as g-def
 use Rattle.engine.proofs.answer.Symbol.{name as #g}
 use Rattle.engine.proofs.answer.Met as g-thm
-use Rattle.boundary.specs.declared.Counted.{Counted}
-use Rattle.boundary.proofs.Counted as R
-use Rattle.boundary.proofs.Counted.Laws as R′
+use Rattle.library_calls.specs.declared.Counted.{Counted}
+use Rattle.library_calls.proofs.Counted as R
+use Rattle.library_calls.proofs.Counted.Laws as R′
 use Rattle.treadlewisp.proofs.tw_answer.Key.{name as #f}
 use Rattle.treadlewisp.proofs.tw_answer as f
 use Rattle.treadlewisp.proofs.tw_answer.Statement as stated

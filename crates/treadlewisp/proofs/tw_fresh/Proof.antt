@@ -41,10 +41,10 @@ use Rattle.card.specs.declared.Card.{Card}
 use Rattle.card.proofs.Card as T
 use Rattle.card.proofs.Card.Laws as T′
 use Rattle.card.specs.State.{freshOf}
-use Rattle.boundary.proofs.made as g
-use Rattle.boundary.proofs.made.Symbol as g-def
-use Rattle.boundary.proofs.made.Symbol.{name as #g}
-use Rattle.boundary.proofs.made.Met as g-thm
+use Rattle.library_calls.proofs.made as g
+use Rattle.library_calls.proofs.made.Symbol as g-def
+use Rattle.library_calls.proofs.made.Symbol.{name as #g}
+use Rattle.library_calls.proofs.made.Met as g-thm
 use Rattle.treadlewisp.proofs.tw_fresh.Key.{name as #f}
 use Rattle.treadlewisp.proofs.tw_fresh as f
 use Rattle.treadlewisp.proofs.tw_fresh.Statement as stated

@@ -45,7 +45,7 @@ use Rattle.card.specs.declared.Card.{Card}
 use Rattle.card.proofs.Card as T
 use Rattle.card.proofs.Card.Laws as T′
 use Rattle.sound.specs.declared.Answer.{Answer}
-use Rattle.record.specs.Answers.{readAnswer}
+use Rattle.record_rules.specs.Answers.{readAnswer}
 use Rattle.sound.proofs.Answer as S
 use Rattle.sound.proofs.Answer.Laws as S′
 use Rattle.record_read.proofs.read as g

@@ -40,21 +40,21 @@ use denote.Triple.Table.{entered, cited}
 use denote.Triple.Walked.{says, Stays, stay-ref, stay-none-ref, stay-none-slice, gave-slice, walkOf, AllGo, goes-ref, goes-none-ref, goes-none-slice, goes-gave-slice, Walks, ends-at, walked, walk-meets}
 use denote.Triple.Clauses.{ensured, lasts}
 use denote.Exit.{yes}
-use Rattle.message.specs.declared.Session.{Session}
-use Rattle.message.proofs.Session as T
-use Rattle.message.proofs.Session.Laws as T′
-use Rattle.terminal.specs.declared.Outcome.{Outcome}
-use Rattle.message.specs.Terminal.{sealOut}
-use Rattle.terminal.specs.Did.{Did}
-use Rattle.terminal.proofs.Outcome as S
-use Rattle.terminal.proofs.Outcome.Laws as S′
-use Rattle.boundary.proofs.sealed as g
-use Rattle.boundary.proofs.sealed.Symbol as g-def
-use Rattle.boundary.proofs.sealed.Symbol.{name as #g}
-use Rattle.boundary.proofs.sealed.Met as g-thm
-use Rattle.boundary.specs.declared.Counted.{Counted}
-use Rattle.boundary.proofs.Counted as R
-use Rattle.boundary.proofs.Counted.Laws as R′
+use Rattle.channel_rules.specs.declared.Session.{Session}
+use Rattle.channel_rules.proofs.Session as T
+use Rattle.channel_rules.proofs.Session.Laws as T′
+use Rattle.channel_terminal.specs.declared.Outcome.{Outcome}
+use Rattle.channel_rules.specs.Terminal.{sealOut}
+use Rattle.channel_terminal.specs.Did.{Did}
+use Rattle.channel_terminal.proofs.Outcome as S
+use Rattle.channel_terminal.proofs.Outcome.Laws as S′
+use Rattle.library_calls.proofs.sealed as g
+use Rattle.library_calls.proofs.sealed.Symbol as g-def
+use Rattle.library_calls.proofs.sealed.Symbol.{name as #g}
+use Rattle.library_calls.proofs.sealed.Met as g-thm
+use Rattle.library_calls.specs.declared.Counted.{Counted}
+use Rattle.library_calls.proofs.Counted as R
+use Rattle.library_calls.proofs.Counted.Laws as R′
 use Rattle.treadlewisp.proofs.tw_seal.Key.{name as #f}
 use Rattle.treadlewisp.proofs.tw_seal as f
 use Rattle.treadlewisp.proofs.tw_seal.Statement as stated

@@ -41,10 +41,10 @@ use Rattle.card.specs.Sound.{isSound}
 use Rattle.card.specs.declared.Card.{Card}
 use Rattle.card.proofs.Card as T
 use Rattle.card.proofs.Card.Laws as T′
-use Rattle.boundary.proofs.sound_number as g
-use Rattle.boundary.proofs.sound_number.Symbol as g-def
-use Rattle.boundary.proofs.sound_number.Symbol.{name as #g}
-use Rattle.boundary.proofs.sound_number.Met as g-thm
+use Rattle.library_calls.proofs.sound_number as g
+use Rattle.library_calls.proofs.sound_number.Symbol as g-def
+use Rattle.library_calls.proofs.sound_number.Symbol.{name as #g}
+use Rattle.library_calls.proofs.sound_number.Met as g-thm
 use Rattle.treadlewisp.proofs.tw_sound.Key.{name as #f}
 use Rattle.treadlewisp.proofs.tw_sound as f
 use Rattle.treadlewisp.proofs.tw_sound.Statement as stated

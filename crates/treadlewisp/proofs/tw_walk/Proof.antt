@@ -3,7 +3,7 @@
 use mathlib.Core.Path.{_≡_, ap, ap₂, _∙_}
 use Prim.Native.Nat.{ℕ}
 use borrow.Author.Needs.{needs}
-use Rattle.walk.specs.Walk.{WalkOut}
+use Rattle.template_walk.specs.Walk.{WalkOut}
 use Rattle.treadlewisp.proofs.tw_walk.Statement.{statement}
 use Rattle.treadlewisp.proofs.tw_walk.Tie as tie
 

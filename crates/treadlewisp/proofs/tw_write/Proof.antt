@@ -41,15 +41,15 @@ use denote.Exit.{yes}
 use Rattle.card.specs.declared.Card.{Card}
 use Rattle.card.proofs.Card as T
 use Rattle.card.proofs.Card.Laws as T′
-use Rattle.boundary.specs.declared.Counted.{Counted}
+use Rattle.library_calls.specs.declared.Counted.{Counted}
 use Rattle.record_write.specs.Wrote.{WroteRecord}
-use Rattle.boundary.specs.Left.{writtenOf}
-use Rattle.boundary.proofs.Counted as S
-use Rattle.boundary.proofs.Counted.Laws as S′
-use Rattle.boundary.proofs.written as g
-use Rattle.boundary.proofs.written.Symbol as g-def
-use Rattle.boundary.proofs.written.Symbol.{name as #g}
-use Rattle.boundary.proofs.written.Met as g-thm
+use Rattle.library_calls.specs.Left.{writtenOf}
+use Rattle.library_calls.proofs.Counted as S
+use Rattle.library_calls.proofs.Counted.Laws as S′
+use Rattle.library_calls.proofs.written as g
+use Rattle.library_calls.proofs.written.Symbol as g-def
+use Rattle.library_calls.proofs.written.Symbol.{name as #g}
+use Rattle.library_calls.proofs.written.Met as g-thm
 use Rattle.treadlewisp.proofs.tw_write.Key.{name as #f}
 use Rattle.treadlewisp.proofs.tw_write as f
 use Rattle.treadlewisp.proofs.tw_write.Statement as stated

@@ -1,0 +1,42 @@
+// The search for a free pairing slot.
+// An index counts slots from 0; the facts hold for any number of slots.
+// Proved: the slot found is the free one with the least index, and none is found exactly where all are filled.
+ghost use mathlib.Core.Path.{_≡_};
+ghost use Rattle.card.specs.Slots.{someOf, isFree};
+ghost use Rattle.card_slots.specs.Free.{firstFree, Says};
+use card::Card;
+use card::Slot;
+
+// The first free slot, by its index, or that all slots are filled. `Says` of specs/Free.antt states each case.
+pub enum Free {
+    At(usize),
+    Full,
+}
+
+// The search stops at the first free slot (01, Commands, PAIR).
+pub fn first_free(slots: [Slot; Card::SLOTS]) -> Free
+    ensures { λ r. ⌜ (r ≡ firstFree slots) × Says slots r ⌝ }
+{
+    let mut k = 0;
+    let i = loop {
+        if Card::SLOTS <= k {
+            return Free::Full;
+        }
+        let slot = slots[k];
+        if slot.filled == 0 {
+            break k;
+        }
+        k += 1;
+    };
+    Free::At(i)
+}
+
+// Whether there is a free slot.
+pub fn has_free(slots: [Slot; Card::SLOTS]) -> bool
+    ensures { λ r. ⌜ r ≡ someOf isFree slots ⌝ }
+{
+    match first_free(slots) {
+        Free::At(_) => true,
+        Free::Full => false,
+    }
+}

@@ -1,0 +1,75 @@
+-- What a buffer holds while a field is sealed in it: after the padding, after the encryption of the part that was lent, and after the MAC.
+-- Assumes nothing.
+use mathlib.Core.Path.{_≡_, refl, sym, ap, ap₂, _∙_}
+use mathlib.Core.List.{List, _++_, append-assoc, append-nil}
+use Prim.Native.Nat.{ℕ, _+_, _-_, _≤_}
+use native.Mathlib.Omega.{arith}
+use lib.ListN.{length, take, drop, length-append, length-take, length-drop, drop-of-length-le}
+use lib.Seq.{take-at, drop-at, take-all, drop-drop, length-take-le}
+use Rattle.octets.specs.Bytes.{overwrite}
+use Rattle.aes_padding.specs.Padding.{paddedBytes, pad}
+use Rattle.aes_padding.proofs.Laws.{length-pad, padded-larger}
+
+-- a part from byte a to the end is all that stands behind a
+pub tail-is : (a : ℕ) (xs : List ℕ) → take (length xs - a) (drop a xs) ≡ drop a xs
+tail-is a xs = take-all (length xs - a) (drop a xs) (omega (arith, length-drop a xs))
+
+pub tail-put : (a : ℕ) (xs y : List ℕ) → take a xs ++ (y ++ drop (length xs - a) (drop a xs)) ≡ take a xs ++ y
+tail-put a xs y =
+    ap (λ (r : List ℕ). take a xs ++ (y ++ r)) (drop-of-length-le (drop a xs) {i = length xs - a} (omega (arith, length-drop a xs)))
+    ∙ ap (λ (r : List ℕ). take a xs ++ r) (append-nil y)
+
+-- B is the buffer as it was, p the padded length, y₁ its tail after padding, y₂ the part after encryption
+module _ (B : List ℕ) (n p : ℕ) (ep : p ≡ paddedBytes n) (room : 16 + paddedBytes n ≤ length B) (y₁ : List ℕ)
+    (e₁ : y₁ ≡ pad (take n (take (length B - 16) (drop 16 B))) ++ drop (paddedBytes n) (take (length B - 16) (drop 16 B))) where
+  abbrev B₁ : List ℕ
+  B₁ = take 16 B ++ (y₁ ++ drop (length B - 16) (drop 16 B))
+
+  abbrev padded : List ℕ
+  padded = pad (take n (drop 16 B))
+
+  sixteen : length (take 16 B) ≡ 16
+  sixteen = length-take-le 16 B (omega arith)
+
+  long : length padded ≡ paddedBytes n
+  long = length-pad (take n (drop 16 B)) ∙ ap paddedBytes (length-take-le n (drop 16 B) (omega (arith, length-drop 16 B, padded-larger n)))
+
+  B₁-is : B₁ ≡ take 16 B ++ (padded ++ drop (paddedBytes n) (drop 16 B))
+  B₁-is =
+      tail-put 16 B y₁ ∙ ap (λ (r : List ℕ). take 16 B ++ r) (e₁ ∙ ap (λ (t : List ℕ). pad (take n t) ++ drop (paddedBytes n) t) (tail-is 16 B))
+
+  B₁-tail : drop 16 B₁ ≡ padded ++ drop (paddedBytes n) (drop 16 B)
+  B₁-tail = ap (drop 16) B₁-is ∙ drop-at (take 16 B) (padded ++ drop (paddedBytes n) (drop 16 B)) 16 sixteen
+
+  count : 16 + p - 16 ≡ paddedBytes n
+  count = omega arith
+
+  -- the part that is lent to the cipher is the padded data
+  pub lent : take (16 + p - 16) (drop 16 B₁) ≡ padded
+  lent =
+      ap₂ (λ (m : ℕ) (t : List ℕ). take m t) count B₁-tail ∙ take-at padded (drop (paddedBytes n) (drop 16 B)) (paddedBytes n) long
+
+  pub lent-whole : length (take (16 + p - 16) (drop 16 B₁)) ≡ paddedBytes n
+  lent-whole = ap length lent ∙ long
+
+  module _ (y₂ : List ℕ) (l₂ : length y₂ ≡ length (take (16 + p - 16) (drop 16 B₁))) where
+    abbrev B₂ : List ℕ
+    B₂ = take 16 B₁ ++ (y₂ ++ drop (16 + p - 16) (drop 16 B₁))
+
+    B₂-tail : drop 16 B₂ ≡ y₂ ++ drop (paddedBytes n) (drop 16 B)
+    B₂-tail =
+        drop-at (take 16 B₁) (y₂ ++ drop (16 + p - 16) (drop 16 B₁)) 16 (ap length (ap (take 16) B₁-is ∙ take-at (take 16 B) (padded ++ drop (paddedBytes n) (drop 16 B)) 16 sixteen) ∙ sixteen)
+        ∙ ap (λ (r : List ℕ). y₂ ++ r)
+        (ap₂ (λ (m : ℕ) (t : List ℕ). drop m t) count B₁-tail ∙ drop-at padded (drop (paddedBytes n) (drop 16 B)) (paddedBytes n) long)
+
+    -- the part that the MAC is taken over is the ciphertext
+    pub enciphered : take (16 + p - 16) (drop 16 B₂) ≡ y₂
+    enciphered =
+        ap₂ (λ (m : ℕ) (t : List ℕ). take m t) count B₂-tail ∙ take-at y₂ (drop (paddedBytes n) (drop 16 B)) (paddedBytes n) (l₂ ∙ lent-whole)
+
+    -- and in the end stand the MAC, the ciphertext, and what stood behind
+    pub sealed : (mac : List ℕ) → length mac ≡ 16 → overwrite B₂ 0 mac ≡ (mac ++ y₂) ++ drop (16 + paddedBytes n) B
+    sealed mac l =
+        ap (λ (m : ℕ). mac ++ drop (0 + m) B₂) l
+        ∙ ap (λ (r : List ℕ). mac ++ r) (B₂-tail ∙ ap (λ (r : List ℕ). y₂ ++ r) (drop-drop (paddedBytes n) 16 B))
+        ∙ sym (append-assoc mac y₂ (drop (16 + paddedBytes n) B))

@@ -1,0 +1,34 @@
+-- What the card's side of sealing and opening promises, as records whose parts have names. Lengths are in bytes.
+use Prim.Native.Nat.{ℕ, _+_, _≤_}
+use mathlib.Core.List.{List, _++_}
+use mathlib.Core.Option.{Option, some}
+use mathlib.Core.Path.{_≡_}
+use lib.ListN.{length, take, drop}
+use Rattle.refusals.specs.Refusals.{dataMost}
+use Rattle.aes_padding.specs.Padding.{paddedBytes}
+use Rattle.channel_rules.specs.declared.Session.{Session}
+use Rattle.channel_rules.specs.declared.Opening.{Opening}
+use Rattle.channel_rules.specs.Message.{withIv, responseHead, ciphertext, macOf, fieldMac, openingOf, fieldOut, openingOut}
+use Rattle.channel_rules.specs.Terminal.{sealedResponse}
+use Rattle.channel_seal.specs.declared.Response.{Response}
+
+-- n bytes of data that stood 16 bytes into the buffer were sealed there under a head block: the MAC is the answer and stands first, the
+-- ciphertext straight behind it, and what stands behind the field is kept
+pub record FieldSealed (s : Session) (head : List ℕ) (n : ℕ) (before mac after : List ℕ) : Type 0 where
+  pub told : mac ≡ macOf s head (ciphertext s (take n (drop 16 before)))
+  pub left : after ≡ (mac ++ ciphertext s (take n (drop 16 before))) ++ drop (16 + paddedBytes n) before
+  pub long : length (ciphertext s (take n (drop 16 before))) ≡ paddedBytes n
+
+-- an opening gives the length of the opened data, at most 223 bytes, which stands at the start of `plain`; or that
+-- there is none. `says` is that in 01's terms, with the number that stands for no data
+pub record Opens (data′ : Option (List ℕ)) (r : Opening) (plain : List ℕ) : Type 0 where
+  pub told : r ≡ openingOf data′
+  pub says : openingOut plain r ≡ fieldOut data′
+  pub left : (x : List ℕ) → data′ ≡ some x → x ≡ take (length x) plain
+  pub short : (x : List ℕ) → data′ ≡ some x → length x ≤ dataMost
+
+-- a response's data and status word were sealed from the buffer's start, with 9000 in the clear behind them
+pub record ResponseSealed (s : Session) (plain : List ℕ) (before : List ℕ) (r : Response) (after : List ℕ) : Type 0 where
+  pub count : r .count ≡ length (sealedResponse s plain)
+  pub session : r .session ≡ withIv s (fieldMac s responseHead plain)
+  pub left : after ≡ sealedResponse s plain ++ drop (length (sealedResponse s plain)) before

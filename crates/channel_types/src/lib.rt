@@ -1,0 +1,51 @@
+// What the types say of a session, which the laws of sealed messages take as a hypothesis.
+// Every length is in bytes.
+// Proved: every session that code holds has keys of 32 bytes and an IV of 16 bytes, by its type alone.
+ghost use mathlib.Core.Path.{_≡_};
+ghost use Prim.Native.Nat.{_<_};
+ghost use Rattle.octets.specs.Bytes.{Block};
+ghost use Rattle.aes_rules.specs.Aes.{Key};
+ghost use Rattle.channel_rules.specs.Message.{Keyed};
+use channel_rules::Session;
+
+// Each value as it is, or how many bytes there are: what counts is what the type says of it.
+fn byte(b: u8) -> u8
+    ensures { λ _. ⌜ b < 256 ⌝ }
+{
+    b
+}
+
+fn key(k: [u8; 32]) -> usize
+    ensures { λ _. ⌜ Key k ⌝ }
+{
+    let mut i = 0;
+    while i < 32 {
+        byte(k[i]);
+        i += 1;
+    }
+    i
+}
+
+fn block(b: [u8; 16]) -> usize
+    ensures { λ _. ⌜ Block b ⌝ }
+{
+    let mut i = 0;
+    while i < 16 {
+        byte(b[i]);
+        i += 1;
+    }
+    i
+}
+
+// The session as it is.
+pub fn keyed(s: Session) -> Session
+    ensures { λ _. ⌜ Keyed s ⌝ }
+{
+    let enc_key = s.enc_key;
+    let mac_key = s.mac_key;
+    let iv = s.iv;
+    key(enc_key);
+    key(mac_key);
+    block(iv);
+    s
+}

@@ -1,0 +1,159 @@
+// PAIR, first and final, which are plain in every stage: for each the verdict of its checks, and its reply where they hold.
+// Every length and count is in bytes; a slot's index counts slots from 0.
+// Proved: each verdict, reply and byte of the buffer is what the step's rule gives, for every card, data and supply.
+ghost use mathlib.Core.Path.{_≡_};
+ghost use mathlib.Core.Bool.{true};
+ghost use Prim.Native.Nat.{_≤_, _<_};
+ghost use lib.ListN.{length};
+ghost use Rattle.card.specs.State.{slotCount, notPending};
+ghost use Rattle.rules.specs.Words.{verdict};
+ghost use Rattle.rules.specs.Code.{Replies};
+ghost use Rattle.rules.specs.Supplies.{suits, pairFirstSupply, pairFinalSupply};
+ghost use Rattle.rules.specs.Commands.{pairFirstChecks, pendingWith, pairFirstReply, pairFinalChecks, withSlot, filledWith, pairFinalReply};
+ghost use Rattle.command_pair.specs.Parts.{FoundAt};
+use card::Card;
+use card::KEY_BYTES;
+use card::Pairing;
+use card::STAGE_AUTHENTICATED;
+use card::Slot;
+use card_slots::Free;
+use command_parts::failed;
+use command_parts::key_part;
+use command_parts::must;
+use command_parts::put_both;
+use command_parts::reads;
+use command_parts::replied;
+use command_parts::with_pairing;
+use rules::CONDITIONS_NOT_MET;
+use rules::NO_SPACE;
+use rules::Replied;
+use rules::SECURITY_NOT_MET;
+use rules::Verdict;
+use rules::WRONG_DATA;
+use rules::WRONG_PARAMETERS;
+
+// A client's challenge and its cryptogram, in bytes.
+pub const PAIR_DATA_BYTES: usize = 32;
+
+// The first step's supply, and where its parts begin: cryptogram 32, challenge 32, expected client cryptogram 32.
+const FIRST_SUPPLY: u8 = 4;
+
+const FIRST_SUPPLY_BYTES: usize = 96;
+
+const CHALLENGE_AT: usize = 32;
+
+const EXPECTED_AT: usize = 64;
+
+// The final step's supply, and where its parts begin: salt 32, pairing key 32.
+const FINAL_SUPPLY: u8 = 5;
+
+const FINAL_SUPPLY_BYTES: usize = 64;
+
+const PAIRING_KEY_AT: usize = 32;
+
+// ---- PAIR, first
+pub fn pair_first_verdict(pairing: Pairing, stage: u8, data: &[u8]) -> Verdict
+    ensures { λ r. ⌜ r ≡ verdict pairFirstSupply (pairFirstChecks pairing stage (now («data» .entry))) ⌝ }
+{
+    let slots = pairing.slots;
+    let outside = stage != STAGE_AUTHENTICATED;
+    let long = data.len() == PAIR_DATA_BYTES;
+    let room = card_slots::has_free(slots);
+    let read = reads(FIRST_SUPPLY, FIRST_SUPPLY_BYTES, false);
+    must(
+        outside,
+        CONDITIONS_NOT_MET,
+        must(long, WRONG_DATA, must(room, NO_SPACE, read)),
+    )
+}
+
+// The pairing with a pending one, which takes the place of one before it.
+fn pending_with(pairing: Pairing, expected: [u8; KEY_BYTES]) -> Pairing
+    ensures { λ r. ⌜ r ≡ pendingWith pairing expected ⌝ }
+{
+    let mut next = pairing;
+    next.pending = 1;
+    next.expected = expected;
+    next
+}
+
+pub fn pair_first(card: Card, supply: &[u8], out: &mut [u8]) -> Replied
+    requires { ⌜ (suits pairFirstSupply (now supply) ≡ true) × (221 ≤ length (now out)) ⌝ }
+    ensures { λ r. ⌜ Replies (pairFirstReply card (now (supply .entry))) r (now (out .entry)) (now (out .exit)) ⌝ }
+{
+    let cryptogram = key_part(supply, 0);
+    let challenge = key_part(supply, CHALLENGE_AT);
+    let expected = key_part(supply, EXPECTED_AT);
+    let count = put_both(out, &cryptogram, &challenge);
+    let before = card.pairing;
+    let pairing = pending_with(before, expected);
+    replied(with_pairing(card, pairing), count)
+}
+
+// ---- PAIR, final
+pub fn pair_final_verdict(pairing: Pairing, stage: u8, data: &[u8]) -> Verdict
+    ensures { λ r. ⌜ r ≡ verdict pairFinalSupply (pairFinalChecks pairing stage (now («data» .entry))) ⌝ }
+{
+    let expected = pairing.expected;
+    let pending = pairing.pending != 0;
+    let outside = stage != STAGE_AUTHENTICATED;
+    let long = data.len() == PAIR_DATA_BYTES;
+    let right = octets::same(data, &expected);
+    let read = reads(FINAL_SUPPLY, FINAL_SUPPLY_BYTES, false);
+    must(
+        pending,
+        WRONG_PARAMETERS,
+        must(
+            outside,
+            CONDITIONS_NOT_MET,
+            must(long, WRONG_DATA, must(right, SECURITY_NOT_MET, read)),
+        ),
+    )
+}
+
+// The pairing without a pending one.
+fn not_pending(pairing: Pairing) -> Pairing
+    ensures { λ r. ⌜ r ≡ notPending pairing ⌝ }
+{
+    let mut next = pairing;
+    next.pending = 0;
+    next.expected = [0; KEY_BYTES];
+    next
+}
+
+// The index of the slot found, as a byte.
+fn index_byte(slots: [Slot; Card::SLOTS], i: usize) -> u8
+    requires { ⌜ FoundAt slots i ⌝ }
+    ensures { λ r. ⌜ (r ≡ i) × (i < slotCount) ⌝ }
+{
+    i as u8
+}
+
+// The pairing with the slot of this index filled, and no pending one.
+fn filled_at(pairing: Pairing, i: usize, key: [u8; KEY_BYTES]) -> Pairing
+    requires { ⌜ i < slotCount ⌝ }
+    ensures { λ r. ⌜ r ≡ withSlot (notPending pairing) i (filledWith key) ⌝ }
+{
+    let mut next = not_pending(pairing);
+    let slot = Slot { filled: 1, key };
+    next.slots[i] = slot;
+    next
+}
+
+pub fn pair_final(card: Card, supply: &[u8], out: &mut [u8]) -> Replied
+    requires { ⌜ (suits pairFinalSupply (now supply) ≡ true) × (221 ≤ length (now out)) ⌝ }
+    ensures { λ r. ⌜ Replies (pairFinalReply card (now (supply .entry))) r (now (out .entry)) (now (out .exit)) ⌝ }
+{
+    let before = card.pairing;
+    let slots = before.slots;
+    let Free::At(i) = card_slots::first_free(slots) else {
+        let pairing = not_pending(before);
+        return failed(with_pairing(card, pairing), NO_SPACE);
+    };
+    let index = [index_byte(slots, i)];
+    let salt = key_part(supply, 0);
+    let key = key_part(supply, PAIRING_KEY_AT);
+    let count = put_both(out, &index, &salt);
+    let pairing = filled_at(before, i, key);
+    replied(with_pairing(card, pairing), count)
+}

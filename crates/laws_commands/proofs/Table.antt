@@ -1,0 +1,73 @@
+-- Every instruction is lawful, and so is every command that one lists.
+-- Assumes nothing.
+use mathlib.Core.Path.{_≡_, refl, sym, _∙_, subst}
+use mathlib.Core.Bool.{Bool, true, false, cond, false≢true}
+use mathlib.Core.List.{List, [], _∷_}
+use mathlib.Core.Option.{Option, none, some}
+use Prim.Native.Nat.{ℕ}
+use lib.Dec.{ltb, eqb}
+use Rattle.template_rules.proofs.HeadFacts.{by-test}
+use Rattle.card.specs.State.{slotCount}
+use Rattle.card.specs.Slots.{isZero}
+use Rattle.rules.specs.declared.Instruction.{Instruction}
+use Rattle.rules.specs.declared.Instruction.the-variants as ins
+use Rattle.rules.specs.declared.Named.the-variants as named
+use Rattle.rules.specs.declared.StatusKind.the-variants as status
+use Rattle.rules.specs.declared.SecretKind.the-variants as secret
+use Rattle.rules.specs.declared.KeyForm.the-variants as key
+use Rattle.rules.specs.declared.Command.{Command}
+use Rattle.rules.specs.declared.Command.the-variants as command
+use Rattle.rules.specs.Rows.{atP1, oneOf, slot, rowOf, isPlain}
+use Rattle.rules.specs.Steps.{nameOf, inStage}
+use Rattle.laws_commands.specs.Lawful.{Lawful, Each, LawfulRow}
+use Rattle.laws_commands.proofs.ChannelCommands.{select-lawful, init-lawful, open-lawful, mutual-lawful, pair-first-lawful, pair-final-lawful, unpair-lawful}
+use Rattle.laws_commands.proofs.PinCommands.{status-lawful, verify-lawful, change-lawful, unblock-lawful}
+use Rattle.laws_commands.proofs.KeyCommands.{load-lawful, derive-lawful, remove-lawful, pinless-lawful, sign-lawful}
+
+-- ---- what holds of each command that is listed holds of the one that P1 and P2 name
+module _ (P : Command → Type 0) where
+  abbrev All : List (ℕ × Command) → Type 0
+  All [] = Unit {0}
+  All (x ∷ more) = P (x .1) × All more
+
+  at-p1 : (l : List (ℕ × Command)) → All l → (p1 : ℕ) → Each P (atP1 l p1)
+  at-p1 [] h p1 = tt
+  at-p1 (x ∷ more) h p1 = by-test (Each P) (eqb p1 (x .0)) (λ e. h .0) (λ e. at-p1 more (h .1) p1)
+
+  one-of : (l : List (ℕ × Command)) → All l → (p1 p2 : ℕ) → Each P (oneOf l p1 p2)
+  one-of l h p1 p2 = by-test (Each P) (isZero p2) (λ e. at-p1 l h p1) (λ e. tt)
+
+  of-slot : (k : ℕ → Command) → ((n : ℕ) → P (k n)) → (p1 p2 : ℕ) → Each P (slot k p1 p2)
+  of-slot k h p1 p2 = by-test (Each P) (isZero p2) (λ e. by-test (Each P) (ltb p1 slotCount) (λ t. h p1) (λ t. tt)) (λ e. tt)
+
+-- ---- a row of a plain instruction: what is said of those over the channel does not concern it
+plain-row : (i : Instruction) → isPlain i ≡ true → inStage i 2 ≡ true → ((p1 p2 : ℕ) → Each (Lawful i) (rowOf i .lists p1 p2)) → LawfulRow i
+plain-row i p t l = record {
+  known = λ e. absurd (false≢true (sym e ∙ p));
+  begins = λ e. absurd (false≢true (sym e ∙ p));
+  fails = λ e. absurd (false≢true (sym e ∙ p));
+  stage = t;
+  lists = l;
+}
+
+-- ---- the table
+pub row-lawful : (i : Instruction) → LawfulRow i
+unfolding nameOf
+row-lawful ins.Select = plain-row ins.Select refl refl (one-of (Lawful ins.Select) ((0x04, command.Select) ∷ []) (select-lawful, tt))
+row-lawful ins.Init = plain-row ins.Init refl refl (one-of (Lawful ins.Init) ((0x00, command.Init) ∷ []) (init-lawful, tt))
+row-lawful ins.Open = plain-row ins.Open refl refl (of-slot (Lawful ins.Open) command.Open open-lawful)
+row-lawful ins.Mutual = record { known = λ e. refl; begins = λ e c. refl; fails = λ e p1 c h. rw h; stage = refl; lists = one-of (Lawful ins.Mutual) ((0x00, command.Mutual) ∷ []) (mutual-lawful, tt) }
+row-lawful ins.Pair = plain-row ins.Pair refl refl (one-of (Lawful ins.Pair) ((0x00, command.PairFirst) ∷ (0x01, command.PairFinal) ∷ []) (pair-first-lawful, (pair-final-lawful, tt)))
+row-lawful ins.Unpair = record { known = λ e. refl; begins = λ e c. refl; fails = λ e p1 c h. refl; stage = refl; lists = of-slot (Lawful ins.Unpair) command.Unpair unpair-lawful }
+row-lawful ins.Status = record { known = λ e. refl; begins = λ e c. refl; fails = λ e p1 c h. refl; stage = refl; lists = one-of (Lawful ins.Status) ((0x00, command.Status status.Application) ∷ (0x01, command.Status status.Path) ∷ []) (status-lawful status.Application, (status-lawful status.Path, tt)) }
+row-lawful ins.Verify = record { known = λ e. refl; begins = λ e c. refl; fails = λ e p1 c h. refl; stage = refl; lists = one-of (Lawful ins.Verify) ((0x00, command.Verify) ∷ []) (verify-lawful, tt) }
+row-lawful ins.Change = record { known = λ e. refl; begins = λ e c. refl; fails = λ e p1 c h. refl; stage = refl; lists = one-of (Lawful ins.Change) ((0x00, command.Change secret.Pin) ∷ (0x01, command.Change secret.Puk) ∷ (0x02, command.Change secret.Pairing) ∷ []) (change-lawful secret.Pin, (change-lawful secret.Puk, (change-lawful secret.Pairing, tt))) }
+row-lawful ins.Unblock = record { known = λ e. refl; begins = λ e c. refl; fails = λ e p1 c h. refl; stage = refl; lists = one-of (Lawful ins.Unblock) ((0x00, command.Unblock) ∷ []) (unblock-lawful, tt) }
+row-lawful ins.Load = record { known = λ e. refl; begins = λ e c. refl; fails = λ e p1 c h. refl; stage = refl; lists = one-of (Lawful ins.Load) ((0x01, command.Load key.Keypair) ∷ (0x02, command.Load key.Extended) ∷ (0x03, command.Load key.Seed) ∷ []) (load-lawful key.Keypair, (load-lawful key.Extended, (load-lawful key.Seed, tt))) }
+row-lawful ins.Derive = record { known = λ e. refl; begins = λ e c. refl; fails = λ e p1 c h. refl; stage = refl; lists = one-of (Lawful ins.Derive) ((0x00, command.Derive) ∷ []) (derive-lawful, tt) }
+row-lawful ins.Remove = record { known = λ e. refl; begins = λ e c. refl; fails = λ e p1 c h. refl; stage = refl; lists = one-of (Lawful ins.Remove) ((0x00, command.Remove) ∷ []) (remove-lawful, tt) }
+row-lawful ins.SetPinless = record { known = λ e. refl; begins = λ e c. refl; fails = λ e p1 c h. refl; stage = refl; lists = one-of (Lawful ins.SetPinless) ((0x00, command.SetPinless) ∷ []) (pinless-lawful, tt) }
+row-lawful ins.Sign = record { known = λ e. refl; begins = λ e c. refl; fails = λ e p1 c h. refl; stage = refl; lists = one-of (Lawful ins.Sign) ((0x00, command.Sign) ∷ []) (sign-lawful, tt) }
+
+pub lawful : (i : Instruction) (p1 p2 : ℕ) (k : Command) → rowOf i .lists p1 p2 ≡ some k → Lawful i k
+lawful i p1 p2 k e = subst (Each (Lawful i)) e (row-lawful i .lists p1 p2)

@@ -1,0 +1,69 @@
+-- What commands answer is bytes: status words, and templates whose parts are bytes. And replies without response data.
+-- Assumes nothing.
+use mathlib.Core.Bool.{Bool, true, false}
+use mathlib.Core.List.{List, [], _++_}
+use Prim.Native.Nat.{ℕ, _+_, _≤_, _<_}
+use native.Mathlib.Omega.{arith}
+use lib.ListN.{length, drop, length-append}
+use Rattle.octets.specs.Bytes.{Bytes}
+use Rattle.octets.proofs.Lists.{bytes-take, bytes-drop, bytes-append}
+use Rattle.template_rules.specs.Template.{field, fieldHead}
+use Rattle.template_rules.specs.Der.{leadingZeros, needsZero, derContent, derInteger}
+use Rattle.template_rules.proofs.HeadFacts.{by-test, bytes-head, short-field}
+use Rattle.template_rules.proofs.DerFacts.{der-length}
+use Rattle.template_answers.specs.Answers.{status, pair, signature}
+use Rattle.template_answers.proofs.AnswerFacts.{pair-length-le}
+use Rattle.card.specs.declared.Card.{Card}
+use Rattle.rules.specs.Supplies.{part}
+use Rattle.laws_commands.specs.Lawful.{Plain}
+
+-- a reply without response data
+pub bare : {c : Card} (w : ℕ) → w < 65536 → Plain (record { status = w; response = []; card = c })
+bare w h = record { status = h; response = tt }
+
+-- no response data, and two parts
+pub nothing : 0 ≤ 221
+nothing = omega arith
+
+pub two-parts : (a b : List ℕ) (m n : ℕ) → length a ≤ m → length b ≤ n → m + n ≤ 221 → length (a ++ b) ≤ 221
+two-parts a b m n p q h = omega (arith, length-append a b)
+
+-- ---- templates
+field-bytes : (tag : ℕ) (v : List ℕ) → tag < 256 → length v < 256 → Bytes v → Bytes (field tag v)
+field-bytes tag v t l h = bytes-append (fieldHead tag (length v)) v (bytes-head tag (length v) t l) h
+
+pub status-bytes : (pin puk : ℕ) (key : Bool) → pin < 256 → puk < 256 → Bytes (status pin puk key)
+status-bytes pin puk true p q = (
+  omega arith,
+  (omega arith, (omega arith, (omega arith, (p, (omega arith, (omega arith, (q, (omega arith, (omega arith, (omega arith, tt)))))))))),
+)
+status-bytes pin puk false p q = (
+  omega arith,
+  (omega arith, (omega arith, (omega arith, (p, (omega arith, (omega arith, (q, (omega arith, (omega arith, (omega arith, tt)))))))))),
+)
+
+integer-bytes : (n : List ℕ) → length n ≤ 32 → Bytes n → Bytes (derInteger n)
+integer-bytes n l h = field-bytes 2 (derContent n) (omega arith) (omega (arith, der-length n .1))
+    (by-test Bytes (needsZero (drop (leadingZeros n) n)) (λ e. (omega arith, bytes-drop (leadingZeros n) n h))
+    (λ e. bytes-drop (leadingZeros n) n h))
+
+pub signature-bytes : (key r s : List ℕ) → length key ≤ 65 → length r ≤ 32 → length s ≤ 32 → Bytes key → Bytes r → Bytes s
+    → Bytes (signature key r s)
+signature-bytes key r s k p q hk hr hs =
+    field-bytes 160 inner (omega arith)
+    (omega (
+      arith,
+      length-append (field 128 key) (field 48 (pair r s)),
+      short-field 128 key (omega arith),
+      short-field 48 (pair r s) (omega (arith, pair-length-le r s p q)),
+      pair-length-le r s p q,
+    ))
+    (bytes-append (field 128 key) (field 48 (pair r s)) (field-bytes 128 key (omega arith) (omega arith) hk)
+    (field-bytes 48 (pair r s) (omega arith) (omega (arith, pair-length-le r s p q))
+    (bytes-append (derInteger r) (derInteger s) (integer-bytes r p hr) (integer-bytes s q hs))))
+  where
+    inner : List ℕ
+    inner = field 128 key ++ field 48 (pair r s)
+
+pub part-bytes : (at n : ℕ) (s : List ℕ) → Bytes s → Bytes (part at n s)
+part-bytes at n s h = bytes-take n (drop at s) (bytes-drop at s h)

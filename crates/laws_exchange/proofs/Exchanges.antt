@@ -1,0 +1,307 @@
+-- SEAL, ANSWER and UNSEAL in turn, from the laws of each.
+-- Assumes nothing.
+use mathlib.Core.Path.{_≡_, refl, sym, ap, ap₂, _∙_, subst}
+use mathlib.Core.Bool.{Bool, true, false, _&&_, not}
+use mathlib.Core.List.{List, [], _∷_, _++_}
+use mathlib.Core.Option.{some}
+use Prim.Native.Nat.{ℕ, _≤_, _<_}
+use native.Mathlib.Omega.{arith}
+use borrow.Author.Tests.{eq-eqb}
+use lib.Dec.{eqb}
+use lib.ListN.{length, take, getD, length-append, List·getD-append}
+use lib.Seq.{take-at, take-all}
+use Rattle.octets.specs.Bytes.{Bytes}
+use Rattle.channel_rules.specs.declared.Session.{Session}
+use Rattle.channel_rules.specs.Message.{Keyed, withIv, lc, commandHead, responseHead, ciphertext, fieldMac, openField}
+use Rattle.channel_rules.specs.Terminal.{Out, sealedResponse, unsealOut}
+use Rattle.channel_rules.proofs.Trips.{response-keyed, unseal-seals}
+use Rattle.card.specs.declared.Channel.{Channel}
+use Rattle.card.specs.declared.Card.{Card}
+use Rattle.card.specs.Slots.{isZero}
+use Rattle.card.specs.Sound.{isSound}
+use Rattle.card.specs.Shape.{Shaped}
+use Rattle.rules.specs.declared.Instruction.{Instruction}
+use Rattle.rules.specs.declared.Instruction.the-variants as ins
+use Rattle.rules.specs.declared.Named.the-variants as named
+use Rattle.rules.specs.declared.Command.{Command}
+use Rattle.rules.specs.declared.Command.the-variants as command
+use Rattle.rules.specs.Words.{success, word, Hold, Reply}
+use Rattle.rules.specs.Supplies.{suits}
+use Rattle.rules.specs.Commands.{mutualChecks, mutualReply, ruleOf}
+use Rattle.rules.specs.Rows.{rowOf, isPlain}
+use Rattle.rules.specs.Channel.{sessionOf, withMac, plainText, sealed}
+use Rattle.rules.specs.Steps.{goes, begins, step1, claOf, insOf, p1Of, p2Of, nameOf, isInitialised, inStage, Arrived, arrival, checksOf, supplyOf, replyOf}
+use Rattle.rules.specs.Engine.{AnswerOut, answered, answerOut}
+use Rattle.laws_commands.specs.Lawful.{Lawful}
+use Rattle.laws_commands.proofs.Arrival.{arrivedAt, sealed-arrives}
+use Rattle.laws_commands.proofs.Table.{row-lawful, lawful}
+use Rattle.laws_engine.proofs.Sound.{mac-sound, mac-shaped, answer-shaped}
+use Rattle.laws_exchange.specs.Opens.{Opens, outcome}
+use Rattle.laws_exchange.specs.Exchange.{Typed, Turn, sealedBy, answeredBy, Names, opened, Exchange, InStage2, Supplied, ToStage2, Together}
+use Rattle.laws_exchange.proofs.Outcomes.{outcome-channel, outcome-short, outcome-path, reply-bytes, outcome-bytes}
+use Rattle.laws_exchange.proofs.Answers.{stays-2, arrived-in2, answer-stage2, answer-right}
+use Rattle.laws_exchange.proofs.Seals.{cmd, field, mac, gives, form, opens, mac-is, sealed-keyed, seal-opens, is-after, step1-itself}
+
+-- ---- a card, and a turn that it takes part in
+module _ (c : Card) (t : Turn) (w : Typed c) where
+  abbrev s : Session
+  s = sessionOf (c .channel)
+
+  abbrev next : Session
+  next = withIv s (mac s t (w .keyed))
+
+  abbrev rest : List ℕ
+  rest = lc (length (ciphertext s (t .data′))) ∷ field s t (w .keyed)
+
+  opened-is : opened c t ≡ withMac c (mac s t (w .keyed))
+  opened-is = ap (λ (o : Out). withMac c (o .session .iv)) (gives s t (w .keyed))
+
+  opened-session : sessionOf (opened c t .channel) ≡ next
+  opened-session = ap (λ (x : Card). sessionOf (x .channel)) opened-is
+
+  opened-shaped : Shaped (opened c t)
+  opened-shaped = mac-shaped c (sealedBy s t .session .iv) (w .shaped)
+
+  -- an answer that is sealed under the session of the command's MAC comes back whole
+  module _ (r : Reply) (told : answerOut c (cmd s t (w .keyed)) (t .supply) (t .answerroom) ≡ answered (sealed r))
+      (session : sessionOf (r .card .channel) ≡ next) (bytes : Bytes (plainText r)) (fits : length (r .response) ≤ 221) where
+    unsealed-is : unsealOut next (sealedResponse (sessionOf (r .card .channel)) (plainText r)) (t .unsealroom)
+        ≡ record { refusal = 0; session = withIv next (fieldMac next responseHead (plainText r)); bytes = plainText r }
+    unsealed-is =
+        ap (λ (x : Session). unsealOut next (sealedResponse x (plainText r)) (t .unsealroom)) session
+        ∙ unseal-seals next (sealed-keyed s t (w .keyed)) (plainText r) bytes
+        (omega (arith, length-append (r .response) (word (r .status))))
+        (t .unsealroom) (t .unsealenough) (omega (arith, length-append (r .response) (word (r .status))))
+
+    exchanged : Exchange c t r
+    exchanged = rw (gives s t (w .keyed), told, unsealed-is) (record {
+      taken = refl;
+      answered = refl;
+      accepted = refl;
+      answer = ap (λ (x : Session). sealedResponse x (plainText r)) session;
+      plain = refl;
+      card = ap (λ (x : Session). withMac (r .card) (fieldMac x responseHead (plainText r))) session;
+      same = sym (ap (λ (x : Session). withIv x (fieldMac x responseHead (plainText r))) session);
+      keyed = response-keyed next (sealed-keyed s t (w .keyed)) (plainText r) bytes
+          (omega (arith, length-append (r .response) (word (r .status))));
+    })
+
+    answered-is : answeredBy c t ≡ answered (sealed r)
+    answered-is = ap (λ (o : Out). answerOut c (o .bytes) (t .supply) (t .answerroom)) (gives s t (w .keyed)) ∙ told
+
+    pub typed-next : isSound c ≡ true → Bytes (r .card .keys .current .bytes) → Typed (answeredBy c t .card)
+    typed-next sound path = record {
+      shaped = answer-shaped c (sealedBy s t .bytes) (t .supply) (t .answerroom) sound (w .shaped);
+      keyed = subst (λ (x : Session). Keyed x) (exchanged .same) (exchanged .keyed);
+      path = subst (λ (a : AnswerOut). Bytes (a .card .keys .current .bytes)) (sym answered-is) path;
+    }
+
+-- ---- the command is one that arrives on the card
+module _ (c : Card) (t : Turn) (w : Typed c) (n : Names c (t .header)) (sound : isSound c ≡ true) (open′ : c .channel .stage ≡ 0 → ⊥)
+    (stays : (eqb (c .channel .stage) 1 && not (begins 0x11 (cmd (s c t w) t (w .keyed)))) ≡ false) where
+  abbrev command′ : List ℕ
+  command′ = cmd (s c t w) t (w .keyed)
+
+  abbrev field′ : List ℕ
+  field′ = field (s c t w) t (w .keyed)
+
+  at : (i : ℕ) → i < 4 → getD command′ i 0 ≡ getD (t .header) i 0
+  at i l = List·getD-append (t .header) (rest c t w) 0 i (omega (arith, t .four))
+
+  itself : step1 command′ c ≡ c
+  itself = step1-itself c command′ sound (w .shaped) open′ stays
+
+  abbrev pub arrived′ : Arrived
+  arrived′ = arrivedAt (n .instruction) command′ (record { card = withMac c (take 16 field′); data′ = t .data′ }) (n .command)
+
+  pub goes-there : arrival c command′ ≡ goes arrived′
+  goes-there =
+      sealed-arrives c c command′ field′ (t .data′) (n .instruction) (n .command) itself (form (s c t w) t (w .keyed))
+      (ap₂ (λ (a b : ℕ). nameOf (isInitialised c) a b) (at 0 (omega arith)) (at 1 (omega arith)) ∙ n .name)
+      (n .sealed)
+      (n .stage)
+      (ap (λ (h : List ℕ). openField (s c t w) (commandHead h) field′) (take-at (t .header) (rest c t w) 4 (t .four)) ∙ opens (s c t w) t (w .keyed))
+      (ap₂ (λ (a b : ℕ). rowOf (n .instruction) .lists a b) (at 2 (omega arith)) (at 3 (omega arith)) ∙ n .listed)
+
+  abbrev pub opens-of : Opens c command′
+  opens-of = record {
+    field = field′;
+    arrived = arrived′;
+    form = form (s c t w) t (w .keyed);
+    there = goes-there;
+    over = ap not (n .sealed);
+  }
+
+  mac-opened : withMac c (take 16 field′) ≡ opened c t
+  mac-opened = ap (withMac c) (mac-is (s c t w) t (w .keyed)) ∙ sym (opened-is c t w)
+
+  opened-sound : isSound (opened c t) ≡ true
+  opened-sound = mac-sound c (sealedBy (s c t w) t .session .iv) sound open′
+
+-- ---- stage 2
+module _ (c : Card) (t : Turn) (n : Names c (t .header)) (sound : isSound c ≡ true) (w : Typed c) (in2 : c .channel .stage ≡ 2) where
+  pub open2 : c .channel .stage ≡ 0 → ⊥
+  open2 z = omega (arith, in2)
+
+  abbrev command2 : List ℕ
+  command2 = cmd (s c t w) t (w .keyed)
+
+  abbrev pub opens2 : Opens c command2
+  opens2 = opens-of c t w n sound open2 (stays-2 command2 c in2)
+
+  module _ (right : Supplied c t n) where
+    abbrev result : Reply
+    result = outcome (n .command) (opened c t) (t .data′) (t .supply)
+
+    law : Lawful (n .instruction) (n .command)
+    law = lawful (n .instruction) (p1Of (t .header)) (p2Of (t .header)) (n .command) (n .listed)
+
+    here2 : opens2 .arrived .card ≡ opened c t
+    here2 = arrived-in2 c command2 in2 opens2 .card (field (s c t w) t (w .keyed)) (form (s c t w) t (w .keyed))
+        ∙ ap (λ (x : Card). withMac x (take 16 (field (s c t w) t (w .keyed)))) (itself c t w n sound open2 (stays-2 command2 c in2))
+        ∙ mac-opened c t w n sound open2 (stays-2 command2 c in2)
+
+    told2 : answerOut c command2 (t .supply) (t .answerroom) ≡ answered (sealed result)
+    told2 =
+        answer-stage2 c command2 (t .supply) (t .answerroom) sound (t .answerenough) opens2 in2
+        (λ h. right (subst (λ (x : Card). Hold (checksOf (n .command) x (t .data′))) here2 h))
+        ∙ ap (λ (x : Card). answered (sealed (outcome (n .command) x (t .data′) (t .supply)))) here2
+
+    channel2 : result .card .channel ≡ opened c t .channel
+    channel2 = outcome-channel (n .instruction) (n .command) law (n .sealed) (opened c t) (t .data′) (t .supply) in2
+
+    session2 : sessionOf (result .card .channel) ≡ next c t w
+    session2 = ap sessionOf channel2 ∙ opened-session c t w
+
+    bytes2 : Bytes (plainText result)
+    bytes2 = outcome-bytes (n .instruction) (n .command) law (n .sealed) (opened c t) (t .data′) (t .supply)
+        (opened-sound c t w n sound open2 (stays-2 command2 c in2)) (w .path) (t .supplybytes)
+
+    short2 : length (result .response) ≤ 221
+    short2 = outcome-short (n .instruction) (n .command) law (n .sealed) (opened c t) (t .data′) (t .supply) (opened-shaped c t w)
+
+    pub in-stage2 : InStage2 c t n
+    in-stage2 = record {
+      turn = exchanged c t w result told2 session2 bytes2 short2;
+      stays = ap (λ (a : AnswerOut). a .card .channel .stage) (answered-is c t w result told2 session2 bytes2 short2)
+          ∙ ap (λ (k : Channel). k .stage) channel2 ∙ in2;
+      typed = typed-next c t w result told2 session2 bytes2 short2 sound
+          (outcome-path (n .instruction) (n .command) law (n .sealed) (opened c t) (t .data′) (t .supply) (t .databytes) (w .path));
+    }
+
+-- ---- MUTUAL in stage 1
+and-not : (a : Bool) → (a && false) ≡ false
+and-not true = refl
+and-not false = refl
+
+module _ (c : Card) (t : Turn) (sound : isSound c ≡ true) (w : Typed c) (in1 : c .channel .stage ≡ 1)
+    (header : t .header ≡ 0x80 ∷ 0x11 ∷ 0 ∷ 0 ∷ [])
+    (long : length (t .data′) ≡ 32) (random : length (t .supply) ≡ 32) where
+  open1 : c .channel .stage ≡ 0 → ⊥
+  open1 z = omega (arith, in1)
+
+  sealed1 : isPlain ins.Mutual ≡ false
+  sealed1 = refl
+
+  name1 : nameOf (isInitialised c) (claOf (t .header)) (insOf (t .header)) ≡ named.Known ins.Mutual
+  name1 = ap (λ (h : List ℕ). nameOf (isInitialised c) (claOf h) (insOf h)) header
+      ∙ ap (λ (m : ℕ). nameOf (not (isZero m)) 0x80 0x11) (is-after c sound open1 .flag) ∙ row-lawful ins.Mutual .known sealed1
+
+  stage1 : inStage ins.Mutual (c .channel .stage) ≡ true
+  stage1 = ap (λ (m : ℕ). inStage ins.Mutual m) in1
+
+  listed1 : rowOf ins.Mutual .lists (p1Of (t .header)) (p2Of (t .header)) ≡ some command.Mutual
+  listed1 = ap (λ (h : List ℕ). rowOf ins.Mutual .lists (p1Of h) (p2Of h)) header
+
+  abbrev names1 : Names c (t .header)
+  names1 = record { instruction = ins.Mutual; command = command.Mutual; name = name1; sealed = sealed1; stage = stage1; listed = listed1 }
+
+  abbrev mutual′ : List ℕ
+  mutual′ = cmd (s c t w) t (w .keyed)
+
+  stays1 : (eqb (c .channel .stage) 1 && not (begins 0x11 mutual′)) ≡ false
+  stays1 =
+      ap (λ (h : List ℕ). eqb (c .channel .stage) 1 && not (begins 0x11 (h ++ rest c t w))) header ∙ and-not (eqb (c .channel .stage) 1)
+
+  abbrev opens1 : Opens c mutual′
+  opens1 = opens-of c t w names1 sound open1 stays1
+
+  here1 : opens1 .arrived .card ≡ opened c t
+  here1 = mac-opened c t w names1 sound open1 stays1
+
+  abbrev replied1 : Reply
+  replied1 = replyOf command.Mutual (opened c t) (t .data′) (t .supply)
+
+  holds1 : Hold (checksOf command.Mutual (opened c t) (t .data′))
+  unfolding ruleOf mutualChecks
+  holds1 = (eq-eqb (c .channel .stage) 1 in1, (eq-eqb (length (t .data′)) 32 long, tt))
+
+  suits1 : suits (supplyOf command.Mutual) (t .supply) ≡ true
+  unfolding ruleOf suits
+  suits1 = rw random
+
+  reply-stage : (x : Card) → replyOf command.Mutual x (t .data′) (t .supply) .card .channel .stage ≡ 2
+  unfolding ruleOf mutualReply
+  reply-stage x = refl
+
+  reply-session : sessionOf (replied1 .card .channel) ≡ sessionOf (opened c t .channel)
+  unfolding ruleOf mutualReply
+  reply-session = refl
+
+  reply-random : plainText replied1 ≡ t .supply ++ word success
+  unfolding ruleOf mutualReply
+  reply-random = ap (λ (x : List ℕ). x ++ word success) (take-all 32 (t .supply) (omega (arith, random)))
+
+  law1 : Lawful ins.Mutual command.Mutual
+  law1 = lawful ins.Mutual (p1Of (t .header)) (p2Of (t .header)) command.Mutual listed1
+
+  told1 : answerOut c mutual′ (t .supply) (t .answerroom) ≡ answered (sealed replied1)
+  told1 =
+      answer-right c mutual′ (t .supply) (t .answerroom) sound (t .answerenough) opens1
+      (subst (λ (x : Card). Hold (checksOf command.Mutual x (t .data′))) (sym here1) holds1) suits1 (reply-stage (opens1 .arrived .card))
+      ∙ ap (λ (x : Card). answered (sealed (replyOf command.Mutual x (t .data′) (t .supply)))) here1
+
+  session1 : sessionOf (replied1 .card .channel) ≡ next c t w
+  session1 = reply-session ∙ opened-session c t w
+
+  bytes1 : Bytes (plainText replied1)
+  bytes1 = reply-bytes ins.Mutual command.Mutual law1 sealed1 (opened c t) (t .data′) (t .supply)
+      (opened-sound c t w names1 sound open1 stays1) (w .path) (t .supplybytes)
+
+  short1 : length (replied1 .response) ≤ 221
+  short1 = law1 .short (opened c t) (t .data′) (t .supply) (opened-shaped c t w)
+
+  turn1 : Exchange c t replied1
+  turn1 = exchanged c t w replied1 told1 session1 bytes1 short1
+
+  pub to-stage2 : ToStage2 c t
+  to-stage2 = record {
+    turn = turn1;
+    random = turn1 .plain ∙ reply-random;
+    stage =
+        ap (λ (a : AnswerOut). a .card .channel .stage) (answered-is c t w replied1 told1 session1 bytes1 short1) ∙ reply-stage (opened c t);
+    typed = typed-next c t w replied1 told1 session1 bytes1 short1 sound
+        (law1 .over sealed1 .path (opened c t) (t .data′) (t .supply) (t .databytes) (w .path));
+  }
+
+-- ---- headers: in stage 2 an instruction over the channel, with a P1 and a P2 that it lists
+module _ (c : Card) (i : Instruction) (k : Command) (p1 p2 : ℕ) (sound : isSound c ≡ true) (in2 : c .channel .stage ≡ 2)
+    (e : isPlain i ≡ false) (l : rowOf i .lists p1 p2 ≡ some k) where
+  pub known : nameOf (isInitialised c) 0x80 (rowOf i .byte) ≡ named.Known i
+  known = ap (λ (m : ℕ). nameOf (not (isZero m)) 0x80 (rowOf i .byte)) (is-after c sound (λ z. omega (arith, in2)) .flag) ∙ row-lawful i
+      .known e
+
+  pub staged : inStage i (c .channel .stage) ≡ true
+  staged = ap (λ (m : ℕ). inStage i m) in2 ∙ row-lawful i .stage
+
+  abbrev pub names : Names c (0x80 ∷ rowOf i .byte ∷ p1 ∷ p2 ∷ [])
+  names = record { instruction = i; command = k; name = known; sealed = e; stage = staged; listed = l }
+
+-- ---- the claim
+pub together : Together
+together = record {
+  opens = λ s t k. seal-opens s t k;
+  named = λ c i k p1 p2 sound in2 e l. (names c i k p1 p2 sound in2 e l, refl);
+  answers = λ c t n sound w in2 right. in-stage2 c t n sound w in2 right;
+  authenticates = to-stage2;
+}

@@ -1,0 +1,130 @@
+-- What 01 says of comparisons is what the rulebook's `comparison` reads off the rules: VERIFY and UNBLOCK are the two commands whose rules
+-- compare, and their checks are those that 01 names.
+-- Assumes nothing.
+use mathlib.Core.Path.{_≡_, refl, ap, _∙_, subst}
+use mathlib.Core.Bool.{Bool, true, false}
+use mathlib.Core.List.{List}
+use mathlib.Core.Option.{Option, none, some}
+use Prim.Native.Nat.{ℕ}
+use Rattle.card.specs.declared.Pins.{Pins}
+use Rattle.card.specs.declared.Card.{Card}
+use Rattle.card.specs.Slots.{isZero}
+use Rattle.rules.specs.declared.Command.{Command}
+use Rattle.rules.specs.declared.Command.the-variants as command
+use Rattle.rules.specs.declared.Verdict.{Verdict}
+use Rattle.rules.specs.declared.Verdict.the-variants.{Reads, Fails}
+use Rattle.rules.specs.Words.{verdict}
+use Rattle.rules.specs.Rules.{Secret, pin, puk}
+use Rattle.rules.specs.Commands.{verifyChecks, isUnblocking, unblockChecks, ruleOf}
+use Rattle.rules.specs.Channel.{Outgoing}
+use Rattle.rules.specs.Steps.{Step, goes, stops, Arrived, arrival, checksOf, supplyOf}
+use Rattle.rules.specs.Comparison.{compared, comparedBy, comparedAt6, comparison}
+use Rattle.laws_two_runs.specs.Comparisons.{pinComparison, pukComparison, Comparisons}
+use Rattle.laws_two_runs.proofs.Order.{by-arrival, pins-at}
+
+-- ---- the two commands that compare
+abbrev pub commandOf : Secret → Command
+commandOf pin = command.Verify
+commandOf puk = command.Unblock
+
+abbrev Only : Command → Option Secret → Type 0
+Only k none = Unit {0}
+Only k (some s) = k ≡ commandOf s
+
+-- no other rule compares
+only : (k : Command) → Only k (ruleOf k .compares)
+unfolding ruleOf
+only command.Select = tt
+only command.Init = tt
+only (command.Open i) = tt
+only command.Mutual = tt
+only command.PairFirst = tt
+only command.PairFinal = tt
+only (command.Unpair i) = tt
+only (command.Status which) = tt
+only command.Verify = refl
+only (command.Change which) = tt
+only command.Unblock = refl
+only (command.Load form) = tt
+only command.Derive = tt
+only command.Remove = tt
+only command.SetPinless = tt
+only command.Sign = tt
+
+pub only-compares : (k : Command) (s : Secret) → ruleOf k .compares ≡ some s → k ≡ commandOf s
+only-compares k s e = subst (Only k) e (only k)
+
+-- ---- PIN, PUK and tries at step 6 are those of the card that the call was given
+abbrev Pinned : Pins → Step Arrived → Type 0
+Pinned p (goes a) = a .card .pins ≡ p
+Pinned p (stops t) = Unit {0}
+
+pub arrived-pins : (c : Card) (cmd : List ℕ) (a : Arrived) → arrival c cmd ≡ goes a → a .card .pins ≡ c .pins
+arrived-pins c cmd a e = subst (Pinned (c .pins)) e (by-arrival (Pinned (c .pins)) c cmd (λ t. tt) (λ x k _. pins-at c cmd x))
+
+-- ---- at step 6
+module _ (a : Arrived) where
+  -- a command whose rule compares nothing
+  none-at6 : (p : Pins) → ruleOf (a .command) .compares ≡ none → comparedAt6 p a ≡ none
+  none-at6 p e = go (verdict (supplyOf (a .command)) (checksOf (a .command) (a .card) (a .data′)))
+    where
+      go : (v : Verdict) → comparedBy p a v ≡ none
+      go (Reads s) = ap (λ (o : Option Secret). compared o p (a .data′)) e
+      go (Fails w) = refl
+
+  abbrev p : Pins
+  p = a .card .pins
+
+  abbrev at : Command → Arrived
+  at k = record { command = k; data′ = a .data′; card = a .card; lost = a .lost; over = a .over }
+
+  verify-at6 : a .command ≡ command.Verify → comparedAt6 p a ≡ pinComparison p (a .data′)
+  unfolding ruleOf verifyChecks pinComparison
+  verify-at6 e = ap (λ (k : Command). comparedAt6 p (at k)) e ∙ go (isZero (p .«pin_tries»)) refl
+    where
+      go : (b : Bool) → isZero (p .«pin_tries») ≡ b → comparedAt6 p (at command.Verify) ≡ pinComparison p (a .data′)
+      go true z = rw z
+      go false z = rw z
+
+  unblock-at6 : a .command ≡ command.Unblock → comparedAt6 p a ≡ pukComparison p (a .data′)
+  unfolding ruleOf unblockChecks pukComparison
+  unblock-at6 e = ap (λ (k : Command). comparedAt6 p (at k)) e
+      ∙ go (isZero (p .«pin_tries»)) (isZero (p .«puk_tries»)) (isUnblocking (a .data′)) refl refl refl
+    where
+      go : (b t f : Bool) → isZero (p .«pin_tries») ≡ b → isZero (p .«puk_tries») ≡ t → isUnblocking (a .data′) ≡ f
+          → comparedAt6 p (at command.Unblock) ≡ pukComparison p (a .data′)
+      go false t f z y e = rw z
+      go true true f z y e = rw (z, y)
+      go true false false z y e = rw (z, y, e)
+      go true false true z y e = rw (z, y, e)
+
+-- ---- the whole
+module _ (c : Card) (cmd : List ℕ) where
+  stopped : (t : Outgoing) → arrival c cmd ≡ stops t → comparison c cmd ≡ none
+  unfolding comparison
+  stopped t e = rw e
+
+  compared-at : (a : Arrived) → arrival c cmd ≡ goes a → comparison c cmd ≡ comparedAt6 (c .pins) a
+  unfolding comparison
+  compared-at a e = rw e
+
+  -- a command whose rule compares nothing makes no comparison
+  pub none-compared : (a : Arrived) → arrival c cmd ≡ goes a → ruleOf (a .command) .compares ≡ none → comparison c cmd ≡ none
+  none-compared a e n = compared-at a e ∙ none-at6 a (c .pins) n
+
+  others : (a : Arrived) → arrival c cmd ≡ goes a → (a .command ≡ command.Verify → ⊥) → (a .command ≡ command.Unblock → ⊥)
+      → comparison c cmd ≡ none
+  others a e v u = go (ruleOf (a .command) .compares) refl
+    where
+      go : (o : Option Secret) → ruleOf (a .command) .compares ≡ o → comparison c cmd ≡ none
+      go none h = none-compared a e h
+      go (some pin) h = absurd (v (only-compares (a .command) pin h))
+      go (some puk) h = absurd (u (only-compares (a .command) puk h))
+
+  pub comparisons : Comparisons c cmd
+  comparisons = record {
+    stopped = stopped;
+    verify = λ a e k. compared-at a e ∙ rw (← arrived-pins c cmd a e) (verify-at6 a k);
+    unblock = λ a e k. compared-at a e ∙ rw (← arrived-pins c cmd a e) (unblock-at6 a k);
+    others = others;
+  }

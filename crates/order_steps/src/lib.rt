@@ -1,0 +1,139 @@
+// What the order of checks asks of a command's bytes, and what it takes from the card: step 1, the form of step 2, and what an instruction gives up.
+// Every length, Lc included, is in bytes.
+// Proved: each answer is the rulebook's, for every command, however short, and every card.
+ghost use mathlib.Core.Path.{_≡_};
+ghost use Prim.Native.Nat.{_<_};
+ghost use Rattle.card.specs.State.{forgotten};
+ghost use Rattle.rules.specs.Steps.{step1, begins, dropping, forgetting, lcFits, begun, failed};
+ghost use Rattle.order_steps.specs.Form.{FormSays};
+use card::Card;
+use card::wide;
+use rules::CLASS;
+use rules::INS_MUTUAL;
+use rules::INS_PAIR;
+use rules::Loss;
+
+// CLA INS P1 P2, and with Lc, in bytes.
+pub const HEADER_BYTES: usize = 4;
+
+pub const FRONT_BYTES: usize = 5;
+
+// P1 of PAIR's final step.
+const P1_FINAL: u8 = 0x01;
+
+// Step 2: where the command's data starts and ends, counted from byte 0, or that the form is wrong.
+pub enum Form {
+    Data(usize, usize),
+    Wrong,
+}
+
+// The card without a pending pairing.
+fn forget(mut card: Card) -> Card
+    ensures { λ r. ⌜ r ≡ forgotten card ⌝ }
+{
+    let mut pairing = card.pairing;
+    pairing.pending = 0;
+    pairing.expected = [0; card::KEY_BYTES];
+    card.pairing = pairing;
+    card
+}
+
+// Whether the command begins with the class 80 and this instruction byte.
+fn begins_with(cmd: &[u8], ins: u8) -> bool
+    ensures { λ r. ⌜ r ≡ begins ins (now (cmd .entry)) ⌝ }
+{
+    if cmd.len() < 2 {
+        let begun = false;
+        return begun;
+    }
+    let class = cmd[0] == CLASS;
+    let instruction = cmd[1] == ins;
+    class & instruction
+}
+
+fn drop_channel(card: Card, cmd: &[u8]) -> Card
+    ensures { λ r. ⌜ r ≡ dropping (now (cmd .entry)) card ⌝ }
+{
+    let half_open = card.channel.stage == card::STAGE_OPENED;
+    let other = !begins_with(cmd, INS_MUTUAL);
+    if half_open & other {
+        return card.close();
+    }
+    card
+}
+
+fn drop_pending(card: Card, cmd: &[u8]) -> Card
+    ensures { λ r. ⌜ r ≡ forgetting (now (cmd .entry)) card ⌝ }
+{
+    if begins_with(cmd, INS_PAIR) {
+        return card;
+    }
+    forget(card)
+}
+
+// Step 1, by the first two bytes: in stage 1 anything but 80 11 drops the channel; anything but 80 12 forgets a pending pairing.
+pub fn step_1(card: Card, cmd: &[u8]) -> Card
+    ensures { λ r. ⌜ r ≡ step1 (now (cmd .entry)) card ⌝ }
+{
+    let dropped = drop_channel(card, cmd);
+    drop_pending(dropped, cmd)
+}
+
+// Whether byte 4 can be the Lc of a command of this many bytes.
+fn lc_fits(lc: usize, whole: usize) -> bool
+    requires { ⌜ lc < 256 ⌝ }
+    ensures { λ r. ⌜ r ≡ lcFits lc whole ⌝ }
+{
+    let some = lc != 0;
+    let bare = whole == FRONT_BYTES + lc;
+    let with_le = whole == FRONT_BYTES + 1 + lc;
+    some & (bare | with_le)
+}
+
+// Step 2, the form.
+pub fn find_data(cmd: &[u8]) -> Form
+    ensures { λ r. ⌜ FormSays (now (cmd .entry)) r ⌝ }
+{
+    let n = cmd.len();
+    if n < HEADER_BYTES {
+        return Form::Wrong;
+    }
+    if n <= FRONT_BYTES {
+        return Form::Data(n, n);
+    }
+    let lc = wide(cmd[4]);
+    if lc_fits(lc, n) {
+        return Form::Data(FRONT_BYTES, FRONT_BYTES + lc);
+    }
+    Form::Wrong
+}
+
+// Step 5: OPEN closes any channel before steps 5 and 6.
+pub fn begun(loss: Loss, card: Card) -> Card
+    ensures { λ r. ⌜ r ≡ begun loss card ⌝ }
+{
+    match loss {
+        Loss::Channel => card.close(),
+        Loss::HalfOpen => card,
+        Loss::Pending => card,
+        Loss::Nothing => card,
+    }
+}
+
+// What an error at step 5 or 6 leaves: MUTUAL in stage 1 gives the channel up; PAIR with P1 01 ends the pending pairing.
+pub fn failed(loss: Loss, p1: u8, card: Card) -> Card
+    ensures { λ r. ⌜ r ≡ failed loss p1 card ⌝ }
+{
+    match loss {
+        Loss::Channel => card,
+        Loss::HalfOpen => {
+            if card.channel.stage == card::STAGE_AUTHENTICATED {
+                card
+            } else {
+                card.close()
+            }
+        }
+        Loss::Pending => { if p1 == P1_FINAL { forget(card) } else { card } }
+        Loss::Nothing => card,
+    }
+}

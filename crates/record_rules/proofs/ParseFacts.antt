@@ -1,0 +1,121 @@
+-- Facts about taking a record apart: what was encoded is found again, field by field and part by part.
+-- Assumes nothing.
+use mathlib.Core.Path.{_≡_, refl, sym, ap, ap₂, _∙_}
+use mathlib.Core.Bool.{Bool, true, false, cond, not, _||_}
+use mathlib.Core.List.{List, [], _∷_, _++_}
+use Prim.Native.Nat.{ℕ, zero, suc, _+_, _*_, _-_, _≤_, min}
+use native.Mathlib.Nat.{min-eq-left}
+use native.Mathlib.Numerals.{add-one}
+use native.Mathlib.Omega.{arith}
+use lib.ListN.{length, take, drop, length-append, length-drop, take-append-drop}
+use lib.Seq.{drop-at, drop-drop, length-take-le, take-append-seam}
+use borrow.Author.Tests.{leb-true}
+use Rattle.octets.proofs.Lists.{written, _&_}
+use Rattle.card.specs.declared.Slot.{Slot}
+use Rattle.card.specs.declared.Path.{Path}
+use Rattle.card.specs.declared.Keys.{Keys}
+use Rattle.card.specs.Sizes.{keyBytes, pathMostBytes, slotBytes}
+use Rattle.card.specs.State.{zeros, keyUid, pathBytes}
+use Rattle.card.specs.Shape.{KeysLong}
+use Rattle.card.specs.Slots.{isZero, allZero}
+use Rattle.card.proofs.Tests.{zero-list}
+use Rattle.card.proofs.Rules.{PathRules}
+use Rattle.record_rules.specs.Fields.{Field, encode, encodeAll, slotsBytes}
+use Rattle.record_rules.specs.Parse.{headLength, body, rest, behind, content, fit, pathFrom, slotsFrom}
+
+-- ---- body and rest of encoded fields
+head-encode : (t : ℕ) (x r : List ℕ) → headLength (encode t x ++ r) ≡ length x
+head-encode t x r = omega arith
+
+pub body-encode : (t : ℕ) (x r : List ℕ) → body (encode t x ++ r) ≡ x
+unfolding body
+body-encode t x r = ap (λ (n : ℕ). take n (x ++ r)) (head-encode t x r) ∙ take-append-seam x r
+
+pub rest-encode : (t : ℕ) (x r : List ℕ) → rest (encode t x ++ r) ≡ r
+unfolding rest
+rest-encode t x r = drop-at x r (headLength (encode t x ++ r)) (sym (head-encode t x r))
+
+-- the content of the first field, or nothing
+abbrev pub firstContent : List Field → List ℕ
+firstContent [] = []
+firstContent (f ∷ more) = f .content
+
+body-all : (fs : List Field) → body (encodeAll fs) ≡ firstContent fs
+unfolding body encodeAll
+body-all [] = refl
+body-all (f ∷ fs) = body-encode (f .tag) (f .content) (encodeAll fs)
+
+rest-all : (fs : List Field) → rest (encodeAll fs) ≡ encodeAll (drop 1 fs)
+unfolding rest encodeAll
+rest-all [] = refl
+rest-all (f ∷ fs) = rest-encode (f .tag) (f .content) (encodeAll fs)
+
+behind-all : (fs : List Field) (k : ℕ) → behind k (encodeAll fs) ≡ encodeAll (drop k fs)
+behind-all fs zero = refl
+behind-all fs (suc k) =
+    ap rest (behind-all fs k) ∙ rest-all (drop k fs)
+    ∙ ap encodeAll (drop-drop 1 k fs ∙ ap (λ (n : ℕ). drop n fs) (add-one k))
+
+pub content-all : (fs : List Field) (k : ℕ) → content (encodeAll fs) k ≡ firstContent (drop k fs)
+content-all fs k = ap body (behind-all fs k) ∙ body-all (drop k fs)
+
+-- ---- fit
+pub fit-exact : (n : ℕ) (x : List ℕ) → length x ≡ n → fit n x ≡ x
+fit-exact n x h = sym (written n x h)
+
+pub fit-front : (n : ℕ) (x r : List ℕ) → length x ≡ n → fit n (x ++ r) ≡ x
+fit-front n x r h = ap (λ (k : ℕ). fit k (x ++ r)) (sym h) ∙ whole x
+  where
+    whole : (y : List ℕ) → fit (length y) (y ++ r) ≡ y
+    whole [] = refl
+    whole (b ∷ y) = refl & whole y
+
+fit-nothing : (n : ℕ) → fit n [] ≡ zeros n
+fit-nothing zero = refl
+fit-nothing (suc n) = refl & fit-nothing n
+
+pub fit-pad : (x : List ℕ) (m n : ℕ) → n ≡ length x + m → fit n x ≡ x ++ zeros m
+fit-pad [] m n e = ap (λ (k : ℕ). fit k []) {x = n} {y = m} (omega arith) ∙ fit-nothing m
+fit-pad (b ∷ x) m zero e = absurd (omega arith)
+fit-pad (b ∷ x) m (suc n) e = refl & fit-pad x m n (omega arith)
+
+-- ---- the parts of a sound card
+pub path-back : (p : Path) → PathRules p → length (p .bytes) ≡ pathMostBytes → pathFrom (pathBytes p) ≡ p
+path-back p r l =
+    ap₂ {C = Path} (λ (n : ℕ) (b : List ℕ). record { len = n; bytes = b })
+    (ap (λ (n : ℕ). min n pathMostBytes) long ∙ min-eq-left most)
+    (fit-pad (pathBytes p) (length unused) pathMostBytes (omega (arith, most, long, length-drop (p .len) (p .bytes))) ∙ joined)
+  where
+    most : p .len ≤ pathMostBytes
+    most = leb-true _ _ (r .most)
+
+    unused : List ℕ
+    unused = drop (p .len) (p .bytes)
+
+    long : length (pathBytes p) ≡ p .len
+    long = length-take-le (p .len) (p .bytes) (omega (arith, most))
+
+    joined : pathBytes p ++ zeros (length unused) ≡ p .bytes
+    joined = ap (λ (x : List ℕ). pathBytes p ++ x) (sym (zero-list unused (r .unused))) ∙ take-append-drop (p .len) (p .bytes)
+
+pub key-back : (k : Keys) → (not (isZero (k .kind)) || allZero (k .uid)) ≡ true → length (k .uid) ≡ keyBytes
+    → fit keyBytes (keyUid k) ≡ k .uid
+key-back k r l = by-kind (isZero (k .kind)) refl r
+  where
+    by-kind : (b : Bool) → isZero (k .kind) ≡ b → (not b || allZero (k .uid)) ≡ true → fit keyBytes (cond b [] (k .uid)) ≡ k .uid
+    by-kind true z h = sym (zero-list (k .uid) h ∙ ap zeros l)
+    by-kind false z h = fit-exact keyBytes (k .uid) l
+
+pub slots-long : (s : List Slot) → KeysLong s → length (slotsBytes s) ≡ slotBytes * length s
+unfolding slotsBytes
+slots-long [] h = refl
+slots-long (x ∷ s) h =
+    omega (arith, length-append (x .filled ∷ x .key) (slotsBytes s), h .0, slots-long s (h .1))
+
+pub slots-back : (s : List Slot) → KeysLong s → slotsFrom (length s) (slotsBytes s) ≡ s
+unfolding slotsBytes slotsFrom
+slots-back [] h = refl
+slots-back (x ∷ s) h =
+    ap₂ {C = List Slot} (λ (y : Slot) (r : List Slot). y ∷ r)
+    (ap {B = Slot} (λ (k : List ℕ). record { filled = x .filled; key = k }) (fit-front keyBytes (x .key) (slotsBytes s) (h .0)))
+    (ap (slotsFrom (length s)) (drop-at (x .filled ∷ x .key) (slotsBytes s) slotBytes (omega (arith, h .0))) ∙ slots-back s (h .1))

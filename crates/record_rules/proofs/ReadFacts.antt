@@ -1,0 +1,171 @@
+-- The laws of WRITE and READ: both round trips, which bytes READ takes, what it gives, and how long a record is, in bytes.
+-- Assumes nothing.
+use mathlib.Core.Path.{_≡_, refl, sym, ap, _∙_}
+use mathlib.Core.Bool.{Bool, true, false, cond}
+use mathlib.Core.Logic.{_⊎_, inl, inr, ⊎-elim}
+use mathlib.Core.List.{List, [], _∷_, _++_}
+use Prim.Native.Nat.{ℕ, _+_, _≤_}
+use native.Mathlib.Omega.{arith}
+use lib.Dec.{ltb}
+use lib.ListN.{length, length-append}
+use lib.Seq.{length-take-le}
+use borrow.Author.Tests.{le-ltb}
+use Rattle.octets.specs.Bytes.{sameBytes}
+use Rattle.octets.proofs.Lists.{same-refl, same-eq}
+use Rattle.card.specs.declared.Card.{Card}
+use Rattle.card.specs.declared.Path.{Path}
+use Rattle.card.specs.Sizes.{uidBytes, publicKeyBytes, keyBytes, pathMostBytes}
+use Rattle.card.specs.State.{zeros, freshOf, resetOf, keyUid, pathBytes}
+use Rattle.card.specs.Shape.{Shaped}
+use Rattle.card.specs.Slots.{isZero}
+use Rattle.card.specs.Sound.{isSound}
+use Rattle.card.proofs.Tests.{both}
+use Rattle.card.proofs.Rules.{sound-cases}
+use Rattle.card.proofs.SoundFacts.{fresh-sound, reset-sound, path-lengths}
+use Rattle.sound.specs.declared.Answer.{Answer}
+use Rattle.refusals.specs.Refusals.{noRefusal, unsound, noRoom, notRecord}
+use Rattle.sound.specs.Reset.{done, refused}
+use Rattle.record_rules.specs.Fields.{Field, encode, encodeAll, identityFields, ownerFields, fields, recordOf}
+use Rattle.record_rules.specs.Lengths.{fieldBytes, recordFresh, recordLeast, recordMost, writeRoom}
+use Rattle.record_rules.specs.Parse.{cardOf}
+use Rattle.record_rules.specs.Answers.{writeRefusal, writeBytes, isRecordOf, readAnswer}
+use Rattle.record_rules.proofs.ParseFacts.{slots-long}
+use Rattle.record_rules.proofs.RecordFacts.{card-record}
+
+-- ---- READ of WRITE of a sound card is RESET of it
+reset-record : (c : Card) → recordOf (resetOf c) ≡ recordOf c
+unfolding recordOf fields
+reset-record c = refl
+
+pub read-record : (c : Card) → Shaped c → isSound c ≡ true → readAnswer (recordOf c) ≡ done (resetOf c)
+unfolding readAnswer isRecordOf
+read-record c w e = rw (card-record c w e, reset-sound c e, reset-record c, same-refl (recordOf c))
+
+pub read-write : (c : Card) (room : ℕ) → Shaped c → writeRefusal c room ≡ noRefusal
+    → readAnswer (writeBytes c room) ≡ done (resetOf c)
+unfolding writeRefusal writeBytes
+read-write c room w e = by-sound (isSound c) refl e
+  where
+    by-room : isSound c ≡ true → (b : Bool) → cond b noRoom noRefusal ≡ noRefusal
+        → readAnswer (cond b [] (recordOf c)) ≡ done (resetOf c)
+    by-room s true h = absurd (omega arith)
+    by-room s false h = read-record c w s
+
+    by-sound : (b : Bool) → isSound c ≡ b → cond b (cond (ltb room writeRoom) noRoom noRefusal) unsound ≡ noRefusal
+        → readAnswer (cond b (cond (ltb room writeRoom) [] (recordOf c)) []) ≡ done (resetOf c)
+    by-sound true s h = by-room s (ltb room writeRoom) h
+    by-sound false s h = absurd (omega arith)
+
+-- ---- what READ gives
+-- taken: the bytes are the card's record, and the card is sound
+pub record Took (s : List ℕ) (c : Card) : Type 0 where
+  pub sound : isSound c ≡ true
+  pub written : recordOf c ≡ s
+
+-- the two answers
+pub read-cases : (s : List ℕ)
+    → ((readAnswer s ≡ done (cardOf s)) × Took s (cardOf s)) ⊎ (readAnswer s ≡ refused notRecord (freshOf (zeros uidBytes) (zeros publicKeyBytes)))
+unfolding readAnswer isRecordOf
+read-cases s = by-test (isRecordOf s (cardOf s)) refl
+  where
+    by-test : (b : Bool) → isRecordOf s (cardOf s) ≡ b
+        → ((cond b (done (cardOf s)) (refused notRecord (freshOf (zeros uidBytes) (zeros publicKeyBytes))) ≡ done (cardOf s)) × Took s (cardOf s))
+        ⊎ (cond b (done (cardOf s)) (refused notRecord (freshOf (zeros uidBytes) (zeros publicKeyBytes))) ≡ refused notRecord (freshOf (zeros uidBytes) (zeros publicKeyBytes)))
+    by-test true e =
+        let h = both (isSound (cardOf s)) (sameBytes (recordOf (cardOf s)) s) e in
+        inl (refl, record { sound = h .0; written = same-eq (recordOf (cardOf s)) s (h .1) })
+    by-test false e = inr refl
+
+card-of-reset : (s : List ℕ) → resetOf (cardOf s) ≡ cardOf s
+unfolding cardOf
+card-of-reset s = refl
+
+-- the card that READ gives is sound and reset, refused or not
+pub read-sound : (s : List ℕ) → isSound (readAnswer s .card) ≡ true
+read-sound s = ⊎-elim
+    (λ t. ap (λ (a : Answer). isSound (a .card)) (t .0) ∙ t .1 .sound)
+    (λ e. ap (λ (a : Answer). isSound (a .card)) e ∙ fresh-sound (zeros uidBytes) (zeros publicKeyBytes))
+    (read-cases s)
+
+pub read-reset : (s : List ℕ) → resetOf (readAnswer s .card) ≡ readAnswer s .card
+read-reset s = ⊎-elim
+    (λ t. ap (λ (a : Answer). resetOf (a .card)) (t .0) ∙ card-of-reset s ∙ sym (ap (λ (a : Answer). a .card) (t .0)))
+    (λ e. ap (λ (a : Answer). resetOf (a .card)) e ∙ sym (ap (λ (a : Answer). a .card) e))
+    (read-cases s)
+
+-- ---- WRITE of what READ took is the record, byte for byte
+pub record-read : (s : List ℕ) → readAnswer s .refusal ≡ noRefusal → recordOf (readAnswer s .card) ≡ s
+record-read s h = ⊎-elim
+    (λ t. ap (λ (a : Answer). recordOf (a .card)) (t .0) ∙ t .1 .written)
+    (λ e. absurd (eight (sym (ap (λ (a : Answer). a .refusal) e) ∙ h)))
+    (read-cases s)
+  where
+    eight : _≡_ {A = ℕ} 8 0 → ⊥
+    eight p = omega arith
+
+pub write-read : (s : List ℕ) (room : ℕ) → readAnswer s .refusal ≡ noRefusal → writeRoom ≤ room
+    → (writeRefusal (readAnswer s .card) room ≡ noRefusal) × (writeBytes (readAnswer s .card) room ≡ s)
+unfolding writeRefusal writeBytes
+write-read s room h r =
+    (rw (read-sound s, le-ltb room writeRoom r), rw (read-sound s, le-ltb room writeRoom r) (record-read s h))
+
+-- ---- which bytes READ refuses: those that are no sound card's record
+pub read-refuses : (s : List ℕ) → readAnswer s .refusal ≡ notRecord
+    → (c : Card) → Shaped c → isSound c ≡ true → recordOf c ≡ s → ⊥
+read-refuses s h c w e r = zero-eight (sym (ap (λ (a : Answer). a .refusal) (read-record c w e)) ∙ ap (λ (x : List ℕ). readAnswer x .refusal) r ∙ h)
+  where
+    zero-eight : _≡_ {A = ℕ} 0 8 → ⊥
+    zero-eight p = omega arith
+
+-- ---- how long a record is
+abbrev total : List Field → ℕ
+total [] = 0
+total (f ∷ more) = fieldBytes (length (f .content)) + total more
+
+length-all : (fs : List Field) → length (encodeAll fs) ≡ total fs
+unfolding encodeAll
+length-all [] = refl
+length-all (f ∷ fs) = omega (arith, length-append (encode (f .tag) (f .content)) (encodeAll fs), length-all fs)
+
+module _ (c : Card) (w : Shaped c) where
+  pub length-before : c .initialised ≡ 0 → length (recordOf c) ≡ recordFresh
+  unfolding recordOf fields
+  length-before i =
+      ap (λ (n : ℕ). length (encodeAll (identityFields (c .initialised) (c .identity) ++ cond (isZero n) [] (ownerFields c)))) i
+      ∙ length-all (identityFields (c .initialised) (c .identity))
+      ∙ omega (arith, w .uid, w .«public_key»)
+
+  key-length : length (keyUid (c .keys)) ≤ keyBytes
+  key-length = by-kind (isZero (c .keys .kind))
+    where
+      by-kind : (b : Bool) → length (cond b [] (c .keys .uid)) ≤ keyBytes
+      by-kind true = omega arith
+      by-kind false = omega (arith, w .keyuid)
+
+  path-length : (p : Path) → p .len ≤ pathMostBytes → length (p .bytes) ≡ pathMostBytes → length (pathBytes p) ≤ pathMostBytes
+  path-length p h l = omega (arith, length-take-le (p .len) (p .bytes) (omega arith))
+
+  pub length-after : c .initialised ≡ 1 → isSound c ≡ true → (recordLeast ≤ length (recordOf c)) × (length (recordOf c) ≤ recordMost)
+  unfolding recordOf fields
+  length-after i e =
+      let l = ap (λ (n : ℕ). length (encodeAll (identityFields (c .initialised) (c .identity) ++ cond (isZero n) [] (ownerFields c)))) i
+      ∙ length-all (identityFields (c .initialised) (c .identity) ++ ownerFields c) in
+      let m = path-lengths c e in
+      omega (
+        arith,
+        l,
+        w .uid,
+        w .«public_key»,
+        w .pin,
+        w .puk,
+        w .secret,
+        w .slots,
+        slots-long (c .pairing .slots) (w .keys),
+        key-length,
+        path-length (c .keys .current) (m .0) (w .current),
+        path-length (c .keys .pinless) (m .1) (w .pinless),
+      )
+
+  -- before INIT and after it
+  pub record-length : isSound c ≡ true → (length (recordOf c) ≡ recordFresh) ⊎ ((recordLeast ≤ length (recordOf c)) × (length (recordOf c) ≤ recordMost))
+  record-length e = ⊎-elim (λ b. inl (length-before (b .flag))) (λ a. inr (length-after (a .flag) e)) (sound-cases c e)

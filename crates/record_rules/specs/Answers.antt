@@ -1,0 +1,31 @@
+-- What WRITE and READ answer (01, Stored record; 01, Operations, refusals 1, 2 and 8).
+use Prim.Native.Nat.{ℕ}
+use mathlib.Core.Bool.{Bool, cond, _&&_}
+use mathlib.Core.List.{List, []}
+use lib.Dec.{ltb}
+use Rattle.refusals.specs.Refusals.{noRefusal, unsound, noRoom, notRecord}
+use Rattle.octets.specs.Bytes.{sameBytes}
+use Rattle.card.specs.declared.Card.{Card}
+use Rattle.card.specs.Sizes.{uidBytes, publicKeyBytes}
+use Rattle.card.specs.State.{freshOf, zeros}
+use Rattle.card.specs.Sound.{isSound}
+use Rattle.sound.specs.Reset.{refused, done}
+use Rattle.sound.specs.declared.Answer.{Answer}
+use Rattle.record_rules.specs.Fields.{recordOf}
+use Rattle.record_rules.specs.Parse.{cardOf}
+pub use Rattle.record_rules.specs.Lengths.{writeRoom}
+
+-- ---- WRITE of a card into a buffer of `room` bytes: the refusal's number or 0, and the bytes written
+unfoldable pub writeRefusal : Card → ℕ → ℕ
+writeRefusal c room = cond (isSound c) (cond (ltb room writeRoom) noRoom noRefusal) unsound
+
+unfoldable pub writeBytes : Card → ℕ → List ℕ
+writeBytes c room = cond (isSound c) (cond (ltb room writeRoom) [] (recordOf c)) []
+
+-- ---- READ: the card that the bytes are the record of, if it is sound; else 8 and FRESH of zeros
+-- the bytes are the record of this card, and the card is sound
+unfoldable pub isRecordOf : List ℕ → Card → Bool
+isRecordOf s c = isSound c && sameBytes (recordOf c) s
+
+unfoldable pub readAnswer : List ℕ → Answer
+readAnswer s = cond (isRecordOf s (cardOf s)) (done (cardOf s)) (refused notRecord (freshOf (zeros uidBytes) (zeros publicKeyBytes)))

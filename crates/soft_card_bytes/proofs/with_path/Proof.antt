@@ -1,0 +1,38 @@
+-- The length in use, and the bytes behind it.
+-- Assumes nothing.
+use mathlib.Core.Path.{ap, _∙_}
+use Prim.Native.Nat.{ℕ, _+_}
+use native.Mathlib.Omega.{arith}
+use lib.ListN.{take, set, length-set}
+use borrow.Author.Needs.{needs}
+use Rattle.card.specs.Sizes.{pathMostBytes, wholePathBytes}
+use Rattle.soft_card_bytes.proofs.Grown.{join, wrote-byte, wrote-bytes}
+use Rattle.soft_card_bytes.proofs.with_path.Statement.{statement}
+use Rattle.soft_card_bytes.proofs.with_path.Tie as tie
+
+array-write-r : tie.Need-array-write-r
+array-write-r c = search needs
+
+slice-aggregate-put : tie.Need-slice-aggregate-put
+slice-aggregate-put c = search needs
+
+add-put : tie.Need-add-put
+add-put c = search needs
+
+slice-aggregate-put-2 : tie.Need-slice-aggregate-put-2
+slice-aggregate-put-2 c = search needs
+
+put-requires : tie.Need-put-requires
+put-requires c κs = omega (arith, slice-aggregate-put (c .before), slice-aggregate-put-2 c)
+
+returns : tie.Need-returns
+returns c = let g = c .before .before .before .before .before .args in
+    join (take (g .at) (g .s)) _ _
+    (wrote-byte (g .s) (g .at) (g .x .len) (omega (arith, slice-aggregate-put (c .before .before .before), length-set (g .s) (g .at) (g .x .len))))
+    (wrote-bytes (set (g .s) (g .at) (g .x .len)) (g .at + 1) pathMostBytes (g .x .bytes) (slice-aggregate-put-2 (c .before .before)) (omega (arith, slice-aggregate-put (c .before .before .before))) (c .before .put .ensures))
+    ∙ ap (λ (n : ℕ). take n (c .before .put .last .0)) {x = g .at + 1 + pathMostBytes} {y = g .at + wholePathBytes} (omega arith)
+
+pub with-path-spec : {M : Type 1} → statement M
+with-path-spec =
+    tie.close
+    (tie.spec array-write-r slice-aggregate-put add-put slice-aggregate-put-2 put-requires returns)

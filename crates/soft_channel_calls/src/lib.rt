@@ -1,0 +1,229 @@
+// The soft card's calls of commands and of the terminal's end: ASK, ANSWER, SEAL, UNSEAL, all four in a row, WALK, and the session.
+// Every length, room and count is in bytes.
+// Proved: every function is safe and ends.
+use soft_card_bytes::SESSION_BYTES;
+use soft_state::Desk;
+use soft_state::args;
+use soft_word_bytes::VALUE_MAX_BYTES;
+use text_print::say;
+
+pub fn ask(d: Desk, line: &[u8]) {
+    let mut cmd = [0u8; VALUE_MAX_BYTES];
+    let t = args::take(line, 1, b"COMMAND", d.last, &mut cmd);
+    if !t.ok {
+        return;
+    }
+    let room = args::room(line, 2, refusals::ASK_ROOM_BYTES);
+    if !room.ok {
+        return;
+    }
+    let n = text_fill::bounded(t.len, &cmd);
+    let card = d.card;
+    soft_steps::ask(card, &cmd[..n], room.len);
+}
+
+// The card is shown behind a step.
+fn shown(d: Desk) -> Desk {
+    let card = d.card;
+    soft_show::say_card(card);
+    d
+}
+
+// ANSWER with a command; its supply is the line's next word.
+fn answer_to(d: Desk, line: &[u8], cmd: &[u8]) -> Desk {
+    let mut supply = [0u8; VALUE_MAX_BYTES];
+    let t = args::take(line, 2, b"SUPPLY", d.last, &mut supply);
+    if !t.ok {
+        return d;
+    }
+    let room = args::room(line, 3, refusals::ANSWER_ROOM_BYTES);
+    if !room.ok {
+        return d;
+    }
+    let n = text_fill::bounded(t.len, &supply);
+    let step = soft_steps::answer(d, cmd, &supply[..n], room.len);
+    shown(step.desk)
+}
+
+pub fn answer(d: Desk, line: &[u8]) -> Desk {
+    let mut cmd = [0u8; VALUE_MAX_BYTES];
+    let t = args::take(line, 1, b"COMMAND", d.last, &mut cmd);
+    if !t.ok {
+        return d;
+    }
+    let n = text_fill::bounded(t.len, &cmd);
+    answer_to(d, line, &cmd[..n])
+}
+
+pub fn seal(d: Desk, line: &[u8]) -> Desk {
+    let mut header = [0u8; 4];
+    if !args::take_exact(line, 1, b"HEADER", d.last, &mut header) {
+        return d;
+    }
+    let mut plain = [0u8; VALUE_MAX_BYTES];
+    let t = args::take(line, 2, b"DATA", d.last, &mut plain);
+    if !t.ok {
+        return d;
+    }
+    let room = args::room(line, 3, refusals::SEAL_ROOM_BYTES);
+    if !room.ok {
+        return d;
+    }
+    let n = text_fill::bounded(t.len, &plain);
+    let step = soft_steps::seal(d, header, &plain[..n], room.len);
+    step.desk
+}
+
+pub fn unseal(d: Desk, line: &[u8]) -> Desk {
+    let mut response = [0u8; VALUE_MAX_BYTES];
+    let t = args::take(line, 1, b"RESPONSE", d.last, &mut response);
+    if !t.ok {
+        return d;
+    }
+    let room = args::room(line, 2, refusals::UNSEAL_ROOM_BYTES);
+    if !room.ok {
+        return d;
+    }
+    let n = text_fill::bounded(t.len, &response);
+    let step = soft_steps::unseal(d, &response[..n], room.len);
+    step.desk
+}
+
+// ---- send
+// A step of `send` was refused: the terminal has the session that it had.
+fn session_kept(before: Desk, d: Desk) -> Desk {
+    say(b"  session: as before\n");
+    let session = before.session;
+    soft_state::with_session(d, session)
+}
+
+// The card's answer, which is the last, is unsealed.
+fn opened(d: Desk) -> Desk {
+    let last = d.last;
+    let bytes = last.bytes;
+    let n = text_fill::bounded(last.len, &bytes);
+    let step = soft_steps::unseal(d, &bytes[..n], refusals::UNSEAL_ROOM_BYTES);
+    shown(step.desk)
+}
+
+// The sealed command, which is the last, is asked about and answered; `before` is the desk before it was sealed.
+fn exchanged(before: Desk, d: Desk, supply: &[u8]) -> Desk {
+    let last = d.last;
+    let bytes = last.bytes;
+    let n = text_fill::bounded(last.len, &bytes);
+    let card = d.card;
+    if !soft_steps::ask(card, &bytes[..n], refusals::ASK_ROOM_BYTES) {
+        return session_kept(before, d);
+    }
+    let step = soft_steps::answer(d, &bytes[..n], supply, refusals::ANSWER_ROOM_BYTES);
+    if step.done {
+        opened(step.desk)
+    } else {
+        session_kept(before, d)
+    }
+}
+
+// The data and the supply are the line's words behind the header.
+fn send_with(d: Desk, line: &[u8], header: [u8; 4]) -> Desk {
+    let mut plain = [0u8; VALUE_MAX_BYTES];
+    let t = args::take(line, 2, b"DATA", d.last, &mut plain);
+    if !t.ok {
+        return d;
+    }
+    let mut supply = [0u8; VALUE_MAX_BYTES];
+    let u = args::take(line, 3, b"SUPPLY", d.last, &mut supply);
+    if !u.ok {
+        return d;
+    }
+    let n = text_fill::bounded(t.len, &plain);
+    let step = soft_steps::seal(d, header, &plain[..n], refusals::SEAL_ROOM_BYTES);
+    if !step.done {
+        return d;
+    }
+    let m = text_fill::bounded(u.len, &supply);
+    exchanged(d, step.desk, &supply[..m])
+}
+
+pub fn send(d: Desk, line: &[u8]) -> Desk {
+    let mut header = [0u8; 4];
+    if !args::take_exact(line, 1, b"HEADER", d.last, &mut header) {
+        return d;
+    }
+    send_with(d, line, header)
+}
+
+// ---- WALK
+pub fn walk(d: Desk, line: &[u8]) {
+    let mut input = [0u8; VALUE_MAX_BYTES];
+    let t = args::take(line, 1, b"BYTES", d.last, &mut input);
+    if !t.ok {
+        return;
+    }
+    let n = text_fill::bounded(t.len, &input);
+    let r = soft_byte_calls::walk(&input[..n]);
+    say(b"walk: ");
+    if r.refusal != 0 {
+        soft_names::say_refusal(r.refusal, 0);
+    } else {
+        text_print::say_size(r.count);
+        if r.count == 1 {
+            say(b" field");
+        } else {
+            say(b" fields");
+        }
+    }
+    say(b"\n");
+}
+
+// ---- the session
+fn taken(d: Desk, session: [u8; SESSION_BYTES]) -> Desk {
+    say(b"session: taken\n");
+    soft_state::with_session(d, session)
+}
+
+// The keys and the IV of the card's channel, which are the last bytes of its record.
+fn session_of_card(d: Desk) -> Desk {
+    let card = d.card;
+    let mut session = [0u8; SESSION_BYTES];
+    soft_card_bytes::fill(&mut session, &card, soft_card_bytes::SESSION_AT);
+    taken(d, session)
+}
+
+fn session_given(d: Desk, line: &[u8]) -> Desk {
+    let mut enc_key = [0u8; card::KEY_BYTES];
+    if !args::take_exact(line, 1, b"ENC", d.last, &mut enc_key) {
+        return d;
+    }
+    let mut mac_key = [0u8; card::KEY_BYTES];
+    if !args::take_exact(line, 2, b"MAC", d.last, &mut mac_key) {
+        return d;
+    }
+    let mut iv = [0u8; card::IV_BYTES];
+    if !args::take_exact(line, 3, b"IV", d.last, &mut iv) {
+        return d;
+    }
+    let session = soft_card_bytes::session_bytes(channel_rules::Session {
+        enc_key,
+        mac_key,
+        iv,
+    });
+    taken(d, session)
+}
+
+pub fn session(d: Desk, line: &[u8]) -> Desk {
+    let n = text_words::count(line);
+    if n == 1 {
+        let session = d.session;
+        soft_show::say_session(session);
+        return d;
+    }
+    if n == 4 {
+        return session_given(d, line);
+    }
+    if args::is_word(line, 1, b"card") {
+        session_of_card(d)
+    } else {
+        args::bad_words(line);
+        d
+    }
+}

@@ -1,0 +1,34 @@
+// The kinds of supply by name, with their lengths.
+use text_print::say;
+
+fn say_first_kinds(kind: u8) {
+    match kind {
+        0 => say(b"no supply is read"),
+        1 => say(b"INIT: 33 bytes: flag, AES key 32"),
+        2 => say(b"OPEN: 113 bytes: flag, enc key 32, MAC key 32, salt 32, IV 16"),
+        3 => say(b"MUTUAL: 32 bytes: random"),
+        _ => say(
+            b"PAIR first: 96 bytes: cryptogram 32, challenge 32, expected client cryptogram 32",
+        ),
+    }
+}
+
+fn say_last_kinds(kind: u8) {
+    match kind {
+        5 => say(b"PAIR final: 64 bytes: salt 32, pairing key 32"),
+        6 => say(b"LOAD: 33 bytes: flag, key UID 32"),
+        7 => say(b"DERIVE: 1 byte: flag"),
+        _ => say(b"SIGN: 129 bytes: public key 65, r 32, s 32"),
+    }
+}
+
+pub fn say_supply(kind: u8) {
+    say(b"kind ");
+    text_print::say_byte_number(kind);
+    say(b", ");
+    if kind < 5 {
+        say_first_kinds(kind);
+    } else {
+        say_last_kinds(kind);
+    }
+}
