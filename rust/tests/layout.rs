@@ -1,4 +1,4 @@
-//! The numbers that `docs/LAYOUT.md`, `include/treadlewisp.h` and the proved crates `card` and `record` have, held against this crate's own,
+//! The numbers that `docs/LAYOUT.md`, `include/treadlewisp.h` and the proved crates `card` and `record_rules` have, held against this crate's own,
 //! which follow from the fields.
 
 use std::collections::{BTreeMap, BTreeSet};
@@ -204,7 +204,7 @@ fn the_constants_of_the_header() {
 #[test]
 fn the_constants_of_the_engine() {
     let mut engine = rattle("card");
-    engine.extend(rattle("record"));
+    engine.extend(rattle("record_rules"));
     let constants = named![
         SLOTS,
         PIN_TRIES,
