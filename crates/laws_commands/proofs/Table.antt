@@ -1,4 +1,4 @@
--- Every instruction is lawful, and so is every command that one lists.
+-- Every instruction is lawful, and so is every command that one lists; and which commands compare. One line an instruction, one a command.
 -- Assumes nothing.
 use mathlib.Core.Path.{_≡_, refl, sym, _∙_, subst}
 use mathlib.Core.Bool.{Bool, true, false, cond, false≢true}
@@ -17,6 +17,8 @@ use Rattle.rules.specs.declared.SecretKind.the-variants as secret
 use Rattle.rules.specs.declared.KeyForm.the-variants as key
 use Rattle.rules.specs.declared.Command.{Command}
 use Rattle.rules.specs.declared.Command.the-variants as command
+use Rattle.rules.specs.Rules.{Secret, pin, puk}
+use Rattle.rules.specs.Commands.{ruleOf}
 use Rattle.rules.specs.Rows.{atP1, oneOf, slot, rowOf, isPlain}
 use Rattle.rules.specs.Steps.{nameOf, inStage}
 use Rattle.laws_commands.specs.Lawful.{Lawful, Each, LawfulRow}
@@ -71,3 +73,34 @@ row-lawful ins.Sign = record { known = λ e. refl; begins = λ e c. refl; fails 
 
 pub lawful : (i : Instruction) (p1 p2 : ℕ) (k : Command) → rowOf i .lists p1 p2 ≡ some k → Lawful i k
 lawful i p1 p2 k e = subst (Each (Lawful i)) e (row-lawful i .lists p1 p2)
+
+-- ---- the two commands that compare, and that no other rule compares
+abbrev pub commandOf : Secret → Command
+commandOf pin = command.Verify
+commandOf puk = command.Unblock
+
+abbrev Only : Command → Option Secret → Type 0
+Only k none = Unit {0}
+Only k (some s) = k ≡ commandOf s
+
+only : (k : Command) → Only k (ruleOf k .compares)
+unfolding ruleOf
+only command.Select = tt
+only command.Init = tt
+only (command.Open i) = tt
+only command.Mutual = tt
+only command.PairFirst = tt
+only command.PairFinal = tt
+only (command.Unpair i) = tt
+only (command.Status which) = tt
+only command.Verify = refl
+only (command.Change which) = tt
+only command.Unblock = refl
+only (command.Load form) = tt
+only command.Derive = tt
+only command.Remove = tt
+only command.SetPinless = tt
+only command.Sign = tt
+
+pub only-compares : (k : Command) (s : Secret) → ruleOf k .compares ≡ some s → k ≡ commandOf s
+only-compares k s e = subst (Only k) e (only k)

@@ -29,13 +29,12 @@ use Rattle.rules.specs.Comparison.{Comparison, compared, comparedBy, comparedAt
 use Rattle.laws_commands.specs.Lawful.{Lawful}
 use Rattle.laws_commands.proofs.Arrival.{At, arrivedAt}
 use Rattle.laws_commands.proofs.Checks.{by-verdict, held}
-use Rattle.laws_commands.proofs.Table.{lawful}
+use Rattle.laws_commands.proofs.Table.{lawful, commandOf, only-compares}
 use Rattle.laws_two_runs.specs.Runs.{Call, answer, comparisonAt, Agree}
 use Rattle.laws_two_runs.proofs.Erasure.{step1-pins}
 use Rattle.laws_two_runs.proofs.Order.{by-arrival}
 use Rattle.laws_two_runs.proofs.Calls.{StepSame, call-same}
 use Rattle.laws_two_runs.proofs.Over.{opened-over, card-over}
-use Rattle.laws_two_runs.proofs.Comparisons.{commandOf, only-compares}
 
 never : {A B : Type 0} (x : A) → none ≡ some x → B
 never x e = absurd (let z : _≡_ {A = ℕ} 0 1 = cc in omega arith)

@@ -19,40 +19,9 @@ use Rattle.rules.specs.Commands.{verifyChecks, isUnblocking, unblockChecks, rul
 use Rattle.rules.specs.Channel.{Outgoing}
 use Rattle.rules.specs.Steps.{Step, goes, stops, Arrived, arrival, checksOf, supplyOf}
 use Rattle.rules.specs.Comparison.{compared, comparedBy, comparedAt6, comparison}
+use Rattle.laws_commands.proofs.Table.{only-compares}
 use Rattle.laws_two_runs.specs.Comparisons.{pinComparison, pukComparison, Comparisons}
 use Rattle.laws_two_runs.proofs.Order.{by-arrival, pins-at}
-
--- ---- the two commands that compare
-abbrev pub commandOf : Secret → Command
-commandOf pin = command.Verify
-commandOf puk = command.Unblock
-
-abbrev Only : Command → Option Secret → Type 0
-Only k none = Unit {0}
-Only k (some s) = k ≡ commandOf s
-
--- no other rule compares
-only : (k : Command) → Only k (ruleOf k .compares)
-unfolding ruleOf
-only command.Select = tt
-only command.Init = tt
-only (command.Open i) = tt
-only command.Mutual = tt
-only command.PairFirst = tt
-only command.PairFinal = tt
-only (command.Unpair i) = tt
-only (command.Status which) = tt
-only command.Verify = refl
-only (command.Change which) = tt
-only command.Unblock = refl
-only (command.Load form) = tt
-only command.Derive = tt
-only command.Remove = tt
-only command.SetPinless = tt
-only command.Sign = tt
-
-pub only-compares : (k : Command) (s : Secret) → ruleOf k .compares ≡ some s → k ≡ commandOf s
-only-compares k s e = subst (Only k) e (only k)
 
 -- ---- PIN, PUK and tries at step 6 are those of the card that the call was given
 abbrev Pinned : Pins → Step Arrived → Type 0

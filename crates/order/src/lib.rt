@@ -119,12 +119,12 @@ fn step_4_opens(i: Instruction, card: Card, cmd: &[u8], field: &[u8], plain: &mu
         session,
         header,
         field,
-        &mut plain[0..sealing::CIPHERTEXT_MAX_BYTES],
+        &mut plain[0..channel_seal::CIPHERTEXT_MAX_BYTES],
     ) else {
         let closed = card.close();
         return ends(false, closed, rules::SECURITY_NOT_MET);
     };
-    let mac = octets::block(&field[0..message::MAC_BYTES]);
+    let mac = octets::block(&field[0..channel_rules::MAC_BYTES]);
     step_5(
         i,
         true,
