@@ -34,7 +34,7 @@ pub const FLAG_YES: u8 = 1;
 // The first byte of a point in uncompressed form.
 pub const POINT_FORM: u8 = 0x04;
 
-// ---- the verdict: a chain of `must` in the order of the checks, with one of the three `reads` at its end
+// ---- the verdict: a chain of `must` in the order of the checks, with `reads` or `reads_none` at its end
 // A check, where `next` is the verdict of the checks after it.
 pub fn must(holds: bool, otherwise: u16, next: Verdict) -> Verdict
     ensures { λ r. ⌜ r ≡ cond holds next (Fails otherwise) ⌝ }
