@@ -23,7 +23,7 @@ use Rattle.rules.specs.Words.{wrongData, Hold, succeeds, fails}
 use Rattle.rules.specs.Code.{repliedOf}
 use Rattle.rules.specs.Supplies.{saysYes, part, initKey}
 use Rattle.rules.specs.Commands.{initChecks, initContent, isContent, pinsWith, initialisedWith, initWith, initReply}
-use Rattle.command_init.specs.Content.{offered, Found}
+use Rattle.command_init.specs.Content.{broughtContent, Found}
 use Rattle.command_parts.proofs.SupplyFacts.{part-copied}
 
 -- ---- initChecks
@@ -60,21 +60,21 @@ found-nothing (some x) p e l = let z : _≡_ {A = ℕ} 0 1 = cc in absurd (omega
 pub found-same : {o o′ : Option (List ℕ)} {r : Bool} {p : List ℕ} → o ≡ o′ → Found o r p → Found o′ r p
 found-same e f = rw e at f
 
--- ---- offered: what was put into the buffer is the ciphertext
+-- ---- broughtContent: what was put into the buffer is the ciphertext
 module _ (d s : List ℕ) {r : Bool} {p : List ℕ} where
-  pub offered-yes : (key iv before′ b : List ℕ) → saysYes s ≡ true → key ≡ initKey s → iv ≡ part 66 16 d
+  pub broughtContent-yes : (key iv before′ b : List ℕ) → saysYes s ≡ true → key ≡ initKey s → iv ≡ part 66 16 d
       → b ≡ overwrite before′ 0 (part 82 64 d) → length before′ ≡ 64 → length d ≡ 146
-      → Found (unpad (cbcDecrypt (invAes256 key) iv b)) r p → Found (offered d s) r p
-  unfolding offered initContent
-  offered-yes key iv before′ b f ek ei eb l ld h =
+      → Found (unpad (cbcDecrypt (invAes256 key) iv b)) r p → Found (broughtContent d s) r p
+  unfolding broughtContent initContent
+  broughtContent-yes key iv before′ b f ek ei eb l ld h =
       rw f
       (found-same
       (ap₂ (λ (k x : List ℕ). unpad (cbcDecrypt (invAes256 k) iv x)) ek (part-copied 82 64 64 d before′ eb l refl (omega arith))
       ∙ ap (λ (v : List ℕ). unpad (cbcDecrypt (invAes256 (initKey s)) v (part 82 64 d))) ei) h)
 
-pub offered-no : (d s p : List ℕ) → saysYes s ≡ false → length p ≡ 64 → Found (offered d s) false p
-unfolding offered
-offered-no d s p f l = rw f (found-nothing none p refl l)
+pub broughtContent-no : (d s p : List ℕ) → saysYes s ≡ false → length p ≡ 64 → Found (broughtContent d s) false p
+unfolding broughtContent
+broughtContent-no d s p f l = rw f (found-nothing none p refl l)
 
 -- ---- pinsWith
 pub pins-are : (x pin puk : List ℕ) → pin ≡ part 0 6 x → puk ≡ part 6 12 x
@@ -88,8 +88,8 @@ unfolding initWith
 flag-inside c o true = refl
 flag-inside c o false = refl
 
-pub init-is : (c : Card) (d s : List ℕ) → initReply c d s ≡ initWith c (offered d s)
-unfolding initReply offered
+pub init-is : (c : Card) (d s : List ℕ) → initReply c d s ≡ initWith c (broughtContent d s)
+unfolding initReply broughtContent
 init-is c d s = flag-inside c (initContent (initKey s) d) (saysYes s)
 
 by-content : (c : Card) (x : List ℕ) (b : Bool) → isContent x ≡ b
@@ -112,14 +112,14 @@ unfolding initWith
 wrong-with c none r p f e = refl
 wrong-with c (some x) r p f e = sym (by-content c x false (sym (f .told) ∙ e))
 
-module _ (c : Card) (d s : List ℕ) (r : Bool) (p : List ℕ) (f : Found (offered d s) r p) {x : Replied} where
+module _ (c : Card) (d s : List ℕ) (r : Bool) (p : List ℕ) (f : Found (broughtContent d s) r p) {x : Replied} where
   pub init-replied : (next : Card) → r ≡ true → next ≡ initialisedWith c (take 50 p) → x ≡ repliedOf (succeeds next [])
       → x ≡ repliedOf (initReply c d s)
   init-replied next e en ex =
       ex
       ∙ ap (λ (k : Card). repliedOf (succeeds k [])) en
-      ∙ right-with c (offered d s) r p f e
+      ∙ right-with c (broughtContent d s) r p f e
       ∙ ap repliedOf (sym (init-is c d s))
 
   pub init-refused : r ≡ false → x ≡ repliedOf (fails c wrongData) → x ≡ repliedOf (initReply c d s)
-  init-refused e ex = ex ∙ wrong-with c (offered d s) r p f e ∙ ap repliedOf (sym (init-is c d s))
+  init-refused e ex = ex ∙ wrong-with c (broughtContent d s) r p f e ∙ ap repliedOf (sym (init-is c d s))

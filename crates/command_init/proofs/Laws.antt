@@ -8,7 +8,7 @@ use Prim.Native.Nat.{ℕ}
 use Rattle.card.specs.declared.Card.{Card}
 use Rattle.rules.specs.Words.{wrongData, Reply, succeeds, fails}
 use Rattle.rules.specs.Commands.{isContent, initialisedWith, initWith, initReply}
-use Rattle.command_init.specs.Content.{offered}
+use Rattle.command_init.specs.Content.{broughtContent}
 use Rattle.command_init.proofs.InitFacts.{init-is}
 
 -- ---- initReply
@@ -23,4 +23,4 @@ with-empty c (some x) = by-test c (initialisedWith c x) (isContent x)
 
 -- INIT's response is empty, whatever the card, the data and the supply
 pub init-empty : (c : Card) (d s : List ℕ) → initReply c d s .response ≡ []
-init-empty c d s = ap (λ (r : Reply). r .response) (init-is c d s) ∙ with-empty c (offered d s)
+init-empty c d s = ap (λ (r : Reply). r .response) (init-is c d s) ∙ with-empty c (broughtContent d s)

@@ -10,8 +10,8 @@ use Rattle.rules.specs.Supplies.{saysYes, initKey}
 use Rattle.rules.specs.Commands.{initContent, isContent}
 
 -- what the data hold under the supply's key: nothing where the flag says no
-unfoldable pub offered : List ℕ → List ℕ → Option (List ℕ)
-offered d s = cond (saysYes s) (initContent (initKey s) d) none
+unfoldable pub broughtContent : List ℕ → List ℕ → Option (List ℕ)
+broughtContent d s = cond (saysYes s) (initContent (initKey s) d) none
 
 abbrev pub isRight : Option (List ℕ) → Bool
 isRight none = false

@@ -11,7 +11,7 @@ ghost use Rattle.rules.specs.Words.{Hold, verdict};
 ghost use Rattle.rules.specs.Code.{repliedOf};
 ghost use Rattle.rules.specs.Supplies.{suits, initSupply};
 ghost use Rattle.rules.specs.Commands.{isInitData, initChecks, isContent, pinsWith, initialisedWith, initReply};
-ghost use Rattle.command_init.specs.Content.{offered, Found};
+ghost use Rattle.command_init.specs.Content.{broughtContent, Found};
 use aes_padding::Unpadded;
 use card::Card;
 use card::IV_BYTES;
@@ -103,7 +103,7 @@ fn decipher(key: [u8; KEY_BYTES], iv: [u8; IV_BYTES], plain: &mut [u8]) -> bool
 // Opens INIT's data with the key that the supply brings, if its flag says yes.
 fn open_init(data: &[u8], supply: &[u8], plain: &mut [u8]) -> bool
     requires { ⌜ (length (now «data») ≡ 146) × (length (now supply) ≡ 33) × (length (now plain) ≡ 64) ⌝ }
-    ensures { λ r. ⌜ Found (offered (now («data» .entry)) (now (supply .entry))) r (now (plain .exit)) ⌝ }
+    ensures { λ r. ⌜ Found (broughtContent (now («data» .entry)) (now (supply .entry))) r (now (plain .exit)) ⌝ }
 {
     if says_yes(supply) {
         let key = key_part(supply, AES_KEY_AT);

@@ -17,12 +17,12 @@ use Rattle.rules.specs.Channel.{Outgoing}
 use Rattle.rules.specs.Steps.{goes, stops, Arrived, arrival}
 use Rattle.rules.specs.Comparison.{Comparison, comparison}
 
-abbrev pub comparing : Secret → Bool → Comparison
-comparing s b = record { of = s; right = b }
+abbrev pub comparisonOf : Secret → Bool → Comparison
+comparisonOf s b = record { of = s; right = b }
 
 -- VERIFY compares with tries left, and it comes out right exactly when the data are the PIN
 unfoldable pub pinComparison : Pins → List ℕ → Option Comparison
-pinComparison p d = cond (isZero (p .«pin_tries»)) none (some (comparing pin (sameBytes d (p .pin))))
+pinComparison p d = cond (isZero (p .«pin_tries»)) none (some (comparisonOf pin (sameBytes d (p .pin))))
 
 -- UNBLOCK past its data check: no PIN tries are left, PUK tries are, and the data are 18 bytes whose last six are digits
 abbrev pub pastDataCheck : Pins → List ℕ → Bool
@@ -30,7 +30,7 @@ pastDataCheck p d = isZero (p .«pin_tries») && not (isZero (p .«puk_tries»))
 
 -- it compares there, and it comes out right exactly when the first 12 bytes are the PUK
 unfoldable pub pukComparison : Pins → List ℕ → Option Comparison
-pukComparison p d = cond (pastDataCheck p d) (some (comparing puk (sameBytes (take 12 d) (p .puk)))) none
+pukComparison p d = cond (pastDataCheck p d) (some (comparisonOf puk (sameBytes (take 12 d) (p .puk)))) none
 
 -- a PIN comparison is VERIFY past step 5, a PUK comparison UNBLOCK; no other command makes one, and none is made where a step before stops.
 -- PIN and PUK are those of the card that the call was given, the data are opened

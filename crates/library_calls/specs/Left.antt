@@ -19,8 +19,8 @@ abbrev pub answeredOf : Counted → Card → Answered
 answeredOf r c = record { refusal = r .refusal; count = r .count; card = c }
 
 -- SEAL and UNSEAL too
-abbrev pub outcomeOf : Counted → Session → Outcome
-outcomeOf r s = record { refusal = r .refusal; count = r .count; session = s }
+abbrev pub sessionOutcome : Counted → Session → Outcome
+sessionOutcome r s = record { refusal = r .refusal; count = r .count; session = s }
 
 -- WRITE too
 abbrev pub writtenOf : Counted → Written

@@ -42,7 +42,7 @@ decisionOf r d =
     (ends (tell (r .over) (fails (r .card) (r .status))))
 
 -- what a route that goes on rests on: the command's checks hold, its supply is the one told, the data have the length told, and the paths fit
-pub record Ready (r : Way) (d : List ℕ) : Type 0 where
+pub record GoesOn (r : Way) (d : List ℕ) : Type 0 where
   pub hold : Hold (checksOf (r .command) (r .card) d)
   pub reads : r .supply ≡ supplyOf (r .command)
   pub long : length d ≡ r .count
@@ -51,7 +51,7 @@ pub record Ready (r : Way) (d : List ℕ) : Type 0 where
 -- the route stands for this decision, the command's data being d
 pub record Routes (want : Decision) (r : Way) (d : List ℕ) : Type 0 where
   pub decides : want ≡ decisionOf r d
-  pub ready : r .goes ≡ true → Ready r d
+  pub ready : r .goes ≡ true → GoesOn r d
 
 -- the same, where the data stand at the start of `plain`
 abbrev pub RoutesIn : Decision → Way → List ℕ → Type 0

@@ -9,7 +9,7 @@ ghost use Rattle.octets.specs.Bytes.{overwrite};
 ghost use Rattle.card.specs.State.{keyUid, pathBytes};
 ghost use Rattle.card.specs.Sizes.{keyBytes, pathMostBytes, slotBytes};
 ghost use Rattle.record_rules.specs.Fields.{recordField, slotsBytes};
-ghost use Rattle.record_rules.specs.Lengths.{headBytes, fieldBytes};
+ghost use Rattle.record_rules.specs.Lengths.{headBytes, recordFieldBytes};
 ghost use Rattle.record_fields.specs.Put.{Put};
 use card::Card;
 use card::Keys;
@@ -65,8 +65,8 @@ pub fn slots_bytes(slots: [Slot; Card::SLOTS]) -> [u8; SLOTS_BYTES]
 }
 
 pub fn put_path(buf: &mut [u8], at: usize, tag: u8, p: Path) -> usize
-    requires { ⌜ (p .len ≤ pathMostBytes) × (at + fieldBytes pathMostBytes ≤ length (now buf)) ⌝ }
-    ensures { λ r. ⌜ (Put (recordField tag (pathBytes p) ∷ []) at (now (buf .entry)) r (now (buf .exit))) × (r ≤ at + fieldBytes pathMostBytes) ⌝ }
+    requires { ⌜ (p .len ≤ pathMostBytes) × (at + recordFieldBytes pathMostBytes ≤ length (now buf)) ⌝ }
+    ensures { λ r. ⌜ (Put (recordField tag (pathBytes p) ∷ []) at (now (buf .entry)) r (now (buf .exit))) × (r ≤ at + recordFieldBytes pathMostBytes) ⌝ }
 {
     let bytes = p.bytes;
     let len = card::wide(p.len);
@@ -74,8 +74,8 @@ pub fn put_path(buf: &mut [u8], at: usize, tag: u8, p: Path) -> usize
 }
 
 pub fn put_key_uid(buf: &mut [u8], at: usize, k: Keys) -> usize
-    requires { ⌜ at + fieldBytes keyBytes ≤ length (now buf) ⌝ }
-    ensures { λ r. ⌜ (Put (recordField 0x31 (keyUid k) ∷ []) at (now (buf .entry)) r (now (buf .exit))) × (r ≤ at + fieldBytes keyBytes) ⌝ }
+    requires { ⌜ at + recordFieldBytes keyBytes ≤ length (now buf) ⌝ }
+    ensures { λ r. ⌜ (Put (recordField 0x31 (keyUid k) ∷ []) at (now (buf .entry)) r (now (buf .exit))) × (r ≤ at + recordFieldBytes keyBytes) ⌝ }
 {
     let uid = k.uid;
     if k.kind == 0 {

@@ -9,7 +9,7 @@ use lib.ListN.{length, take, getD}
 use lib.Seq.{take-suc}
 use Rattle.card.specs.declared.Slot.{Slot}
 use Rattle.record_rules.specs.Fields.{Field, recordField, encode, encodeAll, slotsBytes}
-use Rattle.record_rules.specs.Lengths.{fieldBytes}
+use Rattle.record_rules.specs.Lengths.{recordFieldBytes}
 
 -- ---- encodeAll
 pub encode-append : (fs gs : List Field) → encodeAll (fs ++ gs) ≡ encodeAll fs ++ encodeAll gs
@@ -23,7 +23,7 @@ pub encode-one : (t : ℕ) (x : List ℕ) → encodeAll (recordField t x ∷ [])
 unfolding encodeAll
 encode-one t x = append-nil (encode t x)
 
-pub length-encode-one : (t : ℕ) (x : List ℕ) → length (encodeAll (recordField t x ∷ [])) ≡ fieldBytes (length x)
+pub length-encode-one : (t : ℕ) (x : List ℕ) → length (encodeAll (recordField t x ∷ [])) ≡ recordFieldBytes (length x)
 length-encode-one t x = ap length (encode-one t x) ∙ omega arith
 
 -- ---- slotsBytes

@@ -26,7 +26,7 @@ use Rattle.sound.specs.declared.Answer.{Answer}
 use Rattle.refusals.specs.Refusals.{noRefusal, unsound, noRoom, notRecord}
 use Rattle.sound.specs.Reset.{done, refused}
 use Rattle.record_rules.specs.Fields.{Field, encode, encodeAll, identityFields, ownerFields, fields, recordOf}
-use Rattle.record_rules.specs.Lengths.{fieldBytes, recordFresh, recordLeast, recordMost, writeRoom}
+use Rattle.record_rules.specs.Lengths.{recordFieldBytes, recordFresh, recordLeast, recordMost, writeRoom}
 use Rattle.record_rules.specs.Parse.{cardOf}
 use Rattle.record_rules.specs.Answers.{writeRefusal, writeBytes, isRecordOf, readAnswer}
 use Rattle.record_rules.proofs.ParseFacts.{slots-long}
@@ -120,7 +120,7 @@ read-refuses s h c w e r = zero-eight (sym (ap (λ (a : Answer). a .refusal) (re
 -- ---- how long a record is
 abbrev total : List Field → ℕ
 total [] = 0
-total (f ∷ more) = fieldBytes (length (f .content)) + total more
+total (f ∷ more) = recordFieldBytes (length (f .content)) + total more
 
 length-all : (fs : List Field) → length (encodeAll fs) ≡ total fs
 unfolding encodeAll

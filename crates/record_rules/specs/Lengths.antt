@@ -6,23 +6,23 @@ use Rattle.card.specs.Sizes.{uidBytes, publicKeyBytes, pinBytes, pukBytes, keyB
 abbrev pub headBytes : ℕ
 headBytes = 1 + 2
 
-abbrev pub fieldBytes : ℕ → ℕ
-fieldBytes n = headBytes + n
+abbrev pub recordFieldBytes : ℕ → ℕ
+recordFieldBytes n = headBytes + n
 
 -- ---- the groups, in the table's order
 abbrev pub identityFieldsBytes : ℕ
-identityFieldsBytes = fieldBytes 1 + fieldBytes uidBytes + fieldBytes publicKeyBytes
+identityFieldsBytes = recordFieldBytes 1 + recordFieldBytes uidBytes + recordFieldBytes publicKeyBytes
 
 abbrev pub secretFieldsBytes : ℕ
 secretFieldsBytes =
-    fieldBytes pinBytes + fieldBytes pukBytes + fieldBytes keyBytes + fieldBytes (1 + 1) + fieldBytes (slotBytes * slotCount)
+    recordFieldBytes pinBytes + recordFieldBytes pukBytes + recordFieldBytes keyBytes + recordFieldBytes (1 + 1) + recordFieldBytes (slotBytes * slotCount)
 
 -- without a key and with empty paths, and with all of them as long as they can be
 abbrev pub keyFieldsLeast : ℕ
-keyFieldsLeast = fieldBytes 1 + fieldBytes 0 + fieldBytes 0 + fieldBytes 0
+keyFieldsLeast = recordFieldBytes 1 + recordFieldBytes 0 + recordFieldBytes 0 + recordFieldBytes 0
 
 abbrev pub keyFieldsMost : ℕ
-keyFieldsMost = fieldBytes 1 + fieldBytes keyBytes + fieldBytes pathMostBytes + fieldBytes pathMostBytes
+keyFieldsMost = recordFieldBytes 1 + recordFieldBytes keyBytes + recordFieldBytes pathMostBytes + recordFieldBytes pathMostBytes
 
 -- ---- the record: before INIT, and the least and the greatest after it
 abbrev pub recordFresh : ℕ

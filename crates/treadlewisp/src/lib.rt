@@ -14,7 +14,7 @@ ghost use Rattle.engine_responses.specs.Did.{AskDid, AnswerDid};
 ghost use Rattle.channel_rules.specs.Terminal.{sealOut, unsealOut};
 ghost use Rattle.channel_terminal.specs.Did.{Did};
 ghost use Rattle.template_walk.specs.Walk.{report, WALK};
-ghost use Rattle.library_calls.specs.Left.{answerOf, answeredOf, outcomeOf, writtenOf, walkOutOf};
+ghost use Rattle.library_calls.specs.Left.{answerOf, answeredOf, sessionOutcome, writtenOf, walkOutOf};
 use card::Card;
 use channel_rules::Session;
 use engine_responses::Asked;
@@ -83,7 +83,7 @@ pub extern "C" fn tw_seal(
     buf: &mut [u8],
 ) -> Counted
     ensures { λ r. ⌜ Did (sealOut (now (session .entry)) (now (header .entry)) (now (plain .entry)) (length (now (buf .entry))))
-        (outcomeOf r (now (session .exit))) (now (buf .entry)) (now (buf .exit)) ⌝ }
+        (sessionOutcome r (now (session .exit))) (now (buf .entry)) (now (buf .exit)) ⌝ }
 {
     let found = *session;
     let told = library_calls::sealed(found, header, plain, buf);
@@ -98,7 +98,7 @@ pub extern "C" fn tw_seal(
 #[no_mangle]
 pub extern "C" fn tw_unseal(session: &mut Session, response: &[u8], buf: &mut [u8]) -> Counted
     ensures { λ r. ⌜ Did (unsealOut (now (session .entry)) (now (response .entry)) (length (now (buf .entry))))
-        (outcomeOf r (now (session .exit))) (now (buf .entry)) (now (buf .exit)) ⌝ }
+        (sessionOutcome r (now (session .exit))) (now (buf .entry)) (now (buf .exit)) ⌝ }
 {
     let found = *session;
     let told = channel_terminal::unseal(found, response, buf);

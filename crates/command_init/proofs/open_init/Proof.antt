@@ -2,7 +2,7 @@
 -- Assumes nothing.
 use mathlib.Core.Path.{sym, _∙_}
 use borrow.Author.Needs.{needs}
-use Rattle.command_init.proofs.InitFacts.{offered-yes, offered-no}
+use Rattle.command_init.proofs.InitFacts.{broughtContent-yes, broughtContent-no}
 use Rattle.command_init.proofs.open_init.Statement.{statement}
 use Rattle.command_init.proofs.open_init.Tie as tie
 
@@ -40,13 +40,13 @@ returns c = let b6 = c .before .before .before .before .before .before in
     let b11 = b10 .before in
     let b12 = b11 .before in
     let b16 = b12 .before .before .before .before in
-    offered-yes (b16 .args .«data» .now) (b16 .args .supply .now) (b10 .key-part .result) (b9 .block-part .result) (b16 .args .plain .now)
+    broughtContent-yes (b16 .args .«data» .now) (b16 .args .supply .now) (b10 .key-part .result) (b9 .block-part .result) (b16 .args .plain .now)
     (b6 .put .last .0) (sym (b12 .says-yes .ensures) ∙ b11 .if1 .taken) (b10 .key-part .ensures) (b9 .block-part .ensures) (b6 .put .ensures) (b16 .pre .2) (b16 .pre .0)
     (c .before .before .decipher .ensures)
 
 returns-2 : tie.Need-returns-2
 returns-2 c = let b5 = c .before .before .before .before .before in
-    offered-no (b5 .args .«data» .now) (b5 .args .supply .now) (b5 .args .plain .now) (sym (c .before .says-yes .ensures) ∙ c .if1 .left) (b5 .pre .2)
+    broughtContent-no (b5 .args .«data» .now) (b5 .args .supply .now) (b5 .args .plain .now) (sym (c .before .says-yes .ensures) ∙ c .if1 .left) (b5 .pre .2)
 
 pub open-init-spec : {M : Type 1} → statement M
 open-init-spec =
