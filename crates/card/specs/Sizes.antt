@@ -1,4 +1,4 @@
--- How many bytes each field of a card has, how many slots there are, and the size of each part as the sum of its fields' sizes.
+-- How many bytes each field of a card has, how many slots there are, and the size of each part as the sum of its fields' sizes (RULES 2.1).
 -- Every length of a card that another definition or a law names is one of these.
 use Prim.Native.Nat.{ℕ, _+_, _*_}
 
@@ -26,7 +26,7 @@ ivBytes = 16
 abbrev pub pathMostBytes : ℕ
 pathMostBytes = 40
 
--- ---- the number of pairing slots
+-- ---- the number of pairing slots (RULES 2.2)
 abbrev pub slotCount : ℕ
 slotCount = 5
 

@@ -1,4 +1,4 @@
--- The two runs of demand 3 (01, The two runs of demand 3): lists of calls, what a run shows at each call and the card that it ends with; when
+-- The two runs of demand 3 (RULES 11.3): lists of calls, what a run shows at each call and the card that it ends with; when
 -- two cards agree in all but PIN and PUK; and when the comparisons of two runs come out alike. Every length and count is in bytes.
 use Prim.Native.Nat.{ℕ}
 use mathlib.Core.Path.{_≡_}
@@ -21,7 +21,7 @@ pub data Call : Type 0 where
   answer : List ℕ → List ℕ → List ℕ → Call
   reset : Call
 
--- the comparison that a call makes, if any: only ANSWER makes them, and a numbered refusal makes none
+-- the comparison that a call makes, if any (RULES 6.3): only ANSWER makes them, and a numbered refusal makes none
 unfoldable pub comparisonAt : Card → Call → Option Comparison
 comparisonAt c (ask cmd buf) = none
 comparisonAt c (answer cmd s buf) = cond (eqb (answerOut c cmd s (length buf) .refusal) noRefusal) (comparison c cmd) none

@@ -1,5 +1,5 @@
--- What ASK and ANSWER give for any card, command, supply and buffer (01, Operations and numbered refusals), from what the order of checks
--- decides (Steps.antt, `decide`). Every length, room and count is in bytes.
+-- What ASK and ANSWER give for any card, command, supply and buffer (RULES 3.5, 3.6), from what the order of checks decides (Steps.antt,
+-- `decide`). Every length, room and count is in bytes.
 use Prim.Native.Nat.{ℕ}
 use mathlib.Core.Bool.{cond}
 use mathlib.Core.List.{List, []}
@@ -11,7 +11,7 @@ use Rattle.rules.specs.Supplies.{suits}
 use Rattle.rules.specs.Channel.{Outgoing}
 use Rattle.rules.specs.Steps.{Decision, decide}
 
--- ---- ASK: which supply ANSWER will read, with the command's data for it; nothing where ANSWER reads none
+-- ---- ASK (RULES 3.5): which supply ANSWER will read, with the command's data for it; nothing where ANSWER reads none
 pub record AskOut : Type 0 where
   pub refusal : ℕ
   pub kind : ℕ
@@ -27,7 +27,7 @@ unfoldable pub askOut : Card → List ℕ → ℕ → AskOut
 askOut c cmd room =
     cond (isSound c) (cond (ltb room askRoom) (askRefused noRoom) (asked (decide c cmd))) (askRefused unsound)
 
--- ---- ANSWER: the next card, and the bytes of the answer; a refusal gives back the card that it was given
+-- ---- ANSWER (RULES 3.6): the next card, and the bytes of the answer; a refusal gives back the card that it was given
 pub record AnswerOut : Type 0 where
   pub refusal : ℕ
   pub card : Card

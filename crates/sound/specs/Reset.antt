@@ -1,4 +1,4 @@
--- What RESET answers (01, Operations): the refusal's number or 0, and the next card.
+-- What RESET answers (RULES 3.4): the refusal's number or 0, and the next card.
 use Prim.Native.Nat.{ℕ}
 use mathlib.Core.Bool.{cond}
 use Rattle.refusals.specs.Refusals.{noRefusal, unsound}
