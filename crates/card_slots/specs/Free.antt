@@ -15,7 +15,7 @@ abbrev pub after : ℕ → Free → Free
 after k (At i) = At (k + i)
 after k Full = Full
 
--- the first slot, if it is free; else the first free one behind it
+-- the first slot, if it is free; else the first free one after it
 unfoldable pub firstFree : List Slot → Free
 firstFree [] = Full
 firstFree (s ∷ more) = cond (isFree s) (At 0) (after 1 (firstFree more))
