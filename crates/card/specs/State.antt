@@ -48,7 +48,7 @@ abbrev pub closedOf : Channel
 closedOf = record { stage = 0; «enc_key» = zeros keyBytes; «mac_key» = zeros keyBytes; iv = zeros ivBytes }
 
 -- ---- a path as GET STATUS answers it and the record holds it (RULES 6.10); the path of these bytes, as many as it has room for; and the key
--- UID with a key, else nothing
+-- UID with a key, else nothing (RULES 9.5)
 abbrev pub pathBytes : Path → List ℕ
 pathBytes p = take (p .len) (p .bytes)
 

@@ -1,4 +1,4 @@
-// The card: everything that it keeps, by value, as nested structs of bytes and byte arrays.
+// The card (RULES 2.1): everything that it keeps, by value, as nested structs of bytes and byte arrays.
 // Every field is a u8 or an array of u8, so the structs have one layout without padding; every length is in bytes.
 // Proved: a fresh card and a card at power-up are what their definitions say, field by field.
 ghost use mathlib.Core.Path.{_≡_};

@@ -1,4 +1,4 @@
--- What the card's side of sealing and opening promises, as records whose parts have names. Lengths are in bytes.
+-- What the card's side of sealing (RULES 8.3, 8.5) and opening (RULES 8.4) promises, as records whose parts have names. Lengths are in bytes.
 use Prim.Native.Nat.{ℕ, _+_, _≤_}
 use mathlib.Core.List.{List, _++_}
 use mathlib.Core.Option.{Option, some}

@@ -27,7 +27,7 @@ unfoldable pub askOut : Card → List ℕ → ℕ → AskOut
 askOut c cmd room =
     cond (isSound c) (cond (ltb room askRoom) (askRefused noRoom) (asked (decide c cmd))) (askRefused unsound)
 
--- ---- ANSWER (RULES 3.6): the next card, and the bytes of the answer; a refusal gives back the card that it was given
+-- ---- ANSWER (RULES 3.6): the next card, and the bytes of the answer; a refusal gives back the card that it was given (RULES 3.2)
 pub record AnswerOut : Type 0 where
   pub refusal : ℕ
   pub card : Card

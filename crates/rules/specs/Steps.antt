@@ -130,7 +130,7 @@ pub record Opened : Type 0 where
   pub card : Card
   pub data′ : List ℕ
 
--- the MAC of the command is the next IV
+-- the MAC of the command is the next IV (RULES 8.1)
 abbrev pub byOpening : Card → List ℕ → Option (List ℕ) → Step Opened
 byOpening c field none = stopsWith (closed c) securityNotMet
 byOpening c field (some d) = goes (record { card = withMac c (take 16 field); data′ = d })
@@ -155,7 +155,8 @@ begun loss.HalfOpen c = c
 begun loss.Pending c = c
 begun loss.Nothing c = c
 
--- what an error at step 5 or 6 leaves (RULES 6.1, last column): MUTUAL in stage 1 gives the channel up; PAIR with P1 01 ends the pending pairing
+-- what an error at step 5 or 6 leaves (RULES 6.1, last column): MUTUAL in stage 1 gives the channel up (RULES 6.7); PAIR with P1 01 ends the
+-- pending pairing (RULES 6.8)
 abbrev pub failed : Loss → ℕ → Card → Card
 failed loss.Channel p1 c = c
 failed loss.HalfOpen p1 c = cond (eqb (c .channel .stage) 2) c (closed c)

@@ -7,7 +7,7 @@ use Rattle.card.specs.State.{resetOf}
 use Rattle.card.specs.Sound.{isSound}
 use Rattle.sound.specs.declared.Answer.{Answer}
 
--- refused: the number and the card as given
+-- refused (RULES 3.2): the number and the card as given
 abbrev pub refused : ℕ → Card → Answer
 refused n c = record { refusal = n; card = c }
 
