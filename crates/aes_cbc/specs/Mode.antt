@@ -6,7 +6,7 @@ use mathlib.Core.List.{List, [], _++_}
 use lib.ListN.{length, take, drop, replicate}
 use Rattle.octets.specs.Bytes.{xorBytes}
 
--- a chain over n blocks of xs: the block b, chained to `prev`, gives the block out prev b, and the next block is chained to next prev b
+-- a chain over n blocks of xs (RULES 7.3): the block b, chained to `prev`, gives the block out prev b, and the next block is chained to next prev b
 abbrev pub chain : (out next : List ℕ → List ℕ → List ℕ) → ℕ → List ℕ → List ℕ → List ℕ
 chain out next zero prev xs = []
 chain out next (suc n) prev xs = out prev (take 16 xs) ++ chain out next n (next prev (take 16 xs)) (drop 16 xs)

@@ -30,7 +30,7 @@ pathMostBytes = 40
 abbrev pub slotCount : ℕ
 slotCount = 5
 
--- ---- the parts, in bytes
+-- ---- the parts, in bytes (RULES 2.1)
 abbrev pub identityBytes : ℕ
 identityBytes = uidBytes + publicKeyBytes
 
@@ -62,6 +62,6 @@ sessionBytes = keyBytes + keyBytes + ivBytes
 abbrev pub channelBytes : ℕ
 channelBytes = 1 + sessionBytes
 
--- ---- the whole card: the flag of INIT and the five parts
+-- ---- the whole card (RULES 2.1): the flag of INIT and the five parts
 abbrev pub cardBytes : ℕ
 cardBytes = 1 + identityBytes + pinsBytes + pairingBytes + keysBytes + channelBytes

@@ -28,7 +28,7 @@ version = 2 ∷ 0 ∷ []
 abbrev pub zeros : ℕ → List ℕ
 zeros n = replicate n 0
 
--- ---- the parts of a card that holds nothing but its identity
+-- ---- the parts of a card that holds nothing but its identity (RULES 3.3)
 abbrev pub noPins : Pins
 noPins = record { pin = zeros pinBytes; puk = zeros pukBytes; «pin_tries» = 0; «puk_tries» = 0; verified = 0 }
 
@@ -47,14 +47,15 @@ noKeys = record { kind = 0; uid = zeros keyBytes; current = emptyPath; pinless =
 abbrev pub closedOf : Channel
 closedOf = record { stage = 0; «enc_key» = zeros keyBytes; «mac_key» = zeros keyBytes; iv = zeros ivBytes }
 
--- ---- a path as GET STATUS answers it and the record holds it (RULES 6.10); the path of these bytes, as many as it has room for; and the key
--- UID with a key, else nothing (RULES 9.5)
+-- ---- a path as GET STATUS answers it and the record holds it (RULES 6.10)
 abbrev pub pathBytes : Path → List ℕ
 pathBytes p = take (p .len) (p .bytes)
 
+-- the path of these bytes, as many as it has room for (RULES 6.15)
 abbrev pub pathOf : List ℕ → Path
 pathOf s = record { len = length s; bytes = s ++ zeros (pathMostBytes - length s) }
 
+-- the key UID with a key, else nothing (RULES 9.5)
 abbrev pub keyUid : Keys → List ℕ
 keyUid k = cond (eqb (k .kind) 0) [] (k .uid)
 
@@ -120,7 +121,7 @@ withChannel c k = record {
   channel = k;
 }
 
--- ---- the card with its channel closed: stage 0, the session's bytes zero
+-- ---- the card with its channel closed (RULES 3.4): stage 0, the session's bytes zero
 abbrev pub closed : Card → Card
 closed c = withChannel c closedOf
 

@@ -75,8 +75,8 @@ abbrev pub openingOf : Option (List ℕ) → Opening
 openingOf (some data′) = opening.Bytes (length data′)
 openingOf none = opening.Refused
 
--- what an opening means at each end: the opened data; where there is none, the card gives the status word 6982 (RULES 5.4) and UNSEAL its
--- refusal 7 (RULES 8.7)
+-- what an opening means at each end (RULES 8.4): the opened data; where there is none, the card gives the status word 6982 (RULES 5.4) and
+-- UNSEAL its refusal 7 (RULES 8.7)
 pub record OpeningOut : Type 0 where
   pub bytes : List ℕ
   pub word : Option ℕ

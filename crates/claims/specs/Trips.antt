@@ -35,8 +35,8 @@ pub record Records : Type 0 where
   pub writeread : (s : List ℕ) (room : ℕ) → readAnswer s .refusal ≡ 0 → writeRoom ≤ room
       → (writeRefusal (readAnswer s .card) room ≡ 0) × (writeBytes (readAnswer s .card) room ≡ s)
 
--- ---- WALK: fields one after the other add up, and each template that a command answers has the fields that it is made of, where each length
--- fits its byte: its parts are at most as long as those of a card and of a supply
+-- ---- WALK (RULES 11.2): fields one after the other add up, and each template that a command answers has the fields that it is made of, where
+-- each length fits its byte: its parts are at most as long as those of a card and of a supply
 pub record Walks : Type 0 where
   pub joined : (s t : List ℕ) (m n : ℕ) → WALK s ≡ record { refusal = 0; count = m } → WALK t ≡ record { refusal = 0; count = n }
       → WALK (s ++ t) ≡ record { refusal = 0; count = m + n }
@@ -47,9 +47,9 @@ pub record Walks : Type 0 where
   pub signature : (key r s : List ℕ) → length key ≤ 65 → length r ≤ 32 → length s ≤ 32
       → WALK (signature key r s) ≡ record { refusal = 0; count = 3 }
 
--- ---- ASK and ANSWER, for a sound card and room for both. ASK gives the kind of the supply that the order of checks asks for, and exactly the
--- supplies of that one's form are taken. Kind 0: no supply is read, and ASK writes nothing. Another kind: ASK writes the data, opened where
--- they are sealed, of the command that comes to its checks
+-- ---- ASK and ANSWER (RULES 11.2), for a sound card and room for both. ASK gives the kind of the supply that the order of checks asks for,
+-- and exactly the supplies of that one's form are taken. Kind 0: no supply is read, and ASK writes nothing. Another kind: ASK writes the data,
+-- opened where they are sealed, of the command that comes to its checks
 pub record Agreement (c : Card) (cmd : List ℕ) (asks answers : ℕ) : Type 0 where
   pub kind : askOut c cmd asks .kind ≡ decide c cmd .supply .kind
   pub unread : askOut c cmd asks .kind ≡ 0 → (s t : List ℕ) → answerOut c cmd s answers ≡ answerOut c cmd t answers
@@ -66,7 +66,7 @@ pub record Soundness : Type 0 where
   pub read : (s : List ℕ) → isSound (readAnswer s .card) ≡ true
   pub answer : (c : Card) (cmd s : List ℕ) (room : ℕ) → isSound c ≡ true → isSound (answerOut c cmd s room .card) ≡ true
 
--- ---- the room that is asked for is enough: ASK and ANSWER write no more, and a record has its length
+-- ---- the room that is asked for is enough (RULES 11.2): ASK and ANSWER write no more, and a record has its length
 pub record Sizes : Type 0 where
   pub ask : (c : Card) (cmd : List ℕ) (room : ℕ) → Bytes cmd → isSound c ≡ true → 255 ≤ room → length (askOut c cmd room .bytes) ≤ 255
   pub answer : (c : Card) (cmd s : List ℕ) (room : ℕ) → Shaped c → length (answerOut c cmd s room .bytes) ≤ 242

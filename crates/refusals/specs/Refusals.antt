@@ -51,6 +51,6 @@ sealRoom = 261
 abbrev pub unsealRoom : ℕ
 unsealRoom = 223
 
--- ---- the most data before padding, which SEAL takes, in bytes (RULES 8.3, 8.6)
+-- ---- the most data before padding, which SEAL takes, in bytes (RULES 3.2, 8.3)
 abbrev pub dataMost : ℕ
 dataMost = 223

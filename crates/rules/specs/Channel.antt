@@ -42,6 +42,6 @@ sealed r = record {
   card = withMac (r .card) (fieldMac (sessionOf (r .card .channel)) responseHead (plainText r));
 }
 
--- an answer is sealed where the command came over the channel and the card that is left is in stage 2; otherwise it is plain
+-- an answer is sealed where the command came over the channel and the card that is left is in stage 2; otherwise it is plain (RULES 5.7)
 unfoldable pub tell : Bool → Reply → Outgoing
 tell over r = cond (over && eqb (r .card .channel .stage) 2) (sealed r) (plainly r)

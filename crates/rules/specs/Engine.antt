@@ -17,9 +17,11 @@ pub record AskOut : Type 0 where
   pub kind : ℕ
   pub bytes : List ℕ
 
+-- refused (RULES 3.2)
 abbrev pub askRefused : ℕ → AskOut
 askRefused n = record { refusal = n; kind = 0; bytes = [] }
 
+-- not refused (RULES 3.5)
 abbrev pub asked : Decision → AskOut
 asked d = record { refusal = noRefusal; kind = d .supply .kind; bytes = cond (eqb (d .supply .kind) 0) [] (d .data′) }
 
@@ -36,6 +38,7 @@ pub record AnswerOut : Type 0 where
 abbrev pub answerRefused : Card → ℕ → AnswerOut
 answerRefused c n = record { refusal = n; card = c; bytes = [] }
 
+-- not refused (RULES 3.6)
 abbrev pub answered : Outgoing → AnswerOut
 answered t = record { refusal = noRefusal; card = t .card; bytes = t .bytes }
 

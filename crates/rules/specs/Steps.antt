@@ -135,10 +135,11 @@ abbrev pub byOpening : Card → List ℕ → Option (List ℕ) → Step Opened
 byOpening c field none = stopsWith (closed c) securityNotMet
 byOpening c field (some d) = goes (record { card = withMac c (take 16 field); data′ = d })
 
+-- whether the channel is in a stage that the instruction needs (RULES 5.4)
 abbrev pub inStage : Instruction → ℕ → Bool
 inStage i stage = leb (rowOf i .stage) stage
 
--- what the card opens of a command's field
+-- what the card opens of a command's field (RULES 5.4)
 abbrev pub openedBy : Card → List ℕ → List ℕ → Option (List ℕ)
 openedBy c cmd field = openField (sessionOf (c .channel)) (commandHead (headerOf cmd)) field
 
@@ -163,7 +164,8 @@ failed loss.HalfOpen p1 c = cond (eqb (c .channel .stage) 2) c (closed c)
 failed loss.Pending p1 c = cond (eqb p1 1) (forgotten c) c
 failed loss.Nothing p1 c = c
 
--- at step 6: the command and its data, the card, the card that an error leaves, and whether the command came over the channel
+-- what step 5 goes on with (RULES 5.5): the command and its data, the card, the card that an error leaves, and whether the command came over
+-- the channel
 pub record Arrived : Type 0 where
   pub command : Command
   pub data′ : List ℕ
@@ -180,7 +182,7 @@ step5 i cmd o =
     let c = begun (rowOf i .loss) (o .card) in
     byChoice (not (isPlain i)) (o .data′) c (failed (rowOf i .loss) (p1Of cmd) c) (rowOf i .lists (p1Of cmd) (p2Of cmd))
 
--- ---- steps 1 to 5: the command at its own checks, or the answer of the step that stops
+-- ---- steps 1 to 5 (RULES 5): the command at its own checks, or the answer of the step that stops
 unfoldable pub pastStep1 : List ℕ → Card → Step Arrived
 pastStep1 cmd c =
     then (step2 cmd c) (λ field.
@@ -219,7 +221,7 @@ byVerdict a (Fails w) = ends (tell (a .over) (fails (a .lost) w))
 unfoldable pub step6 : Arrived → Decision
 step6 a = byVerdict a (verdict (supplyOf (a .command)) (checksOf (a .command) (a .card) (a .data′)))
 
--- ---- the whole
+-- ---- the whole (RULES 5)
 abbrev pub finish : Step Arrived → Decision
 finish (goes a) = step6 a
 finish (stops t) = ends t

@@ -50,7 +50,7 @@ unknownClass = 0x6E00
 abbrev pub word : ℕ → List ℕ
 word w = w / 256 ∷ w % 256 ∷ []
 
--- ---- checks (RULES 5.6): what must hold, and the status word where it does not
+-- ---- checks (RULES 5.6, 6.2): what must hold, and the status word where it does not
 pub record Check : Type 0 where
   pub holds : Bool
   pub otherwise : ℕ

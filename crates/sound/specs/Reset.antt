@@ -15,5 +15,6 @@ refused n c = record { refusal = n; card = c }
 abbrev pub done : Card → Answer
 done c = record { refusal = noRefusal; card = c }
 
+-- RESET (RULES 3.4)
 unfoldable pub resetAnswer : Card → Answer
 resetAnswer c = cond (isSound c) (done (resetOf c)) (refused unsound c)

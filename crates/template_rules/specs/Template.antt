@@ -39,7 +39,7 @@ announces tag n s (Of h m) = eqb (tagOf s) tag && eqb m n && leb (h + m) (length
 abbrev pub beginsWith : ℕ → ℕ → List ℕ → Bool
 beginsWith tag n s = announces tag n s (readHead s)
 
--- ---- writing
+-- ---- writing (RULES 9.1)
 -- a length in its shortest form, for n below 256
 abbrev pub lengthField : ℕ → List ℕ
 lengthField n = cond (ltb n 128) (n ∷ []) (0x81 ∷ n ∷ [])

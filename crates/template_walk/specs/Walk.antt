@@ -47,7 +47,7 @@ fieldsOf inside zero s = Fields 0
 fieldsOf inside (suc n) s =
     cond (eqb (length s) 0) (Fields 0) (andThen (readField inside s) (λ (bytes : ℕ). fieldsOf inside n (drop bytes s)))
 
--- the value of a template, where this many more levels may be entered
+-- the value of a template, where this many more levels may be entered (RULES 9.2)
 unfoldable pub valueOf : ℕ → List ℕ → Walked
 valueOf zero s = Refused TooDeep
 valueOf (suc levels) s = fieldsOf (valueOf levels) (length s) s
@@ -74,5 +74,6 @@ abbrev pub report : Walked → WalkOut
 report (Fields n) = record { refusal = noRefusal; count = n }
 report (Refused f) = record { refusal = refusalNumber f; count = 0 }
 
+-- WALK (RULES 9.3)
 abbrev pub WALK : List ℕ → WalkOut
 WALK s = report (walkOf s)
