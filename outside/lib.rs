@@ -1,4 +1,4 @@
-//! What the programs of this package share: the plain model of document 01, two ciphers, the proved libraries' functions, and a seeded
+//! What the programs of this package share: the plain model of the rules, two ciphers, the proved libraries' functions, and a seeded
 //! generator. Lengths are in bytes.
 
 pub mod ciphers;

@@ -1,4 +1,4 @@
-//! How fast the proved library is beside two baselines in Rust: the plain model of document 01 over the byte-wise cipher, and the same model
+//! How fast the proved library is beside two baselines in Rust: the plain model of the rules over the byte-wise cipher, and the same model
 //! over AES by word tables. The same input in one run, results compared; the first difference ends it with a status that is not 0. It prints
 //! the tables of docs/PERFORMANCE.md. Lengths are in bytes.
 

@@ -22,7 +22,7 @@ void expect(int fact, const char *what)
     made++;
     if (!fact) {
         failed++;
-        printf("life: not as document 01 has it: %s: %s\n", current_step, what);
+        printf("life: not as the rules have it: %s: %s\n", current_step, what);
     }
 }
 

@@ -1,4 +1,4 @@
-//! The proved library beside the plain model of document 01, over the C boundary: the paper's rows, whole lives of cards, and the two
+//! The proved library beside the plain model of the rules, over the C boundary: the rows to settle, whole lives of cards, and the two
 //! runs of demand 3. The first difference ends the run with a status that is not 0, and so does a row of the tables that never occurred, or an
 //! answer that they do not have.
 
@@ -92,8 +92,8 @@ fn main() {
 }
 
 fn report(options: &Options, both: &Both, done: &pairs::Done, lives: u64) {
-    println!("the library and the model of document 01, seed {:#x}:", options.seed);
-    println!("the rows that document 01 settles hold");
+    println!("the library and the model of the rules, seed {:#x}:", options.seed);
+    println!("the rows to settle hold");
     println!("{} calls in {lives} lives of cards and {} pairs", both.tally.calls(), done.pairs);
     both.tally.print();
     both.tally.print_commands();

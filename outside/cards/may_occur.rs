@@ -1,4 +1,4 @@
-//! What document 01 lets occur, as tables: the refusals of each operation, the status words of each command in each situation, the supplies.
+//! What the rules (docs/RULES.md) let occur, as tables: the refusals of each operation, the status words of each command in each situation, the supplies.
 //! A run has to meet every row, and nothing beside them. Lengths are in bytes.
 
 use outside::model::card::{Card, AUTHENTICATED, NO, OPENED, YES};
@@ -263,6 +263,6 @@ pub fn reader(kind: u8) -> Name {
         FOR_LOAD => Name::Load,
         FOR_DERIVE => Name::Derive,
         FOR_SIGN => Name::Sign,
-        _ => panic!("document 01 has no kind {kind}"),
+        _ => panic!("no rule has the kind {kind}"),
     }
 }

@@ -1,4 +1,4 @@
-//! The rows that document 01 settles, on the model and the library: one card from FRESH through INIT, PAIR, OPEN and MUTUAL to its status and
+//! The rows to settle (RULES 11.4), on the model and the library: one card from FRESH through INIT, PAIR, OPEN and MUTUAL to its status and
 //! wrong PINs, as a well-behaved terminal does it, and the rows on padding, templates and signatures. Lengths are in bytes.
 
 use crate::both::{hex, Both};
@@ -25,7 +25,7 @@ struct Script<'a> {
 /// Ends the run where a row does not hold.
 fn row(holds: bool, what: &str) {
     if !holds {
-        println!("DIFFERENCE in the rows of document 01: {what}");
+        println!("DIFFERENCE in the rows to settle: {what}");
         std::process::exit(1);
     }
 }
@@ -116,7 +116,7 @@ fn rows_without_a_card(both: &mut Both) {
 }
 
 pub fn run(both: &mut Both, seed: u64) {
-    both.walk = "the rows of document 01".to_string();
+    both.walk = "the rows to settle".to_string();
     rows_without_a_card(both);
     let mut random = Random::new(seed);
     let random = &mut random;

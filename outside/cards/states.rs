@@ -104,7 +104,7 @@ fn pre_initialised_with_more(random: &mut Random) -> Card {
 /// How many rules of soundness `break_rule` breaks.
 pub const RULES: usize = 20;
 
-/// Breaks one rule of the paper's list; some need another field to be as it is not, so a card may stay sound.
+/// Breaks one rule of soundness (RULES 2.3); some need another field to be as it is not, so a card may stay sound.
 pub fn break_rule(random: &mut Random, card: &mut Card, rule: usize) {
     let flag = 2 + random.below(254) as u8;
     let slot = random.below(SLOTS);

@@ -193,7 +193,7 @@ impl Tally {
     }
 }
 
-/// Every answer that document 01 lets occur.
+/// Every answer that the rules let occur.
 pub fn every_row() -> Vec<Row> {
     let mut rows = Vec::new();
     for name in every_name() {

@@ -89,7 +89,7 @@ pub fn walk_input(random: &mut Random) -> Vec<u8> {
     }
 }
 
-/// A field with its length in one or two bytes of its own after 81 or 82. The paper allows 81 alone, and that from 128 bytes on.
+/// A field with its length in one or two bytes of its own after 81 or 82. The rules allow 81 alone, and that from 128 bytes on (RULES 9.1).
 fn long_form(tag: u8, content: &[u8], length_bytes: u8) -> Vec<u8> {
     let length = (content.len() as u16).to_be_bytes();
     let length = if length_bytes == 1 { &length[1..] } else { &length[..] };

@@ -1,4 +1,4 @@
-//! The card of document 01: its state, FRESH, RESET and when a state is sound. Every field is made of bytes and may hold any value, so that
+//! The card (RULES 2): its state, FRESH, RESET and when a state is sound. Every field is made of bytes and may hold any value, so that
 //! unsound states can be told as well; lengths are in bytes.
 
 use super::cipher::{Block, Key, BLOCK_BYTES, KEY_BYTES};
@@ -175,7 +175,7 @@ impl Card {
         self.slots.iter().filter(|slot| slot.filled == NO).count()
     }
 
-    /// Sound, rule by rule in the paper's order.
+    /// Sound, rule by rule (RULES 2.3).
     pub fn is_sound(&self) -> bool {
         if self.initialised == NO {
             return *self == Card::fresh(self.uid, self.public_key);

@@ -1,4 +1,4 @@
-//! The order of checks for a command (document 01, steps 1 to 6), and the commands that are plain in every stage: SELECT, INIT, OPEN and PAIR.
+//! The order of checks for a command (RULES 5 and 6), and the commands that are plain in every stage: SELECT, INIT, OPEN and PAIR.
 //! A command changes the card that it is given; lengths are in bytes.
 
 use super::card::*;

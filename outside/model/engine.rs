@@ -1,4 +1,4 @@
-//! The operations of document 01 with their refusals and buffers. Each writes from the buffer's start and leaves the bytes past the count;
+//! The operations (RULES 3) with their refusals and buffers. Each writes from the buffer's start and leaves the bytes past the count;
 //! a refusal changes nothing. Lengths and counts are in bytes.
 
 use super::card::{Card, Session, POINT_BYTES, UID_BYTES};

@@ -1,4 +1,4 @@
-//! The sealed message of document 01: padding, the MAC, and sealing and opening at either end. The field is the MAC of 16 bytes and the
+//! The sealed message (RULES 7.5 and 8): padding, the MAC, and sealing and opening at either end. The field is the MAC of 16 bytes and the
 //! ciphertext after it; lengths are in bytes.
 
 use super::card::Session;

@@ -1,4 +1,4 @@
-//! The stored record of document 01: what WRITE writes and READ takes. A field is a tag, a length of two bytes, high byte first, and its
+//! The stored record (RULES 10): what WRITE writes and READ takes. A field is a tag, a length of two bytes, high byte first, and its
 //! content; lengths are in bytes.
 
 use super::card::{Card, Path, Slot, EXTENDED_KEY, KEY_UID_BYTES, NO_KEY, PATH_BYTES, SLOTS, YES};

@@ -1,4 +1,4 @@
-//! The commands of document 01 that come sealed: MUTUAL in stage 1 or 2, all others in stage 2. Their answers are sealed where the channel
+//! The commands that come sealed (RULES 6): MUTUAL in stage 1 or 2, all others in stage 2. Their answers are sealed where the channel
 //! then stands in stage 2, and plain where it does not. Lengths are in bytes.
 
 use super::card::*;

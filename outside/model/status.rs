@@ -1,4 +1,4 @@
-//! The status words and the numbered refusals of document 01.
+//! The status words (RULES 5.8) and the numbered refusals (RULES 3.2).
 
 pub const SUCCESS: u16 = 0x9000;
 /// Plus the tries that are left.

@@ -1,4 +1,4 @@
-//! Templates of document 01: one-byte tags, WALK, the writing of fields, and the signature's DER integers. Lengths are in bytes.
+//! Templates (RULES 9): one-byte tags, WALK, the writing of fields, and the signature's DER integers. Lengths are in bytes.
 
 use super::status::{MALFORMED, TOO_DEEP};
 

@@ -25,7 +25,7 @@ pub fn refusal_text(refusal: u8, least_bytes: usize) -> String {
         LONG_DATA => "the data has more than 223 bytes".to_string(),
         NOT_GENUINE => "not genuine".to_string(),
         NOT_A_RECORD => "the bytes are no stored record".to_string(),
-        _ => panic!("document 01 has no refusal {refusal}"),
+        _ => panic!("no rule has the refusal {refusal}"),
     };
     format!("refusal {refusal}, {text}")
 }
@@ -42,7 +42,7 @@ pub fn supply_text(kind: u8) -> &'static str {
         6 => "LOAD: 33 bytes: flag, key UID 32",
         7 => "DERIVE: 1 byte: flag",
         8 => "SIGN: 129 bytes: public key 65, r 32, s 32",
-        _ => panic!("document 01 has no kind {kind}"),
+        _ => panic!("no rule has the kind {kind}"),
     }
 }
 

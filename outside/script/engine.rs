@@ -1,4 +1,4 @@
-//! The two engines that a script can be played on: the plain model of document 01, and the library, whose card and session lie as their bytes
+//! The two engines that a script can be played on: the plain model of the rules, and the library, whose card and session lie as their bytes
 //! and are changed in place. Each holds one card and the terminal's session; lengths and counts are in bytes.
 
 use outside::ciphers::plain::KEY_BYTES;

@@ -1,5 +1,5 @@
 //! The program player: scripts for the soft card (docs/SOFTCARD.md), played once more in plain Rust. It reads a script and writes, byte for
-//! byte, what the soft card has to write for it, over the plain model of document 01 (--model) or over the library (--library). Lengths, rooms
+//! byte, what the soft card has to write for it, over the plain model of the rules (--model) or over the library (--library). Lengths, rooms
 //! and counts are in bytes.
 
 mod answers;

@@ -1,4 +1,4 @@
-//! A card's whole life over the safe functions: the answers are those that document 01 gives.
+//! A card's whole life over the safe functions: the answers are those that the rules give (docs/RULES.md).
 
 mod common;
 

@@ -84,7 +84,7 @@ module _ {answer r : ℕ} {work before after : List ℕ} where
         left = e ∙ sym (ap (λ (b : Bool). cond b work before) (eq-eqb answer 0 z));
       }
 
--- ---- the first block of a text, and what is behind it
+-- ---- the first block of a text, and what follows it
 module _ (xs : List ℕ) (some : 16 ≤ length xs) where
   behind-all : take (length xs - 16) (drop 16 xs) ≡ drop 16 xs
   behind-all = take-all (length xs - 16) (drop 16 xs) (omega (arith, length-drop 16 xs))

@@ -4,7 +4,7 @@
 --   2  refused: the IV has another length than 16 bytes
 --   3  refused: the data is no number of whole blocks of 16 bytes; of a MAC also: there is no data
 --   4  refused: the room for the MAC has another length than 16 bytes
--- Of two things that are wrong, the smaller number is told.
+-- If two things are wrong, the smaller number is given.
 use mathlib.Core.Path.{_≡_}
 use mathlib.Core.Bool.{cond}
 use mathlib.Core.List.{List}

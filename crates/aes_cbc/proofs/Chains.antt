@@ -52,7 +52,7 @@ module _ (out next : List ℕ → List ℕ → List ℕ) where
   turned prev buf i n h e =
       ap (λ (m : ℕ). take i buf ++ chain out next m prev (drop i buf)) e ∙ append-nil (take i buf) ∙ take-all i buf h
 
-  -- ---- cut at a block border: what the first block behind n blocks is chained to, and the chain in two parts
+  -- ---- cut at a block border: what the first block after n blocks is chained to, and the chain in two parts
   abbrev pub chained : ℕ → List ℕ → List ℕ → List ℕ
   chained zero prev xs = prev
   chained (suc n) prev xs = chained n (next prev (take 16 xs)) (drop 16 xs)

@@ -1,4 +1,4 @@
--- The last block of a chain, block by block, and the MAC of a head block and whole blocks behind it.
+-- The last block of a chain, block by block, and the MAC of a head block and whole blocks after it.
 -- Assumes nothing.
 use mathlib.Core.Path.{_≡_, refl, sym, ap, ap₂, _∙_}
 use mathlib.Core.List.{List, [], _++_, append-nil}

@@ -1,6 +1,6 @@
 // AES-256 in CBC mode, in place on a slice of the caller's, and CBC-MAC.
 // A key has 32 bytes, an IV and a MAC 16 bytes; the data is a number of whole blocks of 16 bytes, none included.
-// Proved: every byte of the slice is the definition's; decryption undoes encryption and the other way about, for every length.
+// Proved: every byte of the slice is the definition's; decryption undoes encryption and encryption undoes decryption, for every length.
 ghost use mathlib.Core.Path.{_≡_};
 ghost use mathlib.Core.List.{_++_};
 ghost use Prim.Native.Nat.{_%_};
@@ -52,7 +52,7 @@ pub fn cbc_encrypt(key: &[u8; 32], iv: [u8; 16], buf: &mut [u8])
     encrypt_blocks(&table, &w, iv, buf);
 }
 
-// Deciphers the block in `part`, chained to the ciphertext block before it; the answer is the ciphertext block that stood there.
+// Deciphers the block in `part`, chained to the ciphertext block before it; the answer is the ciphertext block that was there.
 fn decrypt_part(table: &[u8; 256], w: &[u8], prev: [u8; 16], part: &mut [u8]) -> [u8; 16]
     requires { ⌜ now table ≡ invSbox ⌝ }
     requires { ⌜ length (now w) ≡ 240 ⌝ }

@@ -1,4 +1,4 @@
--- A turn of the inverse cipher's loop is an inverse round, and the step behind the loop is the last one.
+-- A turn of the inverse cipher's loop is an inverse round, and the step after the loop is the last one.
 -- Assumes nothing.
 use mathlib.Core.Path.{_≡_, sym, ap, ap₂, _∙_}
 use mathlib.Core.List.{List}
@@ -8,7 +8,7 @@ use Rattle.octets.specs.Bytes.{xorBytes}
 use Rattle.aes_rules.specs.Cipher.{addRoundKey, roundKey}
 use Rattle.aes_rules.specs.InvCipher.{invShiftRows, invSubBytes, invMixColumns, invRound, invRounds, invCipher}
 
--- behind round r, t is the state from which the rounds r - 1 to 1 are left
+-- after round r, t is the state from which the rounds r - 1 to 1 are left
 pub turn : (w t t₀ v : List ℕ) (r : ℕ) → 1 < r → invRounds w (r - 1) t ≡ invRounds w 13 t₀
     → v ≡ invMixColumns (xorBytes (invSubBytes (invShiftRows t)) (roundKey w (r - 1))) → invRounds w (r - 1 - 1) v ≡ invRounds w 13 t₀
 unfolding addRoundKey invRound

@@ -1,4 +1,4 @@
--- A turn of the cipher's loop is a round, and the step behind the loop is the last round.
+-- A turn of the cipher's loop is a round, and the step after the loop is the last round.
 -- Assumes nothing.
 use mathlib.Core.Path.{_≡_, sym, ap, ap₂, _∙_}
 use mathlib.Core.List.{List}

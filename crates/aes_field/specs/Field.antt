@@ -1,4 +1,4 @@
--- The finite field GF(2^8) of FIPS 197, section 4, and the rules of the S-box and of its inverse, sections 5.1.1 and 5.3.2.
+-- The finite field GF(2^8) of FIPS 197, section 4, and the rules of the S-box and of its inverse, sections 5.1.1 and 5.3.2 (RULES 7.2).
 -- A byte is a number below 256.
 use Prim.Native.Nat.{ℕ, zero, suc, _+_, _*_, _/_, _%_, _^_}
 use lib.Bits.{bitXor}

@@ -1,4 +1,4 @@
--- A turn of the loop writes the next word behind the schedule.
+-- A turn of the loop writes the next word after the schedule.
 -- Assumes nothing.
 use mathlib.Core.Path.{_≡_, sym, ap, ap₂, _∙_}
 use mathlib.Core.List.{List, _++_}

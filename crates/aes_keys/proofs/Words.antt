@@ -1,4 +1,4 @@
--- Words of a schedule: four bytes of a list, written out, and the three cases of the word behind a schedule.
+-- Words of a schedule: four bytes of a list, written out, and the three cases of the word after a schedule.
 -- Assumes nothing.
 use mathlib.Core.Path.{_≡_, refl, sym, ap, ap₂, _∙_}
 use mathlib.Core.List.{List, [], _∷_}

@@ -58,7 +58,7 @@ fn round_constant(j: usize) -> [u8; 4]
     [1u8 << (j - 1), 0, 0, 0]
 }
 
-// The word behind those that w holds.
+// The word after those that w holds.
 fn next_word(table: &[u8; 256], w: &[u8]) -> [u8; 4]
     requires { ⌜ now table ≡ sbox ⌝ }
     requires { ⌜ (32 ≤ length (now w)) × (length (now w) < 240) ⌝ }

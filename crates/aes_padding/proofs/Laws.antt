@@ -48,7 +48,7 @@ pub take-pad : (xs : List ℕ) → take (length xs) (pad xs) ≡ xs
 unfolding pad
 take-pad xs = take-at xs (128 ∷ replicate (15 - length xs % 16) 0) (length xs) refl
 
--- the mark stands behind the data, and only zeros behind the mark
+-- the mark is after the data, and only zeros are after the mark
 pub mark-at : (xs : List ℕ) → getD (pad xs) (length xs) 0 ≡ 128
 unfolding pad
 mark-at xs = getD-at xs 128 (replicate (15 - length xs % 16) 0) 0 (length xs) refl

@@ -26,7 +26,7 @@ front : (xs : List ℕ) (k : ℕ) → k < length xs → getD (pad xs) k 0 ≡ ge
 unfolding pad
 front xs k h = List·getD-append xs (128 ∷ replicate (15 - length xs % 16) 0) 0 k h
 
--- ---- a mark in the last block, with only zeros behind it
+-- ---- a mark in the last block, with only zeros after it
 module _ (ys : List ℕ) (j : ℕ) (within : j < length ys) (whole : length ys % 16 ≡ 0) (last : length ys ≤ j + 16)
     (mark : getD ys j 0 ≡ 128) (zeros : Zeros ys (j + 1)) where
   abbrev xs : List ℕ
@@ -67,7 +67,7 @@ not-whole ys h xs e = h (ap (λ (n : ℕ). n % 16) (ap length e ∙ length-pad x
 pub not-empty : (ys : List ℕ) → length ys ≡ 0 → (xs : List ℕ) → ys ≡ pad xs → ⊥
 not-empty ys h xs e = omega (arith, ap length e ∙ length-pad xs, padded-larger (length xs))
 
--- another byte stands before the zeros
+-- another byte is before the zeros
 pub spoiled : (ys : List ℕ) (j : ℕ) → (getD ys j 0 ≡ 128 → ⊥) → (getD ys j 0 ≡ 0 → ⊥) → Zeros ys (j + 1) → (xs : List ℕ) → ys ≡ pad xs → ⊥
 spoiled ys j n z zeros xs e =
     let at : (k : ℕ) → getD ys k 0 ≡ getD (pad xs) k 0 = λ k. ap (λ (l : List ℕ). getD l k 0) e in

@@ -1,4 +1,4 @@
--- Padding written in place: the mark, then zeros up to the end of the block; what stands behind is kept.
+-- Padding written in place: the mark, then zeros up to the end of the block; what follows is kept.
 -- Assumes nothing.
 use mathlib.Core.Path.{_≡_, refl, sym, ap, ap₂, _∙_}
 use mathlib.Core.List.{List, _++_}
@@ -10,7 +10,7 @@ use Rattle.octets.proofs.Filling.{front-more}
 use Rattle.aes_padding.specs.Padding.{paddedBytes, pad}
 use Rattle.aes_padding.proofs.Laws.{length-pad, take-pad, mark-at, zeros-behind, padded-larger}
 
--- the first i bytes of buf are those of the padded data, and what stands behind the padding is kept
+-- the first i bytes of buf are those of the padded data, and what follows the padding is kept
 pub record Written (s : List ℕ) (n : ℕ) (buf : List ℕ) (i : ℕ) : Type 0 where
   pub front : take i buf ≡ take i (pad (take n s))
   pub behind : drop (paddedBytes n) buf ≡ drop (paddedBytes n) s
@@ -47,7 +47,7 @@ module _ (s : List ℕ) (n : ℕ) (room : paddedBytes n ≤ length s) where
       sym (take-append-drop (paddedBytes n) buf)
       ∙ ap₂ (λ (a b : List ℕ). a ++ b) (w .front ∙ take-all (paddedBytes n) (pad (take n s)) (omega (arith, length-padded))) (w .behind)
 
-  -- the list with its mark already written stands for the list as it was
+  -- the list with its mark already written serves for the list as it was
   module _ (v : ℕ) where
     data-kept : take n (set s n v) ≡ take n s
     data-kept = take-set-le n s n v (omega arith)

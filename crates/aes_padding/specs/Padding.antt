@@ -1,4 +1,4 @@
--- Padding to whole blocks of 16 bytes: ISO/IEC 9797-1, padding method 2 (01, The sealed message). Lengths are in bytes.
+-- Padding to whole blocks of 16 bytes: ISO/IEC 9797-1, padding method 2 (RULES 7.5). Lengths are in bytes.
 use Prim.Native.Nat.{ℕ, zero, suc, _+_, _-_, _%_}
 use mathlib.Core.Bool.{Bool, true, false}
 use mathlib.Core.List.{List, _∷_, _++_}

@@ -25,7 +25,7 @@ pub fn padded_bytes(data_bytes: usize) -> usize
     data_bytes + (BLOCK_BYTES - data_bytes % BLOCK_BYTES)
 }
 
-// Pads the first data_bytes bytes of buf where they stand; the answer is the padded length in bytes. Behind it buf stays as it is.
+// Pads the first data_bytes bytes of buf in their place; the answer is the padded length in bytes. After it buf stays as it is.
 pub fn pad_in_place(buf: &mut [u8], data_bytes: usize) -> usize
     requires { ⌜ paddedBytes «data_bytes» ≤ length (now buf) ⌝ }
     ensures { λ r. ⌜ r ≡ paddedBytes «data_bytes» ⌝ }

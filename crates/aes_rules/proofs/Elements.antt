@@ -1,4 +1,4 @@
--- The steps of a round byte by byte: what stands at each place of a step's result, for code that computes it place by place.
+-- The steps of a round byte by byte: what is at each place of a step's result, for code that computes it place by place.
 -- Assumes nothing.
 use mathlib.Core.Path.{_≡_, refl, sym, ap, ap₂, _∙_}
 use mathlib.Core.List.{List, [], _∷_}

@@ -1,4 +1,4 @@
--- AES-256 under a key of 32 bytes, on blocks of 16 bytes: the cipher and its inverse; and what the modes of operation ask of any pair
+-- AES-256 under a key of 32 bytes, on blocks of 16 bytes (RULES 7.1): the cipher and its inverse; and what the modes of operation ask of any pair
 -- of functions on blocks.
 use mathlib.Core.Path.{_≡_}
 use mathlib.Core.List.{List}

@@ -1,4 +1,4 @@
--- FIPS 197, section 5.1: CIPHER, with 14 rounds (AES-256). A state is a list of 16 bytes in the order of the input (section 3.4); a key
+-- FIPS 197, section 5.1: CIPHER, with 14 rounds (RULES 7.1). A state is a list of 16 bytes in the order of the input (section 3.4); a key
 -- schedule is a list of 240 bytes, round key after round key.
 use Prim.Native.Nat.{ℕ, zero, suc, _+_, _*_, _/_, _%_}
 use mathlib.Core.List.{List, map}

@@ -1,4 +1,4 @@
--- FIPS 197, section 5.3: INVCIPHER, with 14 rounds (AES-256), over the same states and schedules as CIPHER.
+-- FIPS 197, section 5.3: INVCIPHER, with 14 rounds (RULES 7.1), over the same states and schedules as CIPHER.
 use Prim.Native.Nat.{ℕ, zero, suc, _+_, _-_, _%_}
 use mathlib.Core.List.{List, map}
 use Rattle.aes_field.specs.Field.{_⊕_, _•_, invSubByte}

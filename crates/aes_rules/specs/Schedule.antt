@@ -1,4 +1,4 @@
--- FIPS 197, section 5.2: KEYEXPANSION for a key of 32 bytes, 8 words of 4 bytes (AES-256). The schedule grows by a word at a time, from the
+-- FIPS 197, section 5.2: KEYEXPANSION for a key of 32 bytes, 8 words of 4 bytes (RULES 7.1). The schedule grows by a word at a time, from the
 -- key's 8 words to 60; it is a list of bytes, so word i begins at byte 4 * i.
 use Prim.Native.Nat.{ℕ, zero, suc, _-_, _/_, _%_}
 use mathlib.Core.Bool.{Bool, true, false}
@@ -31,7 +31,7 @@ abbrev pub changed : ℕ → List ℕ → List ℕ
 changed i temp =
     choose (eqb (i % 8) 0) (xorBytes (subWord (rotWord temp)) (rcon (i / 8))) (choose (eqb (i % 8) 4) (subWord temp) temp)
 
--- the word that begins at byte m of a schedule, and the word behind a schedule: word i - 8 with the changed word i - 1 added
+-- the word that begins at byte m of a schedule, and the word after a schedule: word i - 8 with the changed word i - 1 added
 abbrev pub wordAt : List ℕ → ℕ → List ℕ
 wordAt w m = take 4 (drop m w)
 

@@ -118,7 +118,7 @@ fn with_value(e: Entry, kind: u8, x: TextSpan) -> Entry {
     r
 }
 
-// A line that holds a value, which stands at x; a line of an unknown name, or of a value that the entry has already, is a fault.
+// A line that holds a value, which is at x; a line of an unknown name, or of a value that the entry has already, is a fault.
 fn take_value(name: &[u8], st: State, kind: u8, x: TextSpan, at: usize) -> State {
     let e = st.entry;
     let t = st.tally;

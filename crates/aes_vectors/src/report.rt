@@ -41,7 +41,7 @@ fn say_bytes(bytes: &[u8]) {
     say(b" bytes)\n");
 }
 
-// A part of the file as it stands.
+// A part of the file as it is.
 fn say_span(s: &[u8], x: TextSpan) {
     let start = x.start;
     let end = x.end;

@@ -17,7 +17,7 @@ pub const CBC: u8 = 1;
 
 const TEXT_MAX_BYTES: usize = 64;
 
-// Where the values of an entry stand in the file.
+// Where the values of an entry are in the file.
 pub struct Entry {
     pub section: u8,
     pub count: TextSpan,
@@ -47,7 +47,7 @@ pub fn is_empty(e: Entry) -> bool {
         & text::is_none(e.cipher)
 }
 
-// Reads the hexadecimal text of a span into all of `out`; answers whether that is what stands there.
+// Reads the hexadecimal text of a span into all of `out`; answers whether that is what is there.
 fn read_hex(s: &[u8], x: TextSpan, out: &mut [u8]) -> bool {
     let start = x.start;
     let end = x.end;

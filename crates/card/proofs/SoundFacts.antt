@@ -77,7 +77,7 @@ reset-sound c e = ⊎-elim
     (λ a. sound-after (resetOf c) (record { flag = a .flag; parts = parts-reset c (a .parts) }))
     (sound-cases c e)
 
--- ---- withSecrets: any digits may stand for PIN and PUK
+-- ---- withSecrets: any digits may be PIN and PUK
 pub secrets-sound : (c : Card) (pin puk : List ℕ) → allOf isDigit pin ≡ true → allOf isDigit puk ≡ true
     → isSound c ≡ true → c .initialised ≡ 1 → isSound (withSecrets pin puk c) ≡ true
 secrets-sound c pin puk d g e i = ⊎-elim

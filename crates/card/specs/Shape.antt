@@ -1,6 +1,6 @@
--- What the types say of a card: the number of slots, and the length in bytes of each array but the channel's three. Those are a session's,
--- and `Keyed` of crate `channel_rules` says their lengths. Every card that code holds has this shape; a theorem about all cards takes it as a
--- hypothesis.
+-- What the types say of a card (RULES 2.1): the number of slots, and the length in bytes of each array but the channel's three. Those are a
+-- session's, and `Keyed` of crate `channel_rules` says their lengths. Every card that code holds has this shape; a theorem about all cards
+-- takes it as a hypothesis.
 use mathlib.Core.Path.{_≡_}
 use mathlib.Core.List.{List, [], _∷_}
 use lib.ListN.{length}

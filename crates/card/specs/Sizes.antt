@@ -1,4 +1,4 @@
--- How many bytes each field of a card has, how many slots there are, and the size of each part as the sum of its fields' sizes.
+-- How many bytes each field of a card has, how many slots there are, and the size of each part as the sum of its fields' sizes (RULES 2.1).
 -- Every length of a card that another definition or a law names is one of these.
 use Prim.Native.Nat.{ℕ, _+_, _*_}
 
@@ -26,11 +26,11 @@ ivBytes = 16
 abbrev pub pathMostBytes : ℕ
 pathMostBytes = 40
 
--- ---- the number of pairing slots
+-- ---- the number of pairing slots (RULES 2.2)
 abbrev pub slotCount : ℕ
 slotCount = 5
 
--- ---- the parts, in bytes
+-- ---- the parts, in bytes (RULES 2.1)
 abbrev pub identityBytes : ℕ
 identityBytes = uidBytes + publicKeyBytes
 
@@ -62,6 +62,6 @@ sessionBytes = keyBytes + keyBytes + ivBytes
 abbrev pub channelBytes : ℕ
 channelBytes = 1 + sessionBytes
 
--- ---- the whole card: the flag of INIT and the five parts
+-- ---- the whole card (RULES 2.1): the flag of INIT and the five parts
 abbrev pub cardBytes : ℕ
 cardBytes = 1 + identityBytes + pinsBytes + pairingBytes + keysBytes + channelBytes

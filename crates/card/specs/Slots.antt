@@ -27,6 +27,6 @@ allZero s = allOf isZero s
 abbrev pub isFree : Slot → Bool
 isFree s = isZero (s .filled)
 
--- the slot's flag is at most `most`, and the key of a free slot is zero
+-- the slot's flag is at most `most`, and the key of a free slot is zero (RULES 2.3)
 abbrev pub slotWithin : ℕ → Slot → Bool
 slotWithin most s = leb (s .filled) most && (not (isFree s) || allZero (s .key))

@@ -1,5 +1,5 @@
--- Which cards are sound: 01, Operations, the paragraph "Sound". Each line of a definition below is one rule of that
--- paragraph, read off one part of the card; `isSound` at the end puts the parts together.
+-- Which cards are sound (RULES 2.3). Each line of a definition below is one rule of that list, for one part of the card; `isSound` at the
+-- end puts the parts together.
 use Prim.Native.Nat.{ℕ, _%_}
 use mathlib.Core.Bool.{Bool, _&&_, _||_, not, cond}
 use lib.ListN.{drop}
@@ -22,7 +22,7 @@ isFlag b = leb b 1
 abbrev pub isDigit : ℕ → Bool
 isDigit b = leb 0x30 b && leb b 0x39
 
--- ---- an initialised card, part by part
+-- ---- an initialised card, part by part (RULES 2.3, rules 1 to 8)
 -- verified is a flag; PIN and PUK are digits; tries at most 3 and 5; verified only with 3 tries
 abbrev pub pinsSound : Pins → Bool
 pinsSound p =
@@ -69,7 +69,7 @@ partsSound c =
     && channelSound (c .channel)
     && (isZero (c .pairing .pending) || isZero (c .channel .stage))
 
--- ---- a pre-initialised card: all but the identity is zero
+-- ---- a pre-initialised card: all but the identity is zero (RULES 2.3, rule 9)
 abbrev pub pinsBlank : Pins → Bool
 pinsBlank p =
     (allZero (p .pin) && allZero (p .puk))

@@ -1,4 +1,4 @@
--- The card's constants, the fresh card, and the card at power-up. Every length is in bytes.
+-- The card's constants (RULES 2.2), the fresh card (RULES 3.3), and the card at power-up (RULES 3.4). Every length is in bytes.
 use Prim.Native.Nat.{ℕ, _-_}
 use mathlib.Core.Bool.{cond}
 use mathlib.Core.List.{List, [], _∷_, _++_}
@@ -14,21 +14,21 @@ use Rattle.card.specs.declared.Keys.{Keys}
 use Rattle.card.specs.declared.Channel.{Channel}
 use Rattle.card.specs.declared.Card.{Card}
 
--- the full tries of the PIN and of the PUK
+-- the full tries of the PIN and of the PUK (RULES 2.2)
 abbrev pub pinTries : ℕ
 pinTries = 3
 
 abbrev pub pukTries : ℕ
 pukTries = 5
 
--- the application's version, as SELECT answers it
+-- the application's version, as SELECT answers it (RULES 2.2)
 abbrev pub version : List ℕ
 version = 2 ∷ 0 ∷ []
 
 abbrev pub zeros : ℕ → List ℕ
 zeros n = replicate n 0
 
--- ---- the parts of a card that holds nothing but its identity
+-- ---- the parts of a card that holds nothing but its identity (RULES 3.3)
 abbrev pub noPins : Pins
 noPins = record { pin = zeros pinBytes; puk = zeros pukBytes; «pin_tries» = 0; «puk_tries» = 0; verified = 0 }
 
@@ -47,17 +47,19 @@ noKeys = record { kind = 0; uid = zeros keyBytes; current = emptyPath; pinless =
 abbrev pub closedOf : Channel
 closedOf = record { stage = 0; «enc_key» = zeros keyBytes; «mac_key» = zeros keyBytes; iv = zeros ivBytes }
 
--- ---- a path as GET STATUS answers it and the record holds it; the path of these bytes, as many as it has room for; and the key UID with a key, else nothing
+-- ---- a path as GET STATUS answers it and the record holds it (RULES 6.10)
 abbrev pub pathBytes : Path → List ℕ
 pathBytes p = take (p .len) (p .bytes)
 
+-- the path of these bytes, as many as it has room for (RULES 6.15)
 abbrev pub pathOf : List ℕ → Path
 pathOf s = record { len = length s; bytes = s ++ zeros (pathMostBytes - length s) }
 
+-- the key UID with a key, else nothing (RULES 9.5)
 abbrev pub keyUid : Keys → List ℕ
 keyUid k = cond (eqb (k .kind) 0) [] (k .uid)
 
--- FRESH (01, Operations): the card with this UID and public key, and all else zero
+-- FRESH (RULES 3.3): the card with this UID and public key, and all else zero
 abbrev pub freshOf : List ℕ → List ℕ → Card
 freshOf uid key = record {
   initialised = 0;
@@ -119,7 +121,7 @@ withChannel c k = record {
   channel = k;
 }
 
--- ---- the card with its channel closed: stage 0, the session's bytes zero
+-- ---- the card with its channel closed (RULES 3.4): stage 0, the session's bytes zero
 abbrev pub closed : Card → Card
 closed c = withChannel c closedOf
 
@@ -134,7 +136,7 @@ notPending p = record { secret = p .secret; slots = p .slots; pending = 0; expec
 abbrev pub forgotten : Card → Card
 forgotten c = withPairing c (notPending (c .pairing))
 
--- ---- power-up (01, Operations, RESET): the channel closed, the PIN not verified, no pending pairing
+-- ---- power-up (RULES 3.4): the channel closed, the PIN not verified, no pending pairing
 abbrev pub resetOf : Card → Card
 resetOf c = withPins (forgotten (closed c)) (unverified (c .pins))
 

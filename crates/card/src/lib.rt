@@ -1,4 +1,4 @@
-// The card: everything that it keeps, by value, as nested structs of bytes and byte arrays.
+// The card (RULES 2.1): everything that it keeps, by value, as nested structs of bytes and byte arrays.
 // Every field is a u8 or an array of u8, so the structs have one layout without padding; every length is in bytes.
 // Proved: a fresh card and a card at power-up are what their definitions say, field by field.
 ghost use mathlib.Core.Path.{_≡_};
@@ -159,7 +159,7 @@ impl Card {
 
     pub const VERSION: [u8; 2] = [2, 0];
 
-    // FRESH (01, Operations): a pre-initialised card with this UID and public key.
+    // FRESH (RULES 3.3): a pre-initialised card with this UID and public key.
     pub fn fresh(uid: [u8; UID_BYTES], public_key: [u8; PUBLIC_KEY_BYTES]) -> Card
         ensures { λ r. ⌜ r ≡ freshOf uid «public_key» ⌝ }
     {
@@ -211,7 +211,7 @@ impl Card {
         self
     }
 
-    // What power-up leaves of a card (01, Operations, RESET), without the question whether it is sound.
+    // What power-up leaves of a card (RULES 3.4), without the question whether it is sound.
     pub fn powered_up(mut self) -> Card
         ensures { λ r. ⌜ r ≡ resetOf self ⌝ }
     {

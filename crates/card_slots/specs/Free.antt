@@ -1,4 +1,4 @@
--- The first free slot of a list of any length, and what makes an answer the right one.
+-- The first free slot of a list of any length, which PAIR fills (RULES 6.8), and what makes an answer the right one.
 use Prim.Native.Nat.{ℕ, _+_, _<_}
 use mathlib.Core.Path.{_≡_}
 use mathlib.Core.Bool.{cond}
@@ -15,7 +15,7 @@ abbrev pub after : ℕ → Free → Free
 after k (At i) = At (k + i)
 after k Full = Full
 
--- the first slot, if it is free; else the first free one behind it
+-- the first slot, if it is free; else the first free one after it
 unfoldable pub firstFree : List Slot → Free
 firstFree [] = Full
 firstFree (s ∷ more) = cond (isFree s) (At 0) (after 1 (firstFree more))
@@ -26,7 +26,7 @@ pub record LeastFree (slots : List Slot) (i : ℕ) : Type 0 where
   pub free : getD slots i freeSlot .filled ≡ 0
   pub below : (k : ℕ) → k < i → getD slots k freeSlot .filled ≡ 0 → ⊥
 
--- what each answer says of the slots (01, Commands, PAIR): the least index of a free one, which PAIR fills and answers; or that none is free,
+-- what each answer says of the slots (RULES 6.8): the least index of a free one, which PAIR fills and answers; or that none is free,
 -- for which PAIR answers 6A84
 abbrev pub Says : List Slot → Free → Type 0
 Says slots (At i) = LeastFree slots i

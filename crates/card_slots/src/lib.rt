@@ -13,7 +13,7 @@ pub enum Free {
     Full,
 }
 
-// The search stops at the first free slot (01, Commands, PAIR).
+// The search stops at the first free slot (RULES 6.8).
 pub fn first_free(slots: [Slot; Card::SLOTS]) -> Free
     ensures { λ r. ⌜ (r ≡ firstFree slots) × Says slots r ⌝ }
 {

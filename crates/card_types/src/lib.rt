@@ -13,7 +13,7 @@ use card::Path;
 use card::Pins;
 use card::Slot;
 
-// Each part as it is, or for the slots how many there are: what counts is what the type says of it.
+// Each function gives its argument back, or counts the slots. Its contract is what the type says of it.
 fn slot_shaped(s: Slot) -> Slot
     ensures { λ _. ⌜ length (s .key) ≡ keyBytes ⌝ }
 {

@@ -145,7 +145,7 @@ pub record Exchanged (s : Session) (header d p : List ℕ) (sent : Out) (card : 
   pub answer : got .bytes ≡ p
   pub same : got .session ≡ withIv card (fieldMac card responseHead p)
 
--- the card's session behind the command that it opened
+-- the card's session after the command that it opened
 abbrev pub cardAfter : Session → List ℕ → Session
 cardAfter s command = withIv s (take 16 (drop 5 command))
 

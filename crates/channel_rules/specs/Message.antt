@@ -1,5 +1,5 @@
--- The sealed message (01, The sealed message). A field is a MAC of 16 bytes with the ciphertext straight behind it. Every length, Lc and
--- Lr included, is a number of bytes.
+-- The sealed message (RULES 8). A field is a MAC of 16 bytes and directly after it the ciphertext. Every length, Lc and Lr included, is a
+-- number of bytes.
 use Prim.Native.Nat.{ℕ, _+_, _-_, _%_}
 use mathlib.Core.Bool.{Bool, true, false, _&&_}
 use mathlib.Core.List.{List, [], _∷_, _++_}
@@ -15,45 +15,46 @@ use Rattle.channel_rules.specs.declared.Session.{Session}
 use Rattle.channel_rules.specs.declared.Opening.{Opening}
 use Rattle.channel_rules.specs.declared.Opening.the-variants as opening
 
--- a session as the code holds it: keys of 32 bytes and an IV of 16 bytes. Every value of the code's type is one (crate `channel_types`)
+-- a session as the code holds it (RULES 8.1): keys of 32 bytes and an IV of 16 bytes. Every value of the code's type is one (crate
+-- `channel_types`)
 pub record Keyed (s : Session) : Type 0 where
   pub enc : Key (s .«enc_key»)
   pub mac : Key (s .«mac_key»)
   pub iv : Block (s .iv)
 
--- the IV is the MAC of the latest message that was sealed or opened at this end
+-- the IV is the MAC of the latest message that was sealed or opened at this end (RULES 8.1)
 abbrev pub withIv : Session → List ℕ → Session
 withIv s mac = record { «enc_key» = s .«enc_key»; «mac_key» = s .«mac_key»; iv = mac }
 
--- Lc of a command and Lr of a response each count the MAC and the ciphertext. n is the ciphertext's length
+-- Lc of a command and Lr of a response each count the MAC and the ciphertext (RULES 8.2). n is the ciphertext's length
 abbrev pub lc : ℕ → ℕ
 lc n = 16 + n
 
 abbrev pub lr : ℕ → ℕ
 lr n = 16 + n
 
--- the head block of a command with the header CLA INS P1 P2, and of a response, for a ciphertext of n bytes
+-- the head block of a command with the header CLA INS P1 P2, and of a response, for a ciphertext of n bytes (RULES 8.2)
 abbrev pub commandHead : List ℕ → ℕ → List ℕ
 commandHead header n = header ++ (lc n ∷ replicate 11 0)
 
 abbrev pub responseHead : ℕ → List ℕ
 responseHead n = lr n ∷ replicate 15 0
 
--- the ciphertext of data, and the MAC over a head block and a ciphertext
+-- the ciphertext of data, and the MAC over a head block and a ciphertext (RULES 8.3)
 unfoldable pub ciphertext : Session → List ℕ → List ℕ
 ciphertext s data′ = cbcEncrypt (aes256 (s .«enc_key»)) (s .iv) (pad data′)
 
 unfoldable pub macOf : Session → List ℕ → List ℕ → List ℕ
 macOf s head c = cbcMac (aes256 (s .«mac_key»)) (head ++ c)
 
--- sealing: the field of data, under a head block that depends on the ciphertext's length
+-- sealing (RULES 8.3): the field of data, under a head block that depends on the ciphertext's length
 abbrev pub fieldMac : Session → (ℕ → List ℕ) → List ℕ → List ℕ
 fieldMac s head data′ = macOf s (head (length (ciphertext s data′))) (ciphertext s data′)
 
 unfoldable pub sealField : Session → (ℕ → List ℕ) → List ℕ → List ℕ
 sealField s head data′ = fieldMac s head data′ ++ ciphertext s data′
 
--- opening, in this order: the field's length, 32 to 240 and a multiple of 16; the MAC; the padding
+-- opening (RULES 8.4), in this order: the field's length, 32 to 240 and a multiple of 16; the MAC; the padding
 abbrev pub provided : Bool → Option (List ℕ) → Option (List ℕ)
 provided true x = x
 provided false x = none
@@ -74,8 +75,8 @@ abbrev pub openingOf : Option (List ℕ) → Opening
 openingOf (some data′) = opening.Bytes (length data′)
 openingOf none = opening.Refused
 
--- an opening in 01's terms: the opened data; and where there is none, what each end gives in its place, the card the status word 6982 (01, Order
--- of checks, step 4) and UNSEAL its refusal 7
+-- what an opening means at each end (RULES 8.4): the opened data; where there is none, the card gives the status word 6982 (RULES 5.4) and
+-- UNSEAL its refusal 7 (RULES 8.7)
 pub record OpeningOut : Type 0 where
   pub bytes : List ℕ
   pub word : Option ℕ

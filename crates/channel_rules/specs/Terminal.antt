@@ -1,4 +1,4 @@
--- What the terminal's two operations give (01, Operations and numbered refusals; The sealed message), and what a response looks like.
+-- What the terminal's two operations give (RULES 8.6, 8.7), and what a sealed response looks like (RULES 8.5).
 use Prim.Native.Nat.{ℕ, _+_, _-_}
 use mathlib.Core.Bool.{Bool, true, false, _&&_, cond}
 use mathlib.Core.List.{List, [], _∷_, _++_}
@@ -17,11 +17,11 @@ pub record Out : Type 0 where
   pub session : Session
   pub bytes : List ℕ
 
--- a refusal gives back the session and writes nothing
+-- a refusal gives back the session and writes nothing (RULES 3.2)
 abbrev pub refused : Session → ℕ → Out
 refused s number = record { refusal = number; session = s; bytes = [] }
 
--- SEAL: the header, Lc, and the sealed field; room and data are counted in bytes
+-- SEAL (RULES 8.6): the header, Lc, and the sealed field; room and data are counted in bytes
 abbrev pub sealedCommand : Session → List ℕ → List ℕ → List ℕ
 sealedCommand s header data′ = header ++ (lc (length (ciphertext s data′)) ∷ sealField s (commandHead header) data′)
 
@@ -31,14 +31,14 @@ sealOut s header data′ room =
     (cond (ltb dataMost (length data′)) (refused s dataLong)
     (record { refusal = noRefusal; session = withIv s (fieldMac s (commandHead header) data′); bytes = sealedCommand s header data′ }))
 
--- a response in stage 2: the field of data and status word, then 9000 in the clear
+-- a response in stage 2 (RULES 8.5): the field of data and status word, then 9000 in the clear
 abbrev pub plainSuccess : List ℕ
 plainSuccess = 0x90 ∷ 0x00 ∷ []
 
 unfoldable pub sealedResponse : Session → List ℕ → List ℕ
 sealedResponse s plain = sealField s responseHead plain ++ plainSuccess
 
--- UNSEAL: genuine is a response that ends in 9000 and whose field opens to two bytes or more
+-- UNSEAL (RULES 8.7): genuine is a response that ends in 9000 and whose field opens to two bytes or more
 abbrev pub sealedField : List ℕ → List ℕ
 sealedField response = take (length response - 2) response
 

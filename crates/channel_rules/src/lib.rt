@@ -11,7 +11,7 @@ pub const FIELD_MIN_BYTES: usize = 32;
 
 pub const FIELD_MAX_BYTES: usize = 240;
 
-// A session of the channel, as one end holds it: the encryption key, the MAC key, and the IV of the next message.
+// A session of the channel (RULES 8.1), as one end holds it: the encryption key, the MAC key, and the IV of the next message.
 #[repr(C)]
 pub struct Session {
     pub enc_key: [u8; 32],

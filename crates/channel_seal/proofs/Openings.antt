@@ -1,4 +1,4 @@
--- What an opening's answer says of the option that it stands for, and of the field. Lengths are in bytes.
+-- What an opening's answer says of the option that it means, and of the field. Lengths are in bytes.
 -- Assumes nothing.
 use mathlib.Core.Path.{_≡_, refl, sym, _∙_}
 use mathlib.Core.List.{List}

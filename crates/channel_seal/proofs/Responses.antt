@@ -1,4 +1,4 @@
--- The buffer through the sealing of a response: data and status word put behind the MAC's place, the field sealed, 9000 put behind it.
+-- The buffer through the sealing of a response: data and status word put after the MAC's place, the field sealed, 9000 put after it.
 -- Assumes nothing.
 use mathlib.Core.Path.{_≡_, refl, sym, ap, ap₂, _∙_}
 use mathlib.Core.List.{List, _++_}

@@ -10,7 +10,7 @@ use Rattle.octets.specs.Bytes.{overwrite}
 use Rattle.aes_padding.specs.Padding.{paddedBytes, pad}
 use Rattle.aes_padding.proofs.Laws.{length-pad, padded-larger}
 
--- a part from byte a to the end is all that stands behind a
+-- a part from byte a to the end is all that follows a
 pub tail-is : (a : ℕ) (xs : List ℕ) → take (length xs - a) (drop a xs) ≡ drop a xs
 tail-is a xs = take-all (length xs - a) (drop a xs) (omega (arith, length-drop a xs))
 
@@ -67,7 +67,7 @@ module _ (B : List ℕ) (n p : ℕ) (ep : p ≡ paddedBytes n) (room : 16 + padd
     enciphered =
         ap₂ (λ (m : ℕ) (t : List ℕ). take m t) count B₂-tail ∙ take-at y₂ (drop (paddedBytes n) (drop 16 B)) (paddedBytes n) (l₂ ∙ lent-whole)
 
-    -- and in the end stand the MAC, the ciphertext, and what stood behind
+    -- and in the end there are the MAC, the ciphertext, and what was after them
     pub sealed : (mac : List ℕ) → length mac ≡ 16 → overwrite B₂ 0 mac ≡ (mac ++ y₂) ++ drop (16 + paddedBytes n) B
     sealed mac l =
         ap (λ (m : ℕ). mac ++ drop (0 + m) B₂) l

@@ -1,4 +1,4 @@
--- What the card's side of sealing and opening promises, as records whose parts have names. Lengths are in bytes.
+-- What the card's side of sealing (RULES 8.3, 8.5) and opening (RULES 8.4) promises, as records whose parts have names. Lengths are in bytes.
 use Prim.Native.Nat.{ℕ, _+_, _≤_}
 use mathlib.Core.List.{List, _++_}
 use mathlib.Core.Option.{Option, some}
@@ -12,22 +12,22 @@ use Rattle.channel_rules.specs.Message.{withIv, responseHead, ciphertext, macOf
 use Rattle.channel_rules.specs.Terminal.{sealedResponse}
 use Rattle.channel_seal.specs.declared.Response.{Response}
 
--- n bytes of data that stood 16 bytes into the buffer were sealed there under a head block: the MAC is the answer and stands first, the
--- ciphertext straight behind it, and what stands behind the field is kept
+-- n bytes of data, 16 bytes into the buffer, were sealed there under a head block: the MAC is the answer and comes first, the ciphertext
+-- directly after it, and the bytes after the field are kept
 pub record FieldSealed (s : Session) (head : List ℕ) (n : ℕ) (before mac after : List ℕ) : Type 0 where
   pub told : mac ≡ macOf s head (ciphertext s (take n (drop 16 before)))
   pub left : after ≡ (mac ++ ciphertext s (take n (drop 16 before))) ++ drop (16 + paddedBytes n) before
   pub long : length (ciphertext s (take n (drop 16 before))) ≡ paddedBytes n
 
--- an opening gives the length of the opened data, at most 223 bytes, which stands at the start of `plain`; or that
--- there is none. `says` is that in 01's terms, with the number that stands for no data
+-- an opening gives the length of the opened data, at most 223 bytes, which are at the start of `plain`; or that there is none. `says` has
+-- the status word and the refusal that mean no data
 pub record Opens (data′ : Option (List ℕ)) (r : Opening) (plain : List ℕ) : Type 0 where
   pub told : r ≡ openingOf data′
   pub says : openingOut plain r ≡ fieldOut data′
   pub left : (x : List ℕ) → data′ ≡ some x → x ≡ take (length x) plain
   pub short : (x : List ℕ) → data′ ≡ some x → length x ≤ dataMost
 
--- a response's data and status word were sealed from the buffer's start, with 9000 in the clear behind them
+-- a response's data and status word were sealed from the buffer's start, with 9000 in the clear after them
 pub record ResponseSealed (s : Session) (plain : List ℕ) (before : List ℕ) (r : Response) (after : List ℕ) : Type 0 where
   pub count : r .count ≡ length (sealedResponse s plain)
   pub session : r .session ≡ withIv s (fieldMac s responseHead plain)

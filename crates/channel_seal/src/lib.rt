@@ -1,5 +1,5 @@
 // Sealing and opening of a field: what both ends of the channel share, and the card's side.
-// Every length is in bytes: a field is a MAC of 16 with the ciphertext straight behind it, 32 to 240 in all.
+// Every length is in bytes: a field is a MAC of 16 with the ciphertext directly after it, 32 to 240 in all.
 // Proved: a field is sealed and opened as the definitions say, for every session and every content.
 ghost use mathlib.Core.Path.{_≡_};
 ghost use mathlib.Core.List.{[], _∷_, _++_};
@@ -29,7 +29,7 @@ pub struct Response {
     pub session: Session,
 }
 
-// Seals the data_bytes bytes that stand MAC_BYTES into buf: they are padded and enciphered where they stand, in the part of buf that is
+// Seals the data_bytes bytes that begin MAC_BYTES into buf: they are padded and enciphered in their place, in the part of buf that is
 // lent to the CBC routine, and the MAC over head and ciphertext is written in front of them. The answer is the MAC.
 pub fn seal_field(s: Session, head: [u8; 16], buf: &mut [u8], data_bytes: usize) -> [u8; 16]
     requires { ⌜ 16 + paddedBytes «data_bytes» ≤ length (now buf) ⌝ }
@@ -94,7 +94,7 @@ pub fn open_response(s: Session, field: &[u8], plain: &mut [u8]) -> Opening
     }
 }
 
-// Seals a response's data and status word, SW1 SW2, together from the buffer's start, and writes 9000 behind them.
+// Seals a response's data and status word, SW1 SW2, together from the buffer's start, and writes 9000 after them.
 pub fn seal_response(s: Session, response: &[u8], sw1: u8, sw2: u8, buf: &mut [u8]) -> Response
     requires { ⌜ (length (now response) ≤ 221) × (answerRoom ≤ length (now buf)) ⌝ }
     ensures { λ r. ⌜ ResponseSealed s (now (response .entry) ++ (sw1 ∷ sw2 ∷ [])) (now (buf .entry)) r (now (buf .exit)) ⌝ }

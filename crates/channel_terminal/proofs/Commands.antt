@@ -1,4 +1,4 @@
--- The buffer through SEAL: the data put behind the places of the front and of the MAC, the field sealed in the part of the buffer behind
+-- The buffer through SEAL: the data put after the places of the front and of the MAC, the field sealed in the part of the buffer after
 -- the front, and the front written.
 -- Assumes nothing.
 use mathlib.Core.Path.{_≡_, refl, sym, ap, ap₂, _∙_}
@@ -60,7 +60,7 @@ module _ (s : Session) (B B₁ Y B₃ header d head mac : List ℕ) (p : ℕ) (r
       more : 5 + (16 + paddedBytes (length d)) ≡ 21 + paddedBytes (length d)
       more = omega arith
 
-  -- the field, and what stands behind it
+  -- the field, and what follows it
   Y-is : Y ≡ (mac ++ ciphertext s d) ++ drop (21 + paddedBytes (length d)) B
   Y-is = field .left ∙ ap₂ (λ (x y : List ℕ). (mac ++ ciphertext s x) ++ y) part behind
 

@@ -1,4 +1,4 @@
--- UNSEAL's cases behind the opening of the field: nothing opened, too little opened, and the plaintext written.
+-- UNSEAL's cases after the opening of the field: nothing opened, too little opened, and the plaintext written.
 -- Assumes nothing.
 use mathlib.Core.Path.{_≡_, refl, sym, ap, ap₂, _∙_}
 use mathlib.Core.Bool.{Bool, false, cond}

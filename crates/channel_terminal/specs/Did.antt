@@ -1,5 +1,5 @@
--- What an operation of the terminal did, against what its definition gives: the refusal's number, the count of bytes written, the next
--- session, and every byte of the buffer.
+-- What an operation of the terminal did, against what its definition gives (RULES 3.2): the refusal's number, the count of bytes written, the
+-- next session, and every byte of the buffer.
 use Prim.Native.Nat.{ℕ}
 use mathlib.Core.List.{List, _++_}
 use mathlib.Core.Path.{_≡_}

@@ -1,4 +1,4 @@
-// The terminal's end of the channel: SEAL makes a whole sealed command, UNSEAL opens a response.
+// The terminal's end of the channel (RULES 8.6, 8.7): SEAL makes a whole sealed command, UNSEAL opens a response.
 // Every length, Lc included, is in bytes.
 // Proved: refusal, count, next session and every byte of the buffer are the definition's, for every input; nothing is required.
 ghost use mathlib.Core.Path.{_≡_};
@@ -22,7 +22,7 @@ use refusals::SEAL_DATA_MAX_BYTES;
 use refusals::SEAL_ROOM_BYTES;
 use refusals::UNSEAL_ROOM_BYTES;
 
-// CLA INS P1 P2 and Lc: what stands in front of the field, in bytes.
+// CLA INS P1 P2 and Lc: what comes before the field, in bytes.
 const FRONT_BYTES: usize = 5;
 
 // What an operation answers: the refusal's number or 0, how many bytes it wrote from the buffer's start, and the next session.

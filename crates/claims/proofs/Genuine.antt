@@ -43,7 +43,7 @@ opened-bytes s k head f d hf e =
     (k .iv) (bytes-drop 16 f hf) whole in
     subst (λ (x : List ℕ). Bytes x) (sym (unpad-front d plain unpads)) (bytes-take (length d) plain bytes)
 
--- ---- behind the test of the room: taken, and then the field opens to two bytes or more; or 7
+-- ---- after the test of the room: taken, and then the field opens to two bytes or more; or 7
 record Judged (s : Session) (opening : Option (List ℕ)) (o : Out) : Type 0 where
   pub numbers : (o .refusal ≡ 0) ⊎ (o .refusal ≡ 7)
   pub nothing : (o .refusal ≡ 0 → ⊥) → (o .session ≡ s) × (o .bytes ≡ [])

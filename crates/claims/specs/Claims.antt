@@ -1,4 +1,4 @@
--- The claims, to be read first: what 01 demands of the card, the terminal's end and the stored record, as one statement. Each field names a
+-- The claims, to be read first: what RULES 11 demands of the card, the terminal's end and the stored record, as one statement. Each field names a
 -- statement of this crate (Rows, RowsMet, WrongEngines, Refusals, Trips, Secrecy) or of crate `laws_exchange`; those cite nothing but
 -- definitions, and the code's contracts cite the same definitions. The proof is `claims` of proofs/Claims.
 use Rattle.laws_exchange.specs.Exchange.{Together}
@@ -10,14 +10,14 @@ use Rattle.claims.specs.Trips.{Trips}
 use Rattle.claims.specs.Secrecy.{Secrecy}
 
 pub record Claims : Type 0 where
-  -- demand 1: refusals, exactly when, and what a refusal leaves
+  -- demand 1 (RULES 11.1): refusals, exactly when, and what a refusal leaves
   pub refusals : Refusals
-  -- demand 2: round trips, agreement of ASK and ANSWER, soundness; terminal and card together
+  -- demand 2 (RULES 11.2): round trips, agreement of ASK and ANSWER, soundness; terminal and card together
   pub trips : Trips
   pub together : Together
-  -- demand 3: the two runs
+  -- demand 3 (RULES 11.3): the two runs
   pub secrecy : Secrecy
-  -- the rows to settle, what they suppose being met; and the wrong engines that the rules shut out
+  -- the rows to settle and that what they suppose is met (RULES 11.4); and the wrong engines that the rules shut out (RULES 11.5)
   pub rows : Rows
   pub rowsmet : RowsMet
   pub wrongengines : WrongEngines

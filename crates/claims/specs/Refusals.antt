@@ -1,5 +1,5 @@
--- Demand 1: which refusal each operation gives and exactly when, and that a refusal hands back what it was given and writes nothing (01,
--- Operations and numbered refusals). What an operation gives beside refusals is its definition. Every length and room is in bytes.
+-- Demand 1 (RULES 11.1): which refusal each operation gives and exactly when, and that a refusal hands back what it was given and writes
+-- nothing (RULES 3.2). What an operation gives beside refusals is its definition. Every length and room is in bytes.
 use Prim.Native.Nat.{ℕ, _≤_, _<_}
 use mathlib.Core.Path.{_≡_}
 use mathlib.Core.Bool.{true, false}

@@ -1,5 +1,5 @@
--- Rows to settle (01, the paragraph of that name): one table, each row a field of one claim about the defining rules. Byte values are hex
--- as in 01; every length and room is in bytes.
+-- Rows to settle (RULES 11.4): one table, each row a field of one claim about the defining rules. Byte values are hex; every length and room
+-- is in bytes.
 use Prim.Native.Nat.{ℕ, _≤_}
 use mathlib.Core.Path.{_≡_}
 use mathlib.Core.Bool.{true, false}
@@ -50,8 +50,8 @@ entered c v = v .sent .opens .arrived .data′
 abbrev pub after : (c : Card) → Entry c → Card
 after c v = next c (v .sent)
 
--- a sound card in stage 2 with three tries, and four entries in a row: three that are not its PIN, then its PIN. Each stands on the card
--- that ANSWER to the one before leaves
+-- a sound card in stage 2 with three tries, and four entries in a row: three that are not its PIN, then its PIN. Each is sent to
+-- the card that ANSWER to the one before leaves
 pub record Entries (c : Card) : Type 0 where
   pub sound : isSound c ≡ true
   pub stage : c .channel .stage ≡ 2

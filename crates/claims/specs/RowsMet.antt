@@ -1,5 +1,6 @@
--- What the rows to settle suppose is met, so that no row is empty: INIT that says 9000 is the call that the status row starts from, four
--- entries can be sealed for every card in stage 2, and from FRESH a terminal comes to read the status row. Every length is in bytes.
+-- What the rows to settle (RULES 11.4) suppose is met, so that no row is empty: INIT that says 9000 is the call that the status row starts
+-- from, four entries can be sealed for every card in stage 2, and from FRESH a terminal comes to read the status row. Every length is in
+-- bytes.
 use Prim.Native.Nat.{ℕ, _≤_}
 use mathlib.Core.Path.{_≡_}
 use mathlib.Core.Bool.{true, false}

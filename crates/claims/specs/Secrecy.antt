@@ -1,4 +1,4 @@
--- Demand 3: the two runs (01, The two runs of demand 3), one claim about the list of calls; and that it is not empty. The definitions of
+-- Demand 3: the two runs (RULES 11.3), one claim about the list of calls; and that it is not empty. The definitions of
 -- calls, runs and premise are those of crate `laws_two_runs`, Runs, and those of comparisons are the rulebook's, Comparison.
 use Prim.Native.Nat.{ℕ}
 use mathlib.Core.Path.{_≡_}
@@ -45,7 +45,7 @@ pub record Meets (comparisons : List (Option Comparison)) : Type 0 where
 pub record Secrecy : Type 0 where
   -- the claim
   pub runs : (calls : List Call) (c d : Card) → Premise c d calls → SameRuns c d calls
-  -- any digits may stand for PIN and PUK of a sound initialised card: the result is sound and agrees with it
+  -- any digits may be PIN and PUK of a sound initialised card: the result is sound and agrees with it
   pub digits : (c : Card) (p q : List ℕ) → allOf isDigit p ≡ true → allOf isDigit q ≡ true → isSound c ≡ true → c .initialised ≡ 1
       → (isSound (withSecrets p q c) ≡ true) × Agree c (withSecrets p q c)
   -- each stage and each kind of key is reached

@@ -1,5 +1,5 @@
--- Demand 2: what goes out comes back, what ASK says ANSWER does, soundness is kept, and the room asked for is enough. Terminal and card
--- together stand in crate `laws_exchange`, Exchange. Every length, room and count is in bytes.
+-- Demand 2 (RULES 11.2): what goes out comes back, what ASK says ANSWER does, soundness is kept, and the room asked for is enough. Terminal
+-- and card together are in crate `laws_exchange`, Exchange. Every length, room and count is in bytes.
 use Prim.Native.Nat.{ℕ, _+_, _≤_, _<_}
 use mathlib.Core.Path.{_≡_}
 use mathlib.Core.Bool.{Bool, true, false}
@@ -48,14 +48,14 @@ pub record Responses : Type 0 where
   pub example : (unsealOut zeroSession (sealedResponse zeroSession (0x90 ∷ 0x00 ∷ [])) 223 .refusal ≡ 0)
       × (unsealOut zeroSession (oldResponse zeroSession (0x90 ∷ 0x00 ∷ [])) 223 .refusal ≡ 7)
 
--- ---- the stored record: READ of WRITE is RESET, WRITE of READ is the record
+-- ---- the stored record (RULES 10.5): READ of WRITE is RESET, WRITE of READ is the record
 pub record Records : Type 0 where
   pub readwrite : (c : Card) (room : ℕ) → Shaped c → writeRefusal c room ≡ 0 → readAnswer (writeBytes c room) ≡ resetAnswer c
   pub writeread : (s : List ℕ) (room : ℕ) → readAnswer s .refusal ≡ 0 → writeRoom ≤ room
       → (writeRefusal (readAnswer s .card) room ≡ 0) × (writeBytes (readAnswer s .card) room ≡ s)
 
--- ---- WALK: fields one behind the other add up, and each template that a command answers has the fields that it is made of, where each length
--- fits its byte: its parts are at most as long as those of a card and of a supply
+-- ---- WALK (RULES 11.2): fields one after the other add up, and each template that a command answers has the fields that it is made of, where
+-- each length fits its byte: its parts are at most as long as those of a card and of a supply
 pub record Walks : Type 0 where
   pub joined : (s t : List ℕ) (m n : ℕ) → WALK s ≡ record { refusal = 0; count = m } → WALK t ≡ record { refusal = 0; count = n }
       → WALK (s ++ t) ≡ record { refusal = 0; count = m + n }
@@ -66,9 +66,9 @@ pub record Walks : Type 0 where
   pub signature : (key r s : List ℕ) → length key ≤ 65 → length r ≤ 32 → length s ≤ 32
       → WALK (signature key r s) ≡ record { refusal = 0; count = 3 }
 
--- ---- ASK and ANSWER, for a sound card and room for both. ASK gives the kind of the supply that the order of checks asks for, and exactly the
--- supplies of that one's form are taken. Kind 0: no supply is read, and ASK writes nothing. Another kind: ASK writes the data, opened where
--- they are sealed, of the command that comes to its checks
+-- ---- ASK and ANSWER (RULES 11.2), for a sound card and room for both. ASK gives the kind of the supply that the order of checks asks for,
+-- and exactly the supplies of that one's form are taken. Kind 0: no supply is read, and ASK writes nothing. Another kind: ASK writes the data,
+-- opened where they are sealed, of the command that comes to its checks
 pub record Agreement (c : Card) (cmd : List ℕ) (asks answers : ℕ) : Type 0 where
   pub kind : askOut c cmd asks .kind ≡ decide c cmd .supply .kind
   pub unread : askOut c cmd asks .kind ≡ 0 → (s t : List ℕ) → answerOut c cmd s answers ≡ answerOut c cmd t answers
@@ -78,14 +78,14 @@ pub record Agreement (c : Card) (cmd : List ℕ) (asks answers : ℕ) : Type 0 w
   pub taken : (s : List ℕ) → answerOut c cmd s answers .refusal ≡ 0 ↔ suits (decide c cmd .supply) s ≡ true
   pub told : (askOut c cmd asks .kind ≡ 0 → ⊥) → (a : Arrived) × (arrival c cmd ≡ goes a) × (askOut c cmd asks .bytes ≡ a .data′)
 
--- ---- every card that an operation gives is sound, if the one that it was given is
+-- ---- every card that an operation gives (RULES 2.4) is sound, if the one that it was given is
 pub record Soundness : Type 0 where
   pub fresh : (uid key : List ℕ) → isSound (freshOf uid key) ≡ true
   pub reset : (c : Card) → isSound c ≡ true → isSound (resetAnswer c .card) ≡ true
   pub read : (s : List ℕ) → isSound (readAnswer s .card) ≡ true
   pub answer : (c : Card) (cmd s : List ℕ) (room : ℕ) → isSound c ≡ true → isSound (answerOut c cmd s room .card) ≡ true
 
--- ---- the room that is asked for is enough: ASK and ANSWER write no more, and a record has its length
+-- ---- the room that is asked for is enough (RULES 11.2): ASK and ANSWER write no more, and a record has its length
 pub record Sizes : Type 0 where
   pub ask : (c : Card) (cmd : List ℕ) (room : ℕ) → Bytes cmd → isSound c ≡ true → 255 ≤ room → length (askOut c cmd room .bytes) ≤ 255
   pub answer : (c : Card) (cmd s : List ℕ) (room : ℕ) → Shaped c → length (answerOut c cmd s room .bytes) ≤ 242

@@ -1,4 +1,4 @@
--- The four wrong engines that demand 3 alone would let pass (01, What counts as a promise here): the rules shut out each of them.
+-- The four wrong engines that demand 3 alone would let pass (RULES 11.5): the rules shut out each of them.
 -- Every length and room is in bytes.
 use Prim.Native.Nat.{ℕ, _≤_}
 use mathlib.Core.Path.{_≡_}

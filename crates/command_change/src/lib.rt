@@ -1,4 +1,4 @@
-// CHANGE, of the PIN, the PUK or the pairing secret: the verdict of its checks, and its reply where they hold.
+// CHANGE (RULES 6.12), of the PIN, the PUK or the pairing secret: the verdict of its checks, and its reply where they hold.
 // Every length and count is in bytes.
 // Proved: the verdict and the reply are what the command's rule gives, for every card and all data.
 ghost use mathlib.Core.Path.{_≡_};

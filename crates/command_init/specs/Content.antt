@@ -1,4 +1,4 @@
--- INIT's content: what data and supply hold, and what a function that opens them promises.
+-- INIT's content (RULES 6.5): what data and supply hold, and what a function that opens them promises.
 -- Every length is in bytes.
 use Prim.Native.Nat.{ℕ}
 use mathlib.Core.Bool.{Bool, false, cond}
@@ -17,7 +17,7 @@ abbrev pub isRight : Option (List ℕ) → Bool
 isRight none = false
 isRight (some x) = isContent x
 
--- the answer is whether there is content that is right, which then stands at the start of `plain`
+-- the answer is whether there is content that is right, which is then at the start of `plain`
 pub record Found (o : Option (List ℕ)) (r : Bool) (plain : List ℕ) : Type 0 where
   pub told : r ≡ isRight o
   pub left : (x : List ℕ) → o ≡ some x → x ≡ take (length x) plain

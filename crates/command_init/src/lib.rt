@@ -1,4 +1,4 @@
-// INIT, which is plain in every stage: the verdict of its check, and its reply where that holds.
+// INIT (RULES 6.5), which is plain in every stage: the verdict of its check, and its reply where that holds.
 // Every length and count is in bytes.
 // Proved: the verdict and the reply are what the command's rule gives, for every card, data and supply.
 ghost use mathlib.Core.Path.{_≡_};
@@ -88,7 +88,7 @@ fn is_content(content: &[u8]) -> bool
     pin & puk
 }
 
-// Deciphers the bytes where they stand, and looks whether they hold content that is right, which then stands at their start.
+// Deciphers the bytes in their place, and looks whether they hold content that is right, which is then at their start.
 fn decipher(key: [u8; KEY_BYTES], iv: [u8; IV_BYTES], plain: &mut [u8]) -> bool
     requires { ⌜ length (now plain) ≡ 64 ⌝ }
     ensures { λ r. ⌜ Found (unpad (cbcDecrypt (invAes256 key) iv (now (plain .entry)))) r (now (plain .exit)) ⌝ }

@@ -1,4 +1,4 @@
-// LOAD and REMOVE: for each the verdict of its checks, and its reply where they hold.
+// LOAD (RULES 6.14) and REMOVE (RULES 6.16): for each the verdict of its checks, and its reply where they hold.
 // Every length and count is in bytes.
 // Proved: each verdict, reply and byte of the buffer is what the command's rule gives, for every card, data and supply.
 ghost use mathlib.Core.Bool.{true};

@@ -1,4 +1,4 @@
-// MUTUAL: the verdict of its checks, and its reply where they hold.
+// MUTUAL (RULES 6.7): the verdict of its checks, and its reply where they hold.
 // Every length and count is in bytes.
 // Proved: the verdict, the reply and every byte of the buffer are what the command's rule gives, for every card, data and supply.
 ghost use mathlib.Core.Path.{_≡_};

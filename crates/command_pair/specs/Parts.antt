@@ -1,4 +1,4 @@
--- What a function promises: that a slot is the one that the search found. A slot's index counts slots from 0.
+-- What a function promises (RULES 6.8): that a slot is the one that the search found. A slot's index counts slots from 0.
 use Prim.Native.Nat.{ℕ}
 use mathlib.Core.List.{List}
 use mathlib.Core.Path.{_≡_}

@@ -1,4 +1,4 @@
-// PAIR, first and final, which are plain in every stage: for each the verdict of its checks, and its reply where they hold.
+// PAIR (RULES 6.8), first and final, which are plain in every stage: for each the verdict of its checks, and its reply where they hold.
 // Every length and count is in bytes; a slot's index counts slots from 0.
 // Proved: each verdict, reply and byte of the buffer is what the step's rule gives, for every card, data and supply.
 ghost use mathlib.Core.Path.{_≡_};

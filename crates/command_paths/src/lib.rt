@@ -1,4 +1,4 @@
-// DERIVE and SET PIN-LESS PATH: for each the verdict of its checks, and its reply where they hold.
+// DERIVE (RULES 6.15) and SET PIN-LESS PATH (RULES 6.17): for each the verdict of its checks, and its reply where they hold.
 // Every length and count is in bytes.
 // Proved: each verdict and reply is what the command's rule gives, for every card, data and supply.
 ghost use mathlib.Core.Bool.{true};

@@ -1,4 +1,4 @@
--- How many bytes of the key UID SELECT answers.
+-- How many bytes of the key UID SELECT answers (RULES 9.5).
 use Prim.Native.Nat.{ℕ}
 use mathlib.Core.Bool.{cond}
 use Rattle.card.specs.Slots.{isZero}

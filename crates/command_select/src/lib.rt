@@ -1,4 +1,4 @@
-// SELECT, which is plain in every stage: the verdict of its check, and its reply where that holds.
+// SELECT (RULES 6.4), which is plain in every stage: the verdict of its check, and its reply where that holds.
 // Every length and count is in bytes; slots are counted in slots.
 // Proved: the verdict, the reply and every byte of the buffer are what the command's rule gives, for every card and data.
 ghost use mathlib.Core.Path.{_≡_};

@@ -1,4 +1,4 @@
-// SIGN: the verdict of its checks, and its reply where they hold.
+// SIGN (RULES 6.18): the verdict of its checks, and its reply where they hold.
 // Every length and count is in bytes.
 // Proved: the verdict, the reply and every byte of the buffer are what the command's rule gives, for every card whose paths fit.
 ghost use mathlib.Core.Bool.{true};

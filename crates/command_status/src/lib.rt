@@ -1,4 +1,4 @@
-// GET STATUS, which has no checks of its own: its verdict and its reply.
+// GET STATUS (RULES 6.10), which has no checks of its own: its verdict and its reply.
 // Every length and count is in bytes.
 // Proved: the verdict, the reply and every byte of the buffer are what the command's rule gives, for every card whose current path fits.
 ghost use mathlib.Core.Path.{_≡_};

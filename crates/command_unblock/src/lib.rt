@@ -1,4 +1,4 @@
-// UNBLOCK: the verdict of its checks, and its reply where they hold.
+// UNBLOCK (RULES 6.13): the verdict of its checks, and its reply where they hold.
 // Every length and count is in bytes.
 // Proved: the verdict and the reply are what the command's rule gives, for every card and all data.
 ghost use mathlib.Core.Path.{_≡_};

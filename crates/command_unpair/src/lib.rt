@@ -1,4 +1,4 @@
-// UNPAIR: the verdict of its check, and its reply where that holds.
+// UNPAIR (RULES 6.9): the verdict of its check, and its reply where that holds.
 // A slot's index counts slots from 0; an index that no slot has changes nothing.
 // Proved: the verdict and the reply are what the command's rule gives, for every card and every index.
 ghost use mathlib.Core.Path.{_≡_};

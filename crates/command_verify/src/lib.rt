@@ -1,4 +1,4 @@
-// VERIFY: the verdict of its check, and its reply where that holds.
+// VERIFY (RULES 6.11): the verdict of its check, and its reply where that holds.
 // Every length and count is in bytes.
 // Proved: the verdict and the reply are what the command's rule gives, for every card and all data.
 ghost use mathlib.Core.Path.{_≡_};

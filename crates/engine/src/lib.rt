@@ -12,7 +12,7 @@ use refusals::ASK_ROOM_BYTES;
 use refusals::REFUSAL_ROOM;
 use refusals::REFUSAL_UNSOUND;
 
-// ANSWER (01, Operations): response data then status word from the buffer's start, and the next card.
+// ANSWER (RULES 3.6): response data then status word from the buffer's start, and the next card.
 pub fn answer(card: Card, cmd: &[u8], supply: &[u8], buf: &mut [u8]) -> Answered
     ensures { λ r. ⌜ AnswerDid (answerOut card (now (cmd .entry)) (now (supply .entry)) (length (now (buf .entry)))) r
         (now (buf .entry)) (now (buf .exit)) ⌝ }
@@ -26,7 +26,7 @@ pub fn answer(card: Card, cmd: &[u8], supply: &[u8], buf: &mut [u8]) -> Answered
     engine_sound::refused(card, REFUSAL_UNSOUND)
 }
 
-// ASK (01, Operations): which supply ANSWER will read, with the command's data for it from the buffer's start.
+// ASK (RULES 3.5): which supply ANSWER will read, with the command's data for it from the buffer's start.
 pub fn ask(card: Card, cmd: &[u8], buf: &mut [u8]) -> Asked
     ensures { λ r. ⌜ AskDid (askOut card (now (cmd .entry)) (length (now (buf .entry)))) r (now (buf .entry)) (now (buf .exit)) ⌝ }
 {

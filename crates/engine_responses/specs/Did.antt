@@ -1,4 +1,4 @@
--- What ASK and ANSWER promise: the numbers and the card that they report, and every byte of the buffer.
+-- What ASK and ANSWER promise: the numbers and the card that they report, and every byte of the buffer (RULES 3.2).
 use Prim.Native.Nat.{ℕ}
 use mathlib.Core.Path.{_≡_}
 use mathlib.Core.List.{List, _++_}

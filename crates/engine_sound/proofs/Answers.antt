@@ -25,7 +25,7 @@ use Rattle.engine_responses.specs.declared.Asked.{Asked}
 use Rattle.engine_responses.specs.Did.{AskDid, AnswerDid, replyWith}
 use Rattle.engine_responses.proofs.Writing.{put-first}
 
--- ---- ANSWER, past soundness and room
+-- ---- ANSWER of a sound card, with room enough
 module _ (c : Card) (want : Decision) (r : Way) (d s : List ℕ) (h : Routes want r d) where
   decided : (b : Bool) → r .goes ≡ b → want ≡ cond b
       (record { supply = r .supply; data′ = d; answer = λ s. tell (r .over) (replyOf (r .command) (r .card) d s) })

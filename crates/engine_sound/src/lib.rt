@@ -1,4 +1,4 @@
-// ASK and ANSWER past soundness and room: the route is walked, and a supply that is read must have its form.
+// ASK and ANSWER of a sound card, with room enough: the route is walked, and a supply that is read must have its form.
 // Every length, room and count is in bytes.
 // Proved: refusal, kind, count, next card and every byte of the buffer are what the rulebook's decision gives.
 ghost use mathlib.Core.Path.{_≡_};

@@ -1,4 +1,4 @@
--- Steps 1 to 5 by cases: where they stop and with what, and what they have seen to where a command comes to its own checks; and that a sealed
+-- Steps 1 to 5 by cases: where they stop and with what, and what they have established where a command comes to its own checks; and that a sealed
 -- command which each of them passes comes there.
 -- Assumes nothing.
 use mathlib.Core.Path.{_≡_, refl, sym, ap, _∙_, subst}
@@ -171,7 +171,7 @@ step1-stage cmd c e = by-test (λ (k : Card). k .channel .stage ≡ 1 → ⊥) (
     not-one = by-test (λ (k : Card). k .channel .stage ≡ 1 → ⊥) (eqb (c .channel .stage) 1 && not (begins 0x11 cmd))
         (λ t z. omega arith) (λ t z. false≢true (sym (rw (z, e) at t)))
 
--- ---- what `Ready` says is so behind steps 1 to 4
+-- ---- what `Ready` says is so after steps 1 to 4
 module _ (cmd : List ℕ) (c : Card) (x : At cmd (step1 cmd c)) where
   abbrev behind : Card
   behind = step1 cmd c

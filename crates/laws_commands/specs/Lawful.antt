@@ -1,5 +1,5 @@
 -- What the theorems about the engine need of a command's rule, and of an instruction's row: nothing else about a single command is used above.
--- Each command's proof of it stands in proofs/ChannelCommands, PinCommands or KeyCommands, and proofs/Table has one line an instruction.
+-- Each command's proof of it is in proofs/ChannelCommands, PinCommands or KeyCommands, and proofs/Table has one line an instruction.
 -- Every length is in bytes.
 use mathlib.Core.Path.{_≡_}
 use mathlib.Core.Bool.{Bool, true, false}
@@ -28,7 +28,7 @@ pub record Fit (g c : Card) : Type 0 where
   pub sound : isSound c ≡ true
   pub shaped : Shaped g → Shaped c
 
--- ---- what steps 1 to 4 have seen to where a command of this instruction comes to its own checks, on the card that it is given there
+-- ---- what steps 1 to 4 have established where a command of this instruction comes to its own checks, on the card that it is given there
 pub record Ready (i : Instruction) (c : Card) : Type 0 where
   pub offer : offered (rowOf i .offer) (isInitialised c) ≡ true
   pub pending : (rowOf i .byte ≡ 0x12 → ⊥) → c .pairing .pending ≡ 0

@@ -1,4 +1,4 @@
--- When ASK and ANSWER refuse, by number, and what a refusal gives (01, Operations and numbered refusals).
+-- When ASK and ANSWER refuse, by number, and what a refusal gives (RULES 3.2).
 -- Assumes nothing.
 use mathlib.Core.Path.{_≡_, refl, sym, _∙_}
 use mathlib.Core.Bool.{Bool, true, false, cond}

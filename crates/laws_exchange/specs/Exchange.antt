@@ -1,4 +1,4 @@
--- Terminal and card together (01, The sealed message; Order of checks, step 4): SEAL makes a command, ANSWER answers it, UNSEAL opens the
+-- Terminal and card together (RULES 11.2): SEAL makes a command, ANSWER answers it, UNSEAL opens the
 -- answer, the terminal starting with the card's own session. What each gives is their own definition. Every length and room is in bytes.
 use Prim.Native.Nat.{ℕ, _≤_}
 use mathlib.Core.Path.{_≡_}
@@ -74,7 +74,7 @@ pub record Names (c : Card) (header : List ℕ) : Type 0 where
   pub stage : inStage instruction (c .channel .stage) ≡ true
   pub listed : rowOf instruction .lists (p1Of header) (p2Of header) ≡ some command
 
--- the card behind the opening: its IV is the MAC of the command
+-- the card after the opening: its IV is the MAC of the command
 abbrev pub opened : Card → Turn → Card
 opened c t = withMac c (sealedBy (sessionOf (c .channel)) t .session .iv)
 

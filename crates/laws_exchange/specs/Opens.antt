@@ -1,4 +1,4 @@
--- A command over the channel that comes to its own checks, and what its definition then answers (01, Order of checks for a command, step 6).
+-- A command over the channel that comes to its own checks, and what its definition then answers (RULES 5.6).
 -- Every length is in bytes.
 use Prim.Native.Nat.{ℕ}
 use mathlib.Core.Path.{_≡_}

@@ -1,6 +1,6 @@
 -- What a comparison has to do with the answer: where none is made, the answer and the next card but for PIN and PUK do not depend on PIN and
 -- PUK; where one is made, the call is not refused, and its answer is the one that the command's rule has for right or for wrong, since the
--- comparison is read off that rule where its checks hold.
+-- comparison follows from that rule where its checks hold.
 -- Assumes nothing.
 use mathlib.Core.Path.{_≡_, refl, sym, ap, _∙_, subst}
 use mathlib.Core.Bool.{Bool, true, false}

@@ -1,5 +1,5 @@
--- What 01 says of comparisons is what the rulebook's `comparison` reads off the rules: VERIFY and UNBLOCK are the two commands whose rules
--- compare, and their checks are those that 01 names.
+-- What RULES 6.3 says of comparisons is what the rulebook's `comparison` gives: VERIFY and UNBLOCK are the two commands whose rules compare,
+-- and their checks are those that RULES names.
 -- Assumes nothing.
 use mathlib.Core.Path.{_≡_, refl, ap, _∙_, subst}
 use mathlib.Core.Bool.{Bool, true, false}

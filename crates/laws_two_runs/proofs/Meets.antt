@@ -29,7 +29,7 @@ use Rattle.laws_two_runs.specs.Runs.{Call, answer, comparisonAt, Agree, 
 use Rattle.laws_two_runs.proofs.Erasure.{erase-agree}
 use Rattle.laws_two_runs.proofs.Sealed.{InStage2, sealedFor, verify-at, unblock-at}
 
--- ---- any digits may stand for PIN and PUK
+-- ---- any digits may be PIN and PUK
 module _ (c : Card) (p q : List ℕ) where
   pub secrets-agree : Agree c (withSecrets p q c)
   secrets-agree = erase-agree c (withSecrets p q c) refl

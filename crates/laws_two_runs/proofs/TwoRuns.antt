@@ -1,4 +1,4 @@
--- Demand 3 (01, The two runs of demand 3): two runs of one list of calls, from sound cards that agree in all but PIN and PUK, show the same at
+-- Demand 3 (RULES 11.3): two runs of one list of calls, from sound cards that agree in all but PIN and PUK, show the same at
 -- every call and end with cards that agree, if their comparisons come out alike wherever both make one: call by call, by the law for one call.
 -- Assumes nothing.
 use mathlib.Core.Path.{_≡_, refl, sym, ap₂, subst}

@@ -1,5 +1,5 @@
--- What 01 says of comparisons (01, Commands, the end of UNBLOCK), sentence by sentence, beside the rulebook's `comparison`, which reads them off
--- the order of checks and the rules (proofs/Comparisons: the two are the same). Every length is in bytes.
+-- What RULES 6.3 says of comparisons, sentence by sentence, beside the rulebook's `comparison`, which follows from the order of checks and the
+-- rules (proofs/Comparisons: the two are the same). Every length is in bytes.
 use Prim.Native.Nat.{ℕ}
 use mathlib.Core.Path.{_≡_}
 use mathlib.Core.Bool.{Bool, _&&_, not, cond}

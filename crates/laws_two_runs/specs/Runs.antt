@@ -1,4 +1,4 @@
--- The two runs of demand 3 (01, The two runs of demand 3): lists of calls, what a run shows at each call and the card that it ends with; when
+-- The two runs of demand 3 (RULES 11.3): lists of calls, what a run shows at each call and the card that it ends with; when
 -- two cards agree in all but PIN and PUK; and when the comparisons of two runs come out alike. Every length and count is in bytes.
 use Prim.Native.Nat.{ℕ}
 use mathlib.Core.Path.{_≡_}
@@ -15,13 +15,13 @@ use Rattle.rules.specs.Rules.{Secret}
 use Rattle.rules.specs.Engine.{askOut, answerOut}
 use Rattle.rules.specs.Comparison.{Comparison, comparison}
 
--- ---- a call: ASK brings its command and its buffer, ANSWER its command, its supply and its buffer, RESET nothing
+-- ---- a call (RULES 11.3): ASK brings its command and its buffer, ANSWER its command, its supply and its buffer, RESET nothing
 pub data Call : Type 0 where
   ask : List ℕ → List ℕ → Call
   answer : List ℕ → List ℕ → List ℕ → Call
   reset : Call
 
--- the comparison that a call makes, if any: only ANSWER makes them, and a numbered refusal makes none
+-- the comparison that a call makes, if any (RULES 6.3): only ANSWER makes them, and a numbered refusal makes none
 unfoldable pub comparisonAt : Card → Call → Option Comparison
 comparisonAt c (ask cmd buf) = none
 comparisonAt c (answer cmd s buf) = cond (eqb (answerOut c cmd s (length buf) .refusal) noRefusal) (comparison c cmd) none
@@ -35,8 +35,8 @@ secretOf (some x) = some (x .of)
 abbrev pub comparedAt : Card → Call → Option Secret
 comparedAt c k = secretOf (comparisonAt c k)
 
--- ---- what a call shows: the refusal's number or 0, the kind, the count, the whole buffer, and what it compared. ANSWER and RESET report no
--- kind, here 0; RESET has no buffer
+-- ---- what a call shows (RULES 11.3): the refusal's number or 0, the kind, the count, the whole buffer, and what it compared. ANSWER and
+-- RESET report no kind, here 0; RESET has no buffer
 pub record Seen : Type 0 where
   pub refusal : ℕ
   pub kind : ℕ
@@ -71,7 +71,8 @@ seenAt c reset = record {
   compared = comparedAt c reset;
 }
 
--- ---- the card that a call passes on: ASK the one it was given, ANSWER and RESET their next card, which is the one given where they refuse
+-- ---- the card that a call passes on (RULES 11.3): ASK the one it was given, ANSWER and RESET their next card, which is the one given where
+-- they refuse
 unfoldable pub nextAt : Card → Call → Card
 nextAt c (ask cmd buf) = c
 nextAt c (answer cmd s buf) = answerOut c cmd s (length buf) .card
@@ -86,7 +87,7 @@ unfoldable pub endOf : Card → List Call → Card
 endOf c [] = c
 endOf c (k ∷ more) = endOf (nextAt c k) more
 
--- ---- two cards agree in all but PIN and PUK
+-- ---- two cards agree in all but PIN and PUK (RULES 11.3)
 pub record Agree (c d : Card) : Type 0 where
   pub initialised : c .initialised ≡ d .initialised
   pub identity : c .identity ≡ d .identity
@@ -105,7 +106,7 @@ unfoldable pub Alike : Card → Card → List Call → Type 0
 Alike c d [] = Unit {0}
 Alike c d (k ∷ more) = OutAlike (comparisonAt c k) (comparisonAt d k) × Alike (nextAt c k) (nextAt d k) more
 
--- ---- what the claim asks of two cards and a list: both cards are sound and agree, and the comparisons come out alike
+-- ---- what the claim asks of two cards and a list (RULES 11.3): both cards are sound and agree, and the comparisons come out alike
 pub record Premise (c d : Card) (calls : List Call) : Type 0 where
   pub sound : isSound c ≡ true
   pub sound′ : isSound d ≡ true

@@ -8,7 +8,7 @@ use card::Card;
 use card::PATH_MAX_BYTES;
 use channel_rules::Session;
 
-// Each value as it is, or how many bytes there are: what counts is what the type says of it.
+// Each function gives its argument back, or counts its bytes. Its contract is what the type says of it.
 fn byte(b: u8) -> u8
     ensures { λ _. ⌜ b < 256 ⌝ }
 {

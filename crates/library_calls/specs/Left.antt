@@ -1,4 +1,4 @@
--- What is told and the record that is left, as the one answer that the operation by value gives.
+-- What is told and the record that is left, as the one answer that the operation by value gives (RULES 3.8).
 -- Counts are in bytes, WALK's in fields.
 use Prim.Native.Nat.{ℕ}
 use Rattle.card.specs.declared.Card.{Card}

@@ -1,4 +1,4 @@
-// The operations by value as the C boundary takes and gives them: arrays behind references, one struct of refusal and count.
+// The operations by value as the C boundary takes and gives them: arrays by reference, one struct of refusal and count.
 // Every length, room and count is in bytes; a refusal 0 means that there was none.
 // Proved: the promises of the operations by value.
 ghost use mathlib.Core.Path.{_≡_};

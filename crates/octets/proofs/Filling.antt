@@ -16,7 +16,7 @@ pub record Filled (n : ℕ) (want r : List ℕ) (i : ℕ) : Type 0 where
   pub wanted : length want ≡ n
   pub within : i ≤ n
 
--- one more element, in a list that may go on behind what is wanted
+-- one more element, in a list that may go on after what is wanted
 pub front-more : (r want : List ℕ) (i v : ℕ) → i < length r → i < length want → take i r ≡ take i want → v ≡ getD want i 0
     → take (i + 1) (set r i v) ≡ take (i + 1) want
 front-more r want i v hr hw e ev =

@@ -137,7 +137,7 @@ module _ (s : List ℕ) (at : ℕ) (t : List ℕ) (fits : at + length t ≤ leng
   drop-overwrite =
       drop-at (take at s ++ t) (drop (at + length t) s) (at + length t) head-long
 
--- bytes written straight behind others are written as one
+-- bytes written directly after others are written as one
 pub overwrite-next : (s : List ℕ) (at n : ℕ) (t u : List ℕ) → n ≡ at + length t → n + length u ≤ length s
     → overwrite (overwrite s at t) n u ≡ overwrite s at (t ++ u)
 overwrite-next s at n t u e h =
@@ -158,7 +158,7 @@ overwrite-next s at n t u e h =
         ∙ drop-drop (length u) (at + length t) s
         ∙ ap (λ (m : ℕ). drop m s) more
 
--- behind what was written
+-- after what was written
 pub drop-overwrite-behind : (s : List ℕ) (at : ℕ) (t : List ℕ) (m : ℕ) → at + length t ≤ m → m ≤ length s → drop m (overwrite s at t) ≡ drop m s
 drop-overwrite-behind s at t m h l =
     ap (λ (k : ℕ). drop k (overwrite s at t)) more
@@ -177,7 +177,7 @@ overwritten s at t h =
     ∙ ap (take (length t)) (drop-at (take at s) (t ++ drop (at + length t) s) at (length-take-le at s (omega arith)))
     ∙ take-at t (drop (at + length t) s) (length t) refl
 
--- a list written straight behind another
+-- a list written directly after another
 pub overwrite-behind : (x r t : List ℕ) (n : ℕ) → length x ≡ n → overwrite (x ++ r) n t ≡ (x ++ t) ++ drop (length t) r
 overwrite-behind x r t n h =
     ap₂ (λ (p q : List ℕ). p ++ t ++ q) (take-at x r n h)

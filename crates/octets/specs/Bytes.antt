@@ -1,5 +1,5 @@
 -- Lists of bytes: what a byte is, what a block is, and the few operations on lists that every other definition uses.
--- Every length is a number of bytes.
+-- Every length is a number of bytes (RULES 1.2).
 use mathlib.Core.Path.{_≡_}
 use mathlib.Core.Bool.{Bool, true, false, _&&_}
 use mathlib.Core.List.{List, [], _∷_, _++_}

@@ -1,6 +1,6 @@
 // Lists of bytes: the definitions and laws that every other crate cites, and the leaves that move and compare bytes.
 // Every length is in bytes.
-// Proved: a block is read as it stands, bytes are written in their place and nowhere else, and two slices are called the same
+// Proved: a block is read as it is, bytes are written in their place and nowhere else, and two slices are called the same
 // exactly where they are.
 ghost use mathlib.Core.Path.{_≡_};
 ghost use Prim.Native.Nat.{_+_, _≤_};

@@ -62,7 +62,7 @@ module _ (i : Instruction) (cmd : List ℕ) (c : Card) (field : List ℕ) where
           by-opening (some (held .plain)) (held .is)
           ∙ ap (fromStep5 i cmd (withMac c (take 16 field))) (p .left (held .plain) (held .is) ∙ ap (λ (k : ℕ). take k at) (held .long))
 
-      -- the scratch holds what the opening wrote and z behind it; m is the data's length as the code counts the part
+      -- the scratch holds what the opening wrote and z after it; m is the data's length as the code counts the part
       module _ (z : List ℕ) (room : length at ≡ 224) (m : ℕ) (em : m ≡ n) where
         pub open-within : n ≤ length (at ++ z)
         open-within = omega (arith, open-short, room, length-append at z)

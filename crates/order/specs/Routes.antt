@@ -1,4 +1,4 @@
--- What a route stands for: a decision of the rulebook. Every length is in bytes.
+-- What a route means: a decision of the rulebook (RULES 5). Every length is in bytes.
 use Prim.Native.Nat.{ℕ}
 use mathlib.Core.Path.{_≡_}
 use mathlib.Core.Bool.{Bool, true, false, cond}
@@ -34,25 +34,25 @@ fromStep2 cmd c = finish (pastStep1 cmd c)
 abbrev pub endsWith : Bool → Card → ℕ → Way
 endsWith over c w = record { goes = false; over = over; status = w; count = 0; command = command.Select; supply = noSupply; card = c }
 
--- the decision that a route and the command's data stand for
+-- the decision that a route and the command's data mean
 abbrev pub decisionOf : Way → List ℕ → Decision
 decisionOf r d =
     cond (r .goes)
     (record { supply = r .supply; data′ = d; answer = λ s. tell (r .over) (replyOf (r .command) (r .card) d s) })
     (ends (tell (r .over) (fails (r .card) (r .status))))
 
--- what a route that goes on rests on: the command's checks hold, its supply is the one told, the data have the length told, and the paths fit
+-- what a route that goes on rests on: the command's checks hold, its supply and the length of the data are the ones reported, and the paths fit
 pub record GoesOn (r : Way) (d : List ℕ) : Type 0 where
   pub hold : Hold (checksOf (r .command) (r .card) d)
   pub reads : r .supply ≡ supplyOf (r .command)
   pub long : length d ≡ r .count
   pub paths : PathsFit (r .card .keys)
 
--- the route stands for this decision, the command's data being d
+-- the route means this decision, the command's data being d
 pub record Routes (want : Decision) (r : Way) (d : List ℕ) : Type 0 where
   pub decides : want ≡ decisionOf r d
   pub ready : r .goes ≡ true → GoesOn r d
 
--- the same, where the data stand at the start of `plain`
+-- the same, where the data are at the start of `plain`
 abbrev pub RoutesIn : Decision → Way → List ℕ → Type 0
 RoutesIn want r plain = Routes want r (take (r .count) plain)

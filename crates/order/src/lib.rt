@@ -1,6 +1,6 @@
-// The order of checks for a command, steps 1 to 6 in order, walked once for ASK and ANSWER alike.
+// The order of checks for a command (RULES 5), steps 1 to 6 in order, walked once for ASK and ANSWER alike.
 // Every length, Lc included, is in bytes.
-// Proved: for every card and every command, however short, the route stands for what the rulebook decides.
+// Proved: for every card and every command, however short, the route means what the rulebook decides.
 ghost use mathlib.Core.Path.{_≡_};
 ghost use mathlib.Core.Bool.{false, not};
 ghost use Prim.Native.Nat.{_≤_};

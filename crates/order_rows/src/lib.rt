@@ -1,4 +1,5 @@
-// The rows of the instructions, as the code reads them: steps 3 and 5 of the order of checks, and what steps 4 and 5 ask of an instruction.
+// The rows of the instructions (RULES 6.1), as the code reads them: steps 3 and 5 of the order of checks, and what steps 4 and 5 ask of an
+// instruction.
 // Stages and slots are counted from 0.
 // Proved: each answer is the rulebook's row, for every class, instruction byte, P1 and P2.
 ghost use mathlib.Core.Path.{_≡_};

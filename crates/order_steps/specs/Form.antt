@@ -1,4 +1,4 @@
--- What the answer of step 2 says of a command's bytes. Every place is counted in bytes from 0.
+-- What the answer of step 2 (RULES 5.2) says of a command's bytes. Every place is counted in bytes from 0.
 use Prim.Native.Nat.{ℕ, _-_, _≤_}
 use mathlib.Core.Path.{_≡_}
 use mathlib.Core.List.{List}

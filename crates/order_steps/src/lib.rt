@@ -1,4 +1,5 @@
-// What the order of checks asks of a command's bytes, and what it takes from the card: step 1, the form of step 2, and what an instruction gives up.
+// What the order of checks (RULES 5) asks of a command's bytes, and what it takes from the card: step 1, the form of step 2, and what an
+// instruction gives up.
 // Every length, Lc included, is in bytes.
 // Proved: each answer is the rulebook's, for every command, however short, and every card.
 ghost use mathlib.Core.Path.{_≡_};

@@ -1,4 +1,4 @@
--- What the readers of a group of fields promise: its values, and the place behind it. Every length and place is in bytes.
+-- What the readers of a group of fields promise: its values, and the place after it. Every length and place is in bytes.
 use Prim.Native.Nat.{ℕ, _≤_}
 use mathlib.Core.Path.{_≡_}
 use mathlib.Core.List.{List}

@@ -14,14 +14,14 @@ use record_spans::slots_from;
 use record_spans::take_field;
 use record_spans::take_path;
 
-// The first three fields read, and the place behind them.
+// The first three fields read, and the place after them.
 pub struct IdentityRead {
     pub initialised: u8,
     pub identity: Identity,
     pub next: usize,
 }
 
-// The five fields behind those read, and the place behind them.
+// The five fields after those read, and the place after them.
 pub struct SecretsRead {
     pub pins: Pins,
     pub pairing: Pairing,

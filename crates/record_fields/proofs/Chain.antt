@@ -1,4 +1,4 @@
--- Fields written one behind the other are written as one list of fields.
+-- Fields written one after the other are written as one list of fields.
 -- Assumes nothing.
 use mathlib.Core.Path.{_≡_, refl, sym, ap, ap₂, _∙_}
 use mathlib.Core.List.{List, [], _∷_, _++_}

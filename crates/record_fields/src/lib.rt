@@ -1,6 +1,6 @@
 // The fields of the stored record, written one by one: any field, a path, the key UID, and the content of the slots.
 // Every length, place and count is in bytes.
-// Proved: the field stands at its place, nothing else has changed, and the place behind it is told.
+// Proved: the field is at its place, nothing else changes, and the place after it is given.
 ghost use mathlib.Core.Path.{_≡_};
 ghost use mathlib.Core.List.{[], _∷_};
 ghost use Prim.Native.Nat.{_+_, _≤_, _<_};
@@ -25,7 +25,7 @@ const TAG_KEY_UID: u8 = 0x31;
 // How many values a byte has: a length in bytes is its high byte times this, and its low byte.
 const BYTE_VALUES: usize = 256;
 
-// Writes a field at a place, and gives the place behind it.
+// Writes a field at a place, and gives the place after it.
 pub fn put_field(buf: &mut [u8], at: usize, tag: u8, src: &[u8]) -> usize
     requires { ⌜ (length (now src) < 65536) × (at + headBytes + length (now src) ≤ length (now buf)) ⌝ }
     ensures { λ r. ⌜ (Put (recordField tag (now (src .entry)) ∷ []) at (now (buf .entry)) r (now (buf .exit))) × (r ≡ at + headBytes + length (now (src .entry))) ⌝ }
@@ -50,7 +50,7 @@ fn put_slot(buf: &mut [u8], at: usize, slot: Slot)
     octets::put(buf, at + 1, &key);
 }
 
-// The slots' content: each slot's flag and key, one behind the other.
+// The slots' content: each slot's flag and key, one after the other.
 pub fn slots_bytes(slots: [Slot; Card::SLOTS]) -> [u8; SLOTS_BYTES]
     ensures { λ r. ⌜ r ≡ slotsBytes slots ⌝ }
 {

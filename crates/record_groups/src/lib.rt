@@ -1,6 +1,6 @@
 // The three groups of fields of the stored record: identity, secrets and keys.
 // Every length, place and count is in bytes.
-// Proved: the fields of the group stand one behind the other, nothing else has changed, and the place behind them is told.
+// Proved: the fields of the group are written one after the other, nothing else changes, and the place after them is given.
 ghost use mathlib.Core.Path.{_≡_};
 ghost use Prim.Native.Nat.{_+_, _≤_};
 ghost use lib.ListN.{length};

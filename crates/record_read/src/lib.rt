@@ -24,7 +24,7 @@ fn is_record_of(s: &[u8], card: Card) -> bool
     octets::same(back, s)
 }
 
-// READ (01, Stored record).
+// READ (RULES 10.4).
 pub fn read(s: &[u8]) -> Answer
     ensures { λ r. ⌜ r ≡ readAnswer (now (s .entry)) ⌝ }
 {

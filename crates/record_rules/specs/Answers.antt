@@ -1,4 +1,4 @@
--- What WRITE and READ answer (01, Stored record; 01, Operations, refusals 1, 2 and 8).
+-- What WRITE and READ answer (RULES 10.3, 10.4; the refusals are 1, 2 and 8 of RULES 3.2).
 use Prim.Native.Nat.{ℕ}
 use mathlib.Core.Bool.{Bool, cond, _&&_}
 use mathlib.Core.List.{List, []}
@@ -15,14 +15,14 @@ use Rattle.record_rules.specs.Fields.{recordOf}
 use Rattle.record_rules.specs.Parse.{cardOf}
 pub use Rattle.record_rules.specs.Lengths.{writeRoom}
 
--- ---- WRITE of a card into a buffer of `room` bytes: the refusal's number or 0, and the bytes written
+-- ---- WRITE of a card into a buffer of `room` bytes (RULES 10.3): the refusal's number or 0, and the bytes written
 unfoldable pub writeRefusal : Card → ℕ → ℕ
 writeRefusal c room = cond (isSound c) (cond (ltb room writeRoom) noRoom noRefusal) unsound
 
 unfoldable pub writeBytes : Card → ℕ → List ℕ
 writeBytes c room = cond (isSound c) (cond (ltb room writeRoom) [] (recordOf c)) []
 
--- ---- READ: the card that the bytes are the record of, if it is sound; else 8 and FRESH of zeros
+-- ---- READ (RULES 10.4): the card that the bytes are the record of, if it is sound; else 8 and FRESH of zeros
 -- the bytes are the record of this card, and the card is sound
 unfoldable pub isRecordOf : List ℕ → Card → Bool
 isRecordOf s c = isSound c && sameBytes (recordOf c) s

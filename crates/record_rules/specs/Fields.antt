@@ -1,4 +1,4 @@
--- The stored record (01, Stored record): its fields, with tag, order and content, as one table, and the bytes that they make.
+-- The stored record (RULES 10.1): its fields, with tag, order and content, as one table, and the bytes that they make.
 -- Every length is in bytes.
 use Prim.Native.Nat.{ℕ, _/_, _%_}
 use mathlib.Core.Bool.{cond}
@@ -29,13 +29,13 @@ unfoldable pub encodeAll : List Field → List ℕ
 encodeAll [] = []
 encodeAll (f ∷ more) = encode (f .tag) (f .content) ++ encodeAll more
 
--- ---- the contents that are not a field of the card as it stands
+-- ---- the contents that are not a field of the card as it is
 -- the slots, each its flag and its key
 unfoldable pub slotsBytes : List Slot → List ℕ
 slotsBytes [] = []
 slotsBytes (s ∷ more) = (s .filled ∷ s .key) ++ slotsBytes more
 
--- ---- the table: 01's fields in 01's order
+-- ---- the table: the fields in the order of RULES 10.1
 abbrev pub identityFields : ℕ → Identity → List Field
 identityFields initialised i =
     recordField 0x10 (initialised ∷ [])
@@ -60,7 +60,7 @@ keyFields k =
     ∷ recordField 0x33 (pathBytes (k .pinless))
     ∷ []
 
--- the fields past the identity stand in the record of an initialised card alone
+-- only the record of an initialised card has the fields past the identity
 abbrev pub ownerFields : Card → List Field
 ownerFields c = secretFields (c .pins) (c .pairing) ++ keyFields (c .keys)
 

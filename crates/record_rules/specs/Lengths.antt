@@ -1,4 +1,4 @@
--- How long the stored record is, in bytes: each group of fields as the sum of its fields, and the record as the sum of its groups.
+-- How long the stored record is, in bytes (RULES 10.2): each group of fields as the sum of its fields, and the record as the sum of its groups.
 use Prim.Native.Nat.{ℕ, _+_, _*_}
 use Rattle.card.specs.Sizes.{uidBytes, publicKeyBytes, pinBytes, pukBytes, keyBytes, pathMostBytes, slotBytes, slotCount}
 
@@ -34,6 +34,6 @@ recordLeast = identityFieldsBytes + secretFieldsBytes + keyFieldsLeast
 abbrev pub recordMost : ℕ
 recordMost = identityFieldsBytes + secretFieldsBytes + keyFieldsMost
 
--- ---- the room that WRITE asks of a buffer (01, table of refusals): enough for any record
+-- ---- the room that WRITE asks of a buffer (RULES 3.2): enough for any record
 abbrev pub writeRoom : ℕ
 writeRoom = recordMost

@@ -1,4 +1,4 @@
--- The card that bytes describe, if they are a record: the fields taken one after the other, whatever their tags, each content
+-- The card that bytes describe, if they are a record (RULES 10.4): the fields taken one after the other, whatever their tags, each content
 -- cut or filled with zeros to the length that the card has for it. Every length is in bytes.
 use Prim.Native.Nat.{ℕ, zero, suc, _+_, _*_, min}
 use mathlib.Core.List.{List, [], _∷_}
@@ -16,7 +16,7 @@ use Rattle.card.specs.State.{zeros, closedOf}
 use Rattle.record_rules.specs.Lengths.{headBytes}
 
 -- ---- fields of a list of bytes
--- the length that the first field's head gives, its content, and what stands behind it
+-- the length that the first field's head gives, its content, and what follows it
 abbrev pub headLength : List ℕ → ℕ
 headLength s = getD s 1 0 * 256 + getD s 2 0
 
@@ -26,7 +26,7 @@ body s = take (headLength s) (drop headBytes s)
 unfoldable pub rest : List ℕ → List ℕ
 rest s = drop (headLength s) (drop headBytes s)
 
--- what stands behind the first k fields, and the content of the field number k, counted from 0
+-- what follows the first k fields, and the content of the field number k, counted from 0
 abbrev pub behind : ℕ → List ℕ → List ℕ
 behind zero s = s
 behind (suc k) s = rest (behind k s)

@@ -133,7 +133,7 @@ slots-from-next x slots i v h e f =
     ∙ ap₂ (λ (l : List Slot) (w : Slot). l ++ (w ∷ [])) e f
     ∙ sym (slots-from-suc i x))
 
--- the flag, and the key behind it
+-- the flag, and the key after it
 pub slot-at : (x key : List ℕ) (at n : ℕ) → length x ≡ n → key ≡ fit keyBytes (take (n - (at + 1)) (drop (at + 1) x))
     → _≡_ {A = Slot} (record { filled = getD x at 0; key = key }) (slotFrom (drop at x))
 slot-at x key at n l e =

@@ -1,4 +1,4 @@
--- What the readers of a field promise: where its content stands, and the place behind it. Every length and place is in bytes.
+-- What the readers of a field promise: where its content is, and the place after it. Every length and place is in bytes.
 use Prim.Native.Nat.{ℕ, _-_, _≤_}
 use mathlib.Core.Path.{_≡_}
 use mathlib.Core.List.{List}
@@ -14,7 +14,7 @@ pub record Spans (s : List ℕ) (at : ℕ) (r : FieldSpan) : Type 0 where
   pub inside : take (r .«end» - r .start) (drop (r .start) s) ≡ body (drop at s)
   pub behind : drop (r .«end») s ≡ rest (drop at s)
 
--- `next` is the place behind the field at the place `at`
+-- `next` is the place after the field at the place `at`
 pub record Behind (s : List ℕ) (at next : ℕ) : Type 0 where
   pub within : next ≤ length s
   pub rest : drop next s ≡ rest (drop at s)

@@ -1,6 +1,6 @@
 // The content of a field of the stored record, found by its place and taken: bytes, a path, and the slots.
 // Every length and place is in bytes.
-// Proved: what is taken is what the definition takes, from any bytes of any length, and the place behind the field is told.
+// Proved: what is taken is what the definition takes, from any bytes of any length, and the place after the field is given.
 ghost use mathlib.Core.Path.{_≡_};
 ghost use Prim.Native.Nat.{_≤_};
 ghost use lib.ListN.{length, drop, getD};
@@ -21,7 +21,7 @@ pub struct FieldSpan {
     pub end: usize,
 }
 
-// A path read, and the place behind its field.
+// A path read, and the place after its field.
 pub struct PathRead {
     pub path: Path,
     pub next: usize,
@@ -74,7 +74,7 @@ fn fill(dst: &mut [u8], src: &[u8])
     }
 }
 
-// Fills dst from the content of the field at a place, and gives the place behind the field.
+// Fills dst from the content of the field at a place, and gives the place after the field.
 pub fn take_field(s: &[u8], at: usize, dst: &mut [u8]) -> usize
     requires { ⌜ at ≤ length (now s) ⌝ }
     ensures { λ r. ⌜ (now (dst .exit) ≡ fit (length (now (dst .entry))) (body (drop at (now (s .entry))))) × Behind (now (s .entry)) at r ⌝ }

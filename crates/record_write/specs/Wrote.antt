@@ -1,4 +1,4 @@
--- What WRITE promises of a buffer: `before` and `after` are its bytes, all lengths are in bytes.
+-- What WRITE promises of a buffer (RULES 3.2): `before` and `after` are its bytes, all lengths are in bytes.
 use Prim.Native.Nat.{ℕ}
 use mathlib.Core.Path.{_≡_}
 use mathlib.Core.List.{List}

@@ -41,7 +41,7 @@ pub fn put_record(buf: &mut [u8], card: Card) -> usize
     put_keys(buf, b, keys)
 }
 
-// WRITE (01, Stored record).
+// WRITE (RULES 10.3).
 pub fn write(card: Card, buf: &mut [u8]) -> Written
     ensures { λ r. ⌜ WroteRecord card r (now (buf .entry)) (now (buf .exit)) ⌝ }
 {

@@ -1,4 +1,4 @@
--- The table of refusals (01, Operations and numbered refusals): the numbers, in order, and the room that each operation asks of a buffer.
+-- The table of refusals (RULES 3.2): the numbers, in order, and the room that each operation asks of a buffer.
 -- An operation gives the lowest number that applies. Every room is in bytes.
 use Prim.Native.Nat.{ℕ}
 
@@ -38,7 +38,7 @@ notGenuine = 7
 abbrev pub notRecord : ℕ
 notRecord = 8
 
--- ---- the rooms; that of WRITE follows from the record's fields and stands with them (crate `record_rules`, specs/Lengths.antt)
+-- ---- the rooms (RULES 3.2); that of WRITE follows from the record's fields and is with them (crate `record_rules`, specs/Lengths.antt)
 abbrev pub askRoom : ℕ
 askRoom = 255
 
@@ -51,6 +51,6 @@ sealRoom = 261
 abbrev pub unsealRoom : ℕ
 unsealRoom = 223
 
--- ---- the most data before padding (01, The sealed message), which SEAL takes, in bytes
+-- ---- the most data before padding, which SEAL takes, in bytes (RULES 3.2, 8.3)
 abbrev pub dataMost : ℕ
 dataMost = 223

@@ -1,5 +1,5 @@
 // The table of refusals: each number that an operation can give in the place of an answer, and the room that a buffer must have.
-// Every room is in bytes. The same table stands as definitions in specs/Refusals.antt, and every contract cites it there.
+// Every room is in bytes. The same table is in specs/Refusals.antt as definitions (RULES 3.2), which every contract cites.
 // A refusal hands back the state that it was given and changes no byte of any buffer; the lowest number that applies is given.
 
 pub const REFUSAL_NONE: u8 = 0;

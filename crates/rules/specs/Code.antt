@@ -1,4 +1,4 @@
--- How the code's answers stand for the rulebook's: enums for options, and what a command's function writes. No rule stands here.
+-- What the code's answers mean in the rulebook: enums for options, and what a command's function writes. No rule is here.
 use Prim.Native.Nat.{ℕ}
 use mathlib.Core.List.{List, _++_}
 use mathlib.Core.Option.{Option, none, some}

@@ -1,4 +1,4 @@
--- The fifteen instructions' commands (01, Commands), in 01's order, and at the end one rule for each command: the checks of step 6, in order, with
+-- The fifteen instructions' commands (RULES 6), in its order, and at the end one rule for each command: the checks of step 6, in order, with
 -- their status words; what is compared and which supply is read past them (Supplies.antt); and the reply, from the card, the data (opened,
 -- where the command is sealed) and the supply. Every length is in bytes.
 use Prim.Native.Nat.{ℕ, _+_, _-_, _%_}
@@ -39,7 +39,7 @@ use Rattle.rules.specs.Words.{triesLeft, securityNotMet, referenceInvali
 use Rattle.rules.specs.Supplies.{noSupply, initSupply, openSupply, mutualSupply, pairFirstSupply, pairFinalSupply, loadSupply, deriveSupply, signSupply, saysYes, part, initKey, openEncKey, openMacKey, openSalt, openIv, mutualRandom, pairCryptogram, pairChallenge, pairExpected, pairSalt, pairKey, loadUid, signKey, signR, signS}
 use Rattle.rules.specs.Rules.{Secret, pin, puk, Rule, rule, comparing}
 
--- ---- what several commands ask
+-- ---- what several commands ask (RULES 6.2)
 abbrev pub isVerified : Pins → Bool
 isVerified p = not (isZero (p .verified))
 
@@ -62,7 +62,7 @@ isPath s = leb (length s) 40 && eqb (length s % 4) 0
 abbrev pub isSet : Path → Bool
 isSet p = not (isZero (p .len))
 
--- ---- SELECT 00 A4: closes the channel, drops verification
+-- ---- SELECT 00 A4 (RULES 6.4): closes the channel, drops verification
 abbrev pub applicationId : List ℕ
 applicationId =
     0x53 ∷ 0x74 ∷ 0x61 ∷ 0x74 ∷ 0x75 ∷ 0x73 ∷ 0x57 ∷ 0x61 ∷ 0x6C ∷ 0x6C ∷ 0x65 ∷ 0x74 ∷ 0x41 ∷ 0x70 ∷ 0x70 ∷ []
@@ -85,7 +85,7 @@ unfoldable pub selectReply : Card → Reply
 selectReply c =
     succeeds (withPins (closed c) (unverified (c .pins))) (selected (c .initialised) (c .identity) (c .pairing .slots) (c .keys))
 
--- ---- INIT FE: the length byte 41, a point starting 04, an IV of 16 bytes and a ciphertext of 64
+-- ---- INIT FE (RULES 6.5): the length byte 41, a point starting 04, an IV of 16 bytes and a ciphertext of 64
 abbrev pub isInitData : List ℕ → Bool
 isInitData d = eqb (length d) 146 && eqb (getD d 0 0) 0x41 && eqb (getD d 1 0) 0x04
 
@@ -116,7 +116,7 @@ initWith c (some x) = cond (isContent x) (succeeds (initialisedWith c x) []) (fa
 unfoldable pub initReply : Card → List ℕ → List ℕ → Reply
 initReply c d s = cond (saysYes s) (initWith c (initContent (initKey s) d)) (fails c wrongData)
 
--- ---- OPEN 10, P1 the slot: the card that comes here has its channel closed (Steps.antt, step 5)
+-- ---- OPEN 10 (RULES 6.6), P1 the slot: the card that comes here has its channel closed (Steps.antt, step 5)
 abbrev pub slotAt : List Slot → ℕ → Slot
 slotAt slots i = getD slots i freeSlot
 
@@ -130,7 +130,7 @@ unfoldable pub openReply : Card → List ℕ → Reply
 openReply c s =
     cond (saysYes s) (succeeds (withChannel c (openedWith s)) (openSalt s ++ openIv s)) (fails c wrongData)
 
--- ---- MUTUAL 11: in stage 2 not again
+-- ---- MUTUAL 11 (RULES 6.7): in stage 2 not again
 unfoldable pub mutualChecks : ℕ → List ℕ → List Check
 mutualChecks stage d = must (eqb stage 1) conditionsNotMet ∷ must (eqb (length d) 32) securityNotMet ∷ []
 
@@ -140,7 +140,7 @@ inStage2 k = record { stage = 2; «enc_key» = k .«enc_key»; «mac_key» = k .
 unfoldable pub mutualReply : Card → List ℕ → Reply
 mutualReply c s = succeeds (withChannel c (inStage2 (c .channel))) (mutualRandom s)
 
--- ---- PAIR 12, first
+-- ---- PAIR 12, first (RULES 6.8)
 unfoldable pub pairFirstChecks : Pairing → ℕ → List ℕ → List Check
 pairFirstChecks p stage d =
     must (not (eqb stage 2)) conditionsNotMet
@@ -154,7 +154,7 @@ pendingWith p expected = record { secret = p .secret; slots = p .slots; pending 
 unfoldable pub pairFirstReply : Card → List ℕ → Reply
 pairFirstReply c s = succeeds (withPairing c (pendingWith (c .pairing) (pairExpected s))) (pairCryptogram s ++ pairChallenge s)
 
--- PAIR 12, final: the data are the client cryptogram
+-- PAIR 12, final (RULES 6.8): the data are the client cryptogram
 unfoldable pub pairFinalChecks : Pairing → ℕ → List ℕ → List Check
 pairFinalChecks p stage d =
     must (not (isZero (p .pending))) wrongParameters
@@ -178,14 +178,14 @@ pairInto c s free.Full = fails (forgotten c) noSpace
 unfoldable pub pairFinalReply : Card → List ℕ → Reply
 pairFinalReply c s = pairInto c s (firstFree (c .pairing .slots))
 
--- ---- UNPAIR 13 (PIN), P1 the slot: frees it, also a free one
+-- ---- UNPAIR 13 (RULES 6.9), with a verified PIN, P1 the slot: frees it, also a free one
 unfoldable pub unpairChecks : Pins → List Check
 unpairChecks p = must (isVerified p) conditionsNotMet ∷ []
 
 unfoldable pub unpairReply : Card → ℕ → Reply
 unpairReply c i = succeeds (withPairing c (withSlot (c .pairing) i freeSlot)) []
 
--- ---- GET STATUS F2
+-- ---- GET STATUS F2 (RULES 6.10)
 -- its template, from the parts of the card that it tells
 abbrev pub statusBytes : Pins → Keys → List ℕ
 statusBytes p k = answer.status (p .«pin_tries») (p .«puk_tries») (hasKey k)
@@ -194,7 +194,7 @@ unfoldable pub statusReply : Card → StatusKind → Reply
 statusReply c status.Application = succeeds c (statusBytes (c .pins) (c .keys))
 statusReply c status.Path = succeeds c (pathBytes (c .keys .current))
 
--- ---- VERIFY 20: any other bytes or length is wrong
+-- ---- VERIFY 20 (RULES 6.11): any other bytes or length is wrong
 unfoldable pub verifyChecks : Pins → List Check
 verifyChecks p = must (not (isZero (p .«pin_tries»))) (triesLeft 0) ∷ []
 
@@ -210,7 +210,7 @@ verifyReply right c =
     cond right (succeeds (withPins c (pinRight (c .pins))) [])
     (fails (withPins c (pinWrong (c .pins))) (triesLeft (c .pins .«pin_tries» - 1)))
 
--- ---- CHANGE 21 (PIN): PIN, PUK or pairing secret
+-- ---- CHANGE 21 (RULES 6.12), with a verified PIN: PIN, PUK or pairing secret
 abbrev pub isSecret : SecretKind → List ℕ → Bool
 isSecret secret.Pin d = areDigits 6 d
 isSecret secret.Puk d = areDigits 12 d
@@ -231,7 +231,7 @@ changeReply c secret.Pin d = succeeds (withPins c (withPin (c .pins) d)) []
 changeReply c secret.Puk d = succeeds (withPins c (withPuk (c .pins) d)) []
 changeReply c secret.Pairing d = succeeds (withPairing c (withPairingSecret (c .pairing) d)) []
 
--- ---- UNBLOCK 22: only at 0 PIN tries. PUK, any 12 bytes, then the new PIN
+-- ---- UNBLOCK 22 (RULES 6.13): only at 0 PIN tries. PUK, any 12 bytes, then the new PIN
 abbrev pub isUnblocking : List ℕ → Bool
 isUnblocking d = eqb (length d) 18 && allOf isDigit (drop 12 d)
 
@@ -254,7 +254,7 @@ unblockReply right c newPin =
     cond right (succeeds (withPins c (pukRight (c .pins) newPin)) [])
     (fails (withPins c (pukWrong (c .pins))) (triesLeft (c .pins .«puk_tries» - 1)))
 
--- ---- LOAD D0 (PIN): a keypair template without or with the chain code, or a seed
+-- ---- LOAD D0 (RULES 6.14), with a verified PIN: a keypair template without or with the chain code, or a seed
 abbrev pub isKeyData : KeyForm → List ℕ → Bool
 isKeyData key.Keypair d = keypair false d
 isKeyData key.Extended d = keypair true d
@@ -276,7 +276,7 @@ keyWith kind uid = record { kind = kind; uid = uid; current = emptyPath; pinless
 unfoldable pub loadReply : Card → KeyForm → List ℕ → Reply
 loadReply c form s = cond (saysYes s) (succeeds (withKeys c (keyWith (kindOf form) (loadUid s))) (loadUid s)) (fails c wrongData)
 
--- ---- DERIVE D1: an extended key, and a verified PIN or a PIN-less path
+-- ---- DERIVE D1 (RULES 6.15): an extended key, and a verified PIN or a PIN-less path
 unfoldable pub deriveChecks : Pins → Keys → List ℕ → List Check
 deriveChecks p k d =
     must ((isVerified p || isSet (k .pinless)) && eqb (k .kind) 2) conditionsNotMet ∷ must (isPath d) wrongData ∷ []
@@ -287,14 +287,14 @@ withCurrent k p = record { kind = k .kind; uid = k .uid; current = p; pinless = 
 unfoldable pub deriveReply : Card → List ℕ → List ℕ → Reply
 deriveReply c d s = cond (saysYes s) (succeeds (withKeys c (withCurrent (c .keys) (pathOf d))) []) (fails c referenceInvalid)
 
--- ---- REMOVE D3 (PIN): no key, both paths empty
+-- ---- REMOVE D3 (RULES 6.16), with a verified PIN: no key, both paths empty
 unfoldable pub removeChecks : Pins → List Check
 removeChecks p = must (isVerified p) conditionsNotMet ∷ []
 
 unfoldable pub removeReply : Card → Reply
 removeReply c = succeeds (withKeys c noKeys) []
 
--- ---- SET PIN-LESS PATH C1 (PIN): data as DERIVE; empty means none
+-- ---- SET PIN-LESS PATH C1 (RULES 6.17), with a verified PIN: data as DERIVE; empty means none
 unfoldable pub pinlessChecks : Pins → List ℕ → List Check
 pinlessChecks p d = must (isVerified p) conditionsNotMet ∷ must (isPath d) wrongData ∷ []
 
@@ -304,7 +304,7 @@ withPinless k p = record { kind = k .kind; uid = k .uid; current = k .current; p
 unfoldable pub pinlessReply : Card → List ℕ → Reply
 pinlessReply c d = succeeds (withKeys c (withPinless (c .keys) (pathOf d))) []
 
--- ---- SIGN C0: a key, and a verified PIN or a PIN-less path that is not empty and equals the current one
+-- ---- SIGN C0 (RULES 6.18): a key, and a verified PIN or a PIN-less path that is not empty and equals the current one
 abbrev pub onPinlessPath : Keys → Bool
 onPinlessPath k = isSet (k .pinless) && sameBytes (pathBytes (k .pinless)) (pathBytes (k .current))
 
@@ -315,7 +315,7 @@ signChecks p k d =
 unfoldable pub signReply : Card → List ℕ → Reply
 signReply c s = succeeds c (answer.signature (signKey s) (signR s) (signS s))
 
--- ---- the rules: for each command its checks, the supply that is read past them or the secret that is compared, and its reply
+-- ---- the rules (RULES 6.2): for each command its checks, the supply that is read past them or the secret that is compared, and its reply
 unfoldable pub ruleOf : Command → Rule
 ruleOf command.Select = rule (λ c d. selectChecks d) noSupply (λ c d s. selectReply c)
 ruleOf command.Init = rule (λ c d. initChecks d) initSupply initReply

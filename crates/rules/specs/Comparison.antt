@@ -1,6 +1,6 @@
--- When a command compares the PIN or the PUK, and when the comparison comes out right (01, Commands, the end of UNBLOCK): read off the order of
--- checks, the command's rule and the card that the call was given, not off the answer. VERIFY's one check is that tries are left, and the last
--- check of UNBLOCK is that of its data: where all hold, the comparison is made.
+-- When a command compares the PIN or the PUK, and when the comparison comes out right (RULES 6.3). It follows from the order of checks, the
+-- command's rule and the card that the call was given, not from the answer. VERIFY's one check is that tries are left, and the last check of
+-- UNBLOCK is that of its data: where all hold, the comparison is made.
 use Prim.Native.Nat.{ℕ}
 use mathlib.Core.Bool.{Bool}
 use mathlib.Core.List.{List}

@@ -1,5 +1,5 @@
--- What ASK and ANSWER give for any card, command, supply and buffer (01, Operations and numbered refusals), from what the order of checks
--- decides (Steps.antt, `decide`). Every length, room and count is in bytes.
+-- What ASK and ANSWER give for any card, command, supply and buffer (RULES 3.5, 3.6), from what the order of checks decides (Steps.antt,
+-- `decide`). Every length, room and count is in bytes.
 use Prim.Native.Nat.{ℕ}
 use mathlib.Core.Bool.{cond}
 use mathlib.Core.List.{List, []}
@@ -11,15 +11,17 @@ use Rattle.rules.specs.Supplies.{suits}
 use Rattle.rules.specs.Channel.{Outgoing}
 use Rattle.rules.specs.Steps.{Decision, decide}
 
--- ---- ASK: which supply ANSWER will read, with the command's data for it; nothing where ANSWER reads none
+-- ---- ASK (RULES 3.5): which supply ANSWER will read, with the command's data for it; nothing where ANSWER reads none
 pub record AskOut : Type 0 where
   pub refusal : ℕ
   pub kind : ℕ
   pub bytes : List ℕ
 
+-- refused (RULES 3.2)
 abbrev pub askRefused : ℕ → AskOut
 askRefused n = record { refusal = n; kind = 0; bytes = [] }
 
+-- not refused (RULES 3.5)
 abbrev pub asked : Decision → AskOut
 asked d = record { refusal = noRefusal; kind = d .supply .kind; bytes = cond (eqb (d .supply .kind) 0) [] (d .data′) }
 
@@ -27,7 +29,7 @@ unfoldable pub askOut : Card → List ℕ → ℕ → AskOut
 askOut c cmd room =
     cond (isSound c) (cond (ltb room askRoom) (askRefused noRoom) (asked (decide c cmd))) (askRefused unsound)
 
--- ---- ANSWER: the next card, and the bytes of the answer; a refusal gives back the card that it was given
+-- ---- ANSWER (RULES 3.6): the next card, and the bytes of the answer; a refusal gives back the card that it was given (RULES 3.2)
 pub record AnswerOut : Type 0 where
   pub refusal : ℕ
   pub card : Card
@@ -36,6 +38,7 @@ pub record AnswerOut : Type 0 where
 abbrev pub answerRefused : Card → ℕ → AnswerOut
 answerRefused c n = record { refusal = n; card = c; bytes = [] }
 
+-- not refused (RULES 3.6)
 abbrev pub answered : Outgoing → AnswerOut
 answered t = record { refusal = noRefusal; card = t .card; bytes = t .bytes }
 

@@ -1,4 +1,4 @@
--- The fifteen instructions, one row each (01, Order of checks, steps 3 to 5; Commands): the byte, where the instruction is offered, the stage of
+-- The fifteen instructions, one row each (RULES 6.1): the byte, where the instruction is offered, the stage of
 -- the channel that it needs, the P1 and P2 that it lists with the command that each names, and what it gives up.
 use Prim.Native.Nat.{ℕ}
 use mathlib.Core.Bool.{Bool, true, not, cond}
@@ -19,7 +19,7 @@ use Rattle.rules.specs.declared.KeyForm.the-variants as key
 use Rattle.rules.specs.declared.Command.{Command}
 use Rattle.rules.specs.declared.Command.the-variants as command
 
--- ---- the P1 and P2 that an instruction lists: the command that they name, if any
+-- ---- the P1 and P2 that an instruction lists (RULES 5.5, 6.1): the command that they name, if any
 abbrev pub Listing : Type 0
 Listing = ℕ → ℕ → Option Command
 
@@ -40,8 +40,8 @@ only n k = oneOf ((n, k) ∷ [])
 abbrev pub slot : (ℕ → Command) → Listing
 slot k p1 p2 = cond (isZero p2) (cond (ltb p1 slotCount) (some (k p1)) none) none
 
--- ---- the rows. Stage 0 is said of SELECT, INIT, OPEN and PAIR, which are plain in every stage; MUTUAL goes in stage 1 or 2, the others in
--- stage 2
+-- ---- the rows (RULES 6.1). Stage 0 is said of SELECT, INIT, OPEN and PAIR, which are plain in every stage; MUTUAL goes in stage 1 or 2, the
+-- others in stage 2
 pub record Row : Type 0 where
   pub byte : ℕ
   pub offer : Offer
@@ -76,7 +76,7 @@ rowOf ins.Remove = sealedRow 0xD3 (only 0x00 command.Remove)
 rowOf ins.SetPinless = sealedRow 0xC1 (only 0x00 command.SetPinless)
 rowOf ins.Sign = sealedRow 0xC0 (only 0x00 command.Sign)
 
--- those of class 80: all but SELECT
+-- those of class 80 (RULES 5.3): all but SELECT
 abbrev pub class80 : List Instruction
 class80 =
     ins.Init
@@ -96,12 +96,12 @@ class80 =
     ∷ []
 
 -- ---- what a row says
--- whether a card has the instruction, by whether it is initialised
+-- whether a card has the instruction, by whether it is initialised (RULES 5.3)
 abbrev pub offered : Offer → Bool → Bool
 offered offer.Always initialised = true
 offered offer.BeforeInit initialised = not initialised
 offered offer.AfterInit initialised = initialised
 
--- whether the command and its answer are plain in every stage
+-- whether the command and its answer are plain in every stage (RULES 5.4)
 abbrev pub isPlain : Instruction → Bool
 isPlain i = isZero (rowOf i .stage)

@@ -1,4 +1,4 @@
--- What a rule of a command is (01, Order of checks, step 6): its checks, then a comparison or a supply, and its reply.
+-- What a rule of a command is (RULES 6.2): its checks, then a comparison or a supply, and its reply.
 use Prim.Native.Nat.{ℕ}
 use mathlib.Core.Bool.{Bool, true}
 use mathlib.Core.List.{List}
@@ -11,8 +11,8 @@ use Rattle.rules.specs.declared.Supply.{Supply}
 use Rattle.rules.specs.Words.{Check, Reply}
 use Rattle.rules.specs.Supplies.{noSupply}
 
--- ---- the two secrets that a command can be compared with, and when the comparison comes out right: the data are the PIN, or their first 12
--- bytes are the PUK
+-- ---- the two secrets that a command can be compared with, and when the comparison comes out right (RULES 6.3): the data are the PIN, or
+-- their first 12 bytes are the PUK
 pub data Secret : Type 0 where
   pin : Secret
   puk : Secret
@@ -26,8 +26,8 @@ abbrev pub outcomeOf : Option Secret → Pins → List ℕ → Bool
 outcomeOf none p d = true
 outcomeOf (some s) p d = rightBy s p d
 
--- ---- a rule: the checks, in order; the secret that is compared past them, if any; the supply that is read past them; and the reply, from how
--- the comparison came out, the card, the data and the supply
+-- ---- a rule (RULES 6.2): the checks, in order; the secret that is compared past them, if any; the supply that is read past them; and the
+-- reply, from how the comparison came out, the card, the data and the supply
 pub record Rule : Type 0 where
   pub checks : Card → List ℕ → List Check
   pub compares : Option Secret

@@ -1,4 +1,4 @@
--- The order of checks for a command, steps 1 to 6 (01, Order of checks for a command): each step a definition of its own, in order, and at the
+-- The order of checks for a command, steps 1 to 6 (RULES 5): each step a definition of its own, in order, and at the
 -- end `arrival`, steps 1 to 5 one after the other, and `decide`, the whole. Every length, Lc included, is in bytes.
 use Prim.Native.Nat.{ℕ, _+_}
 use mathlib.Core.Bool.{Bool, _&&_, _||_, not, cond}
@@ -41,7 +41,7 @@ then (stops t) next = stops t
 abbrev pub stopsWith : {A : Type 0} → Card → ℕ → Step A
 stopsWith c w = stops (plainly (fails c w))
 
--- ---- step 1, by the first two bytes, however short the command
+-- ---- step 1 (RULES 5.1), by the first two bytes, however short the command
 abbrev pub begins : ℕ → List ℕ → Bool
 begins instruction cmd = sameBytes (take 2 cmd) (0x80 ∷ instruction ∷ [])
 
@@ -56,7 +56,7 @@ forgetting cmd c = cond (begins 0x12 cmd) c (forgotten c)
 unfoldable pub step1 : List ℕ → Card → Card
 step1 cmd c = forgetting cmd (dropping cmd c)
 
--- ---- step 2, the form: the command's data as received, or 6700
+-- ---- step 2 (RULES 5.2), the form: the command's data as received, or 6700
 abbrev pub lcOf : List ℕ → ℕ
 lcOf cmd = getD cmd 4 0
 
@@ -93,7 +93,7 @@ p1Of cmd = getD cmd 2 0
 abbrev pub p2Of : List ℕ → ℕ
 p2Of cmd = getD cmd 3 0
 
--- ---- step 3, class and instruction
+-- ---- step 3 (RULES 5.3), class and instruction
 -- the one of a list that has this instruction byte
 abbrev pub withByte : ℕ → List Instruction → Named
 withByte b [] = named.Unknown
@@ -125,20 +125,21 @@ byName c named.Unknown = stopsWith c unknownInstruction
 abbrev pub step3 : List ℕ → Card → Step Instruction
 step3 cmd c = byName c (nameOf (isInitialised c) (claOf cmd) (insOf cmd))
 
--- ---- step 4: a plain command goes on with its data as it is; the others need the stage, and their data is opened
+-- ---- step 4 (RULES 5.4): a plain command goes on with its data as it is; the others need the stage, and their data is opened
 pub record Opened : Type 0 where
   pub card : Card
   pub data′ : List ℕ
 
--- the MAC of the command is the next IV
+-- the MAC of the command is the next IV (RULES 8.1)
 abbrev pub byOpening : Card → List ℕ → Option (List ℕ) → Step Opened
 byOpening c field none = stopsWith (closed c) securityNotMet
 byOpening c field (some d) = goes (record { card = withMac c (take 16 field); data′ = d })
 
+-- whether the channel is in a stage that the instruction needs (RULES 5.4)
 abbrev pub inStage : Instruction → ℕ → Bool
 inStage i stage = leb (rowOf i .stage) stage
 
--- what the card opens of a command's field
+-- what the card opens of a command's field (RULES 5.4)
 abbrev pub openedBy : Card → List ℕ → List ℕ → Option (List ℕ)
 openedBy c cmd field = openField (sessionOf (c .channel)) (commandHead (headerOf cmd)) field
 
@@ -147,22 +148,24 @@ step4 i cmd c field =
     cond (isPlain i) (goes (record { card = c; data′ = field }))
     (cond (inStage i (c .channel .stage)) (byOpening c field (openedBy c cmd field)) (stopsWith c conditionsNotMet))
 
--- ---- step 5: P1 and P2
--- OPEN closes any channel before steps 5 and 6
+-- ---- step 5 (RULES 5.5): P1 and P2
+-- OPEN closes any channel before steps 5 and 6 (RULES 6.6)
 abbrev pub begun : Loss → Card → Card
 begun loss.Channel c = closed c
 begun loss.HalfOpen c = c
 begun loss.Pending c = c
 begun loss.Nothing c = c
 
--- what an error at step 5 or 6 leaves: MUTUAL in stage 1 gives the channel up; PAIR with P1 01 ends the pending pairing
+-- what an error at step 5 or 6 leaves (RULES 6.1, last column): MUTUAL in stage 1 gives the channel up (RULES 6.7); PAIR with P1 01 ends the
+-- pending pairing (RULES 6.8)
 abbrev pub failed : Loss → ℕ → Card → Card
 failed loss.Channel p1 c = c
 failed loss.HalfOpen p1 c = cond (eqb (c .channel .stage) 2) c (closed c)
 failed loss.Pending p1 c = cond (eqb p1 1) (forgotten c) c
 failed loss.Nothing p1 c = c
 
--- at step 6: the command and its data, the card, the card that an error leaves, and whether the command came over the channel
+-- what step 5 goes on with (RULES 5.5): the command and its data, the card, the card that an error leaves, and whether the command came over
+-- the channel
 pub record Arrived : Type 0 where
   pub command : Command
   pub data′ : List ℕ
@@ -179,7 +182,7 @@ step5 i cmd o =
     let c = begun (rowOf i .loss) (o .card) in
     byChoice (not (isPlain i)) (o .data′) c (failed (rowOf i .loss) (p1Of cmd) c) (rowOf i .lists (p1Of cmd) (p2Of cmd))
 
--- ---- steps 1 to 5: the command at its own checks, or the answer of the step that stops
+-- ---- steps 1 to 5 (RULES 5): the command at its own checks, or the answer of the step that stops
 unfoldable pub pastStep1 : List ℕ → Card → Step Arrived
 pastStep1 cmd c =
     then (step2 cmd c) (λ field.
@@ -190,7 +193,7 @@ pastStep1 cmd c =
 unfoldable pub arrival : Card → List ℕ → Step Arrived
 arrival c cmd = pastStep1 cmd (step1 cmd c)
 
--- ---- step 6: the command's checks, then comparison or supply
+-- ---- step 6 (RULES 5.6): the command's checks, then comparison or supply
 -- the parts of a command's rule; the PIN and the PUK that are compared are those of the card
 abbrev pub checksOf : Command → Card → List ℕ → List Check
 checksOf k c d = ruleOf k .checks c d
@@ -218,7 +221,7 @@ byVerdict a (Fails w) = ends (tell (a .over) (fails (a .lost) w))
 unfoldable pub step6 : Arrived → Decision
 step6 a = byVerdict a (verdict (supplyOf (a .command)) (checksOf (a .command) (a .card) (a .data′)))
 
--- ---- the whole
+-- ---- the whole (RULES 5)
 abbrev pub finish : Step Arrived → Decision
 finish (goes a) = step6 a
 finish (stops t) = ends t

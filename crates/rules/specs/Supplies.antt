@@ -1,4 +1,4 @@
--- The eight supplies (01, Supplies). Every length is in bytes.
+-- The eight supplies (RULES 4). Every length is in bytes.
 use Prim.Native.Nat.{ℕ}
 use mathlib.Core.Bool.{Bool, true, false, _&&_, _||_, not}
 use mathlib.Core.List.{List}
@@ -13,7 +13,7 @@ supply k n f = record { kind = k; bytes = n; flagged = f }
 abbrev pub noSupply : Supply
 noSupply = supply 0 0 false
 
--- ---- the table: kind, length, whether the first byte is a flag
+-- ---- the table (RULES 4.2): kind, length, whether the first byte is a flag
 abbrev pub initSupply : Supply
 initSupply = supply 1 33 true
 
@@ -38,7 +38,7 @@ deriveSupply = supply 7 1 true
 abbrev pub signSupply : Supply
 signSupply = supply 8 129 false
 
--- ---- the form that refusal 3 asks for: the length, and a flag byte of 00 or 01. A supply that is not read has every form
+-- ---- the form that refusal 3 asks for (RULES 4.1): the length, and a flag byte of 00 or 01. A supply that is not read has every form
 abbrev pub flagOf : List ℕ → ℕ
 flagOf s = getD s 0 0
 
@@ -49,7 +49,7 @@ suits k s = eqb (k .kind) 0 || (eqb (length s) (k .bytes) && (not (k .flagged) |
 abbrev pub saysYes : List ℕ → Bool
 saysYes s = eqb (flagOf s) 1
 
--- ---- what stands where in a supply
+-- ---- what is where in a supply (RULES 4.2)
 -- n bytes from the byte number `at` on, counted from 0
 abbrev pub part : ℕ → ℕ → List ℕ → List ℕ
 part at n s = take n (drop at s)

@@ -1,4 +1,4 @@
--- The status words by name, the checks that give them, and what a command's rule answers.
+-- The status words by name (RULES 5.8), the checks that give them, and what a command's rule answers (RULES 6.2).
 use Prim.Native.Nat.{ℕ, _+_, _/_, _%_}
 use mathlib.Core.Bool.{Bool, true, cond}
 use mathlib.Core.List.{List, [], _∷_}
@@ -8,7 +8,7 @@ use Rattle.rules.specs.declared.Supply.{Supply}
 use Rattle.rules.specs.declared.Verdict.{Verdict}
 use Rattle.rules.specs.declared.Verdict.the-variants.{Reads, Fails}
 
--- ---- the status words, SW1 SW2 as one number
+-- ---- the status words (RULES 5.8), SW1 SW2 as one number
 abbrev pub success : ℕ
 success = 0x9000
 
@@ -50,7 +50,7 @@ unknownClass = 0x6E00
 abbrev pub word : ℕ → List ℕ
 word w = w / 256 ∷ w % 256 ∷ []
 
--- ---- checks: what must hold, and the status word where it does not
+-- ---- checks (RULES 5.6, 6.2): what must hold, and the status word where it does not
 pub record Check : Type 0 where
   pub holds : Bool
   pub otherwise : ℕ
@@ -68,7 +68,7 @@ abbrev pub Hold : List Check → Type 0
 Hold [] = Unit {0}
 Hold (k ∷ more) = (k .holds ≡ true) × Hold more
 
--- ---- what a command's rule answers: the status word, the response data, and the next card
+-- ---- what a command's rule answers (RULES 6.2): the status word, the response data, and the next card
 pub record Reply : Type 0 where
   pub status : ℕ
   pub response : List ℕ

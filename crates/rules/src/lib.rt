@@ -1,9 +1,9 @@
 // The rulebook: what a command is, and the definitions of all that the card does with one, from its bytes to its answer.
-// Every length and count is in bytes. The rules stand in specs/; here are the types and the constants that the code and the rules share.
+// Every length and count is in bytes. The rules are in specs/; here are the types and the constants that the code and the rules share.
 // A new command has one row in specs/Rows.antt, one rule in specs/Commands.antt, and its name in the two enums below.
 use card::Card;
 
-// The status words (01), as one number of two bytes, SW1 SW2.
+// The status words (RULES 5.8), as one number of two bytes, SW1 SW2.
 pub const SUCCESS: u16 = 0x9000;
 
 // Tries left: the low digit is their number.
@@ -34,7 +34,7 @@ pub const CLASS_SELECT: u8 = 0x00;
 
 pub const CLASS: u8 = 0x80;
 
-// The instruction bytes.
+// The instruction bytes (RULES 6.1).
 pub const INS_SELECT: u8 = 0xA4;
 
 pub const INS_INIT: u8 = 0xFE;

@@ -1,4 +1,4 @@
--- What an operation over a card or a session did, told with the next card or session as bytes.
+-- What an operation over a card or a session did, with the next card or session as bytes.
 -- Assumes nothing.
 use Prim.Native.Nat.{ℕ}
 use mathlib.Core.Path.{_≡_, sym, ap, _∙_, subst}

@@ -1,5 +1,5 @@
 -- The card of a card's bytes is that card, where its arrays have the lengths of their types, and likewise a session: the bytes are pieces
--- of known lengths, one behind the other, and each stands where the lengths before it end.
+-- of known lengths, one after the other, and each begins where the lengths before it end.
 -- Assumes nothing.
 use mathlib.Core.Path.{_≡_, refl, sym, ap, _∙_, subst}
 use mathlib.Core.List.{List, [], _∷_, _++_, append-assoc, append-nil, map}
@@ -26,7 +26,7 @@ use Rattle.soft_card_bytes.specs.Flat.{cardFlat, sessionFlat}
 use Rattle.soft_card_bytes.specs.Offsets.{slotsOffset}
 use Rattle.soft_card_bytes.specs.Places.{byteAt, bytesAt, cardAt, sessionAt}
 
--- ---- pieces one behind the other, and where the one with number k begins
+-- ---- pieces one after the other, and where the one with number k begins
 abbrev joined : List (List ℕ) → List ℕ
 joined [] = []
 joined (p ∷ ps) = p ++ joined ps

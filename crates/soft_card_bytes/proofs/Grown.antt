@@ -15,7 +15,7 @@ use Rattle.record_rules.specs.Fields.{slotsBytes}
 use Rattle.record_rules.specs.Parse.{fit, slotsFrom}
 use Rattle.record_rules.proofs.ParseFacts.{fit-front}
 
--- ---- one piece behind the other
+-- ---- one piece after the other
 pub join : (p x y : List ℕ) {q r : List ℕ} → p ++ x ≡ q → q ++ y ≡ r → p ++ (x ++ y) ≡ r
 join p x y e f = sym (append-assoc p x y) ∙ ap (λ (l : List ℕ). l ++ y) e ∙ f
 

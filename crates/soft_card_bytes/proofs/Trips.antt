@@ -17,7 +17,7 @@ use Rattle.soft_card_bytes.specs.Offsets.{identityOffset, pinsOffset, pa
 use Rattle.soft_card_bytes.specs.Places.{bytesAt, identityAt, pinsAt, pairingAt, pathAt, keysAt, channelAt, cardAt, sessionAt}
 use Rattle.soft_card_bytes.proofs.Grown.{join, read-byte, read-bytes, slots-again}
 
--- ---- bytes, card, bytes: each field stands behind the one before it
+-- ---- bytes, card, bytes: each field comes after the one before it
 module _ (s : List ℕ) where
   slots-at : pendingOffset ≤ length s → take slotsOffset s ++ slotsBytes (slotsFrom slotCount (bytesAt slotsOffset (slotBytes * slotCount) s)) ≡ take pendingOffset s
   slots-at l =

@@ -1,4 +1,4 @@
--- A card and a session as bytes, in the order of docs/LAYOUT.md: each field behind the one before it, with no tag and no length.
+-- A card and a session as bytes, in the order of docs/LAYOUT.md: each field after the one before it, with no tag and no length.
 -- A value of the code's type has as many bytes as `specs/Sizes.antt` of crate `card` says of its part.
 use Prim.Native.Nat.{ℕ}
 use mathlib.Core.List.{List, [], _∷_, _++_}

@@ -1,9 +1,9 @@
--- Where each part and each field of a card's bytes begins, in bytes from their start (docs/LAYOUT.md): a part behind the part before it, a
--- field behind the field before it. A session likewise.
+-- Where each part and each field of a card's bytes begins, in bytes from their start (docs/LAYOUT.md): a part after the part before it, a
+-- field after the field before it. A session likewise.
 use Prim.Native.Nat.{ℕ, _+_, _*_}
 use Rattle.card.specs.Sizes.{uidBytes, pinBytes, pukBytes, keyBytes, slotBytes, slotCount, wholePathBytes, identityBytes, pinsBytes, pairingBytes, keysBytes}
 
--- ---- the parts, behind the flag of INIT
+-- ---- the parts, after the flag of INIT
 abbrev pub identityOffset : ℕ
 identityOffset = 1
 
@@ -19,7 +19,7 @@ keysOffset = pairingOffset + pairingBytes
 abbrev pub channelOffset : ℕ
 channelOffset = keysOffset + keysBytes
 
--- ---- the fields behind the first of their part
+-- ---- the fields after the first of their part
 abbrev pub publicKeyOffset : ℕ
 publicKeyOffset = identityOffset + uidBytes
 

@@ -27,7 +27,7 @@ use octets::put;
 pub use parts::fill;
 pub use parts::place;
 
-// Where the parts of the record begin, each behind the part before it, and the fields behind the first of their part.
+// Where the parts of the record begin, each after the part before it, and the fields after the first of their part.
 pub const IDENTITY_AT: usize = 1;
 
 pub const PINS_AT: usize = IDENTITY_AT + card::IDENTITY_BYTES;
@@ -189,7 +189,7 @@ pub fn session_of(bytes: [u8; SESSION_BYTES]) -> Session
     }
 }
 
-// ---- to bytes: each function writes one part of the card, behind what lies before it in the record
+// ---- to bytes: each function writes one part of the card, after what lies before it in the record
 fn with_identity(s: [u8; CARD_BYTES], x: Identity) -> [u8; CARD_BYTES]
     ensures { λ r. ⌜ take identityOffset s ++ identityFlat x ≡ take pinsOffset r ⌝ }
 {

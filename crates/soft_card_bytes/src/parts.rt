@@ -5,7 +5,7 @@ ghost use lib.ListN.{length, take, drop, getD};
 ghost use Rattle.octets.specs.Bytes.{overwrite};
 ghost use Rattle.record_rules.specs.Parse.{fit};
 
-// The byte number i behind the place `at`.
+// The byte number i after the place `at`.
 fn byte_behind(s: &[u8], at: usize, i: usize) -> u8
     ensures { λ r. ⌜ r ≡ getD (drop at (now (s .entry))) i 0 ⌝ }
 {

@@ -22,7 +22,7 @@ pub fn ask(d: Desk, line: &[u8]) {
     soft_steps::ask(card, &cmd[..n], room.len);
 }
 
-// The card is shown behind a step.
+// The card is shown after a step.
 fn shown(d: Desk) -> Desk {
     let card = d.card;
     soft_show::say_card(card);
@@ -123,7 +123,7 @@ fn exchanged(before: Desk, d: Desk, supply: &[u8]) -> Desk {
     }
 }
 
-// The data and the supply are the line's words behind the header.
+// The data and the supply are the line's words after the header.
 fn send_with(d: Desk, line: &[u8], header: [u8; 4]) -> Desk {
     let mut plain = [0u8; VALUE_MAX_BYTES];
     let t = args::take(line, 2, b"DATA", d.last, &mut plain);

@@ -64,7 +64,7 @@ fn say_name(high: u8, low: u8) {
     }
 }
 
-// The status word that stands at the end of a response.
+// The status word at the end of a response.
 pub fn say_status(response: &[u8]) {
     let n = response.len();
     if n < 2 {

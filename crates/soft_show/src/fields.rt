@@ -1,4 +1,4 @@
-// The fields of a card's bytes, in the order of docs/LAYOUT.md, by name. A slot's two fields stand once in the table of names, and the
+// The fields of a card's bytes, in the order of docs/LAYOUT.md, by name. A slot's two fields are once in the table of names, and the
 // slot's number is a part of the name, as in slot0.key.
 use card::Card;
 use card::IV_BYTES;
@@ -48,15 +48,15 @@ const SLOT_ROW: usize = 9;
 
 const SLOT_ROWS: usize = 2;
 
-// The field behind the slots, and how many fields there are.
+// The field after the slots, and how many fields there are.
 const BEHIND_SLOTS: usize = SLOT_ROW + SLOT_ROWS * Card::SLOTS;
 
 const FIELD_COUNT: usize = ROWS + SLOT_ROWS * Card::SLOTS - SLOT_ROWS;
 
-// How many bytes of a slot's name stand before its number.
+// How many bytes of a slot's name come before its number.
 const SLOT_NAME_BYTES: usize = 4;
 
-// Where a field lies, from the record's start on; a length of 0 stands for no field.
+// Where a field lies, from the record's start on; a length of 0 means no field.
 pub struct Field {
     pub at: usize,
     pub len: usize,
@@ -107,7 +107,7 @@ fn is_number(digits: &[u8], slot: usize) -> bool {
     shortest && text_decimal::number(digits) == slot
 }
 
-// Whether a name is a slot's, with its number and behind a dot this name of a field.
+// Whether a name is a slot's, with its number and after a dot this name of a field.
 fn is_slot_named(slot: usize, field: &[u8], name: &[u8]) -> bool {
     if name.len() < field.len() {
         return false;

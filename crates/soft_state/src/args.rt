@@ -110,7 +110,7 @@ pub fn take_exact(line: &[u8], k: usize, name: &[u8], last: Last, out: &mut [u8]
     take_field(line, k, name, name, last, out)
 }
 
-// The number behind the word `room`.
+// The number after the word `room`.
 fn room_number(line: &[u8], k: usize) -> usize {
     if !is_word(line, k, b"room") {
         return text_decimal::NO_NUMBER;
@@ -121,7 +121,7 @@ fn room_number(line: &[u8], k: usize) -> usize {
     text_decimal::number(&line[start..end])
 }
 
-// The room that a call gives behind its first k words, or the least that the operation takes.
+// The room that a call gives after its first k words, or the least that the operation takes.
 pub fn room(line: &[u8], k: usize, least_bytes: usize) -> Taken {
     if text_words::count(line) <= k {
         return Taken {

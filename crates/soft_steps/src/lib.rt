@@ -1,4 +1,4 @@
-// The operations that write to a buffer, each with what comes of it: ASK, ANSWER, SEAL, UNSEAL, WRITE.
+// The operations that write to a buffer, and what the soft card says of their results: ASK, ANSWER, SEAL, UNSEAL, WRITE.
 // Every length, room and count is in bytes.
 // Proved: every function is safe and ends.
 use soft_card_bytes::CARD_BYTES;
@@ -6,7 +6,7 @@ use soft_state::Desk;
 use soft_word_bytes::VALUE_MAX_BYTES;
 use text_print::say;
 
-// Whether a step was done and not refused, and the desk behind it.
+// Whether a step was done and not refused, and the desk after it.
 pub struct Step {
     pub done: bool,
     pub desk: Desk,

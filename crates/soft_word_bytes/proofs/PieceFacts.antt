@@ -107,7 +107,7 @@ module _ (p : List ℕ) where
       unfolding pairs
       pairs-taken h = rw (lt-ltb 0 (length p / 2) some, eq-eqb (length p) (2 * (length p / 2)) even, h)
 
--- ---- a number is none exactly where 9999 stands for it
+-- ---- a number is none exactly where it is read as 9999
 some-number : (b : Bool) (n : ℕ) → (cond b n 9999 ≡ 9999 → ⊥) → b ≡ true
 some-number true n h = refl
 some-number false n h = absurd (h refl)
@@ -149,7 +149,7 @@ module _ (step : ℕ) (p : List ℕ) where
           let is : isNumber (drop 3 p) ≡ true = some-number (isNumber (drop 3 p)) (spelled 0 (drop 3 p)) h in
           rw (lt-ltb (high p 0) 16 (omega arith), lt-ltb (low p 0) 16 (omega arith), is)
 
--- what stands behind byte a, lent as a part to the end
+-- what follows byte a, lent as a part to the end
 pub tail-is : (a : ℕ) (s : List ℕ) → take (length s - a) (drop a s) ≡ drop a s
 tail-is a s = take-all (length s - a) (drop a s) (omega (arith, length-drop a s))
 

@@ -1,4 +1,4 @@
--- The pieces of a word, one behind the other.
+-- The pieces of a word, one after the other.
 -- Assumes nothing.
 use mathlib.Core.Path.{_≡_, refl, sym, ap, ap₂, _∙_}
 use mathlib.Core.Bool.{true, false}
@@ -60,7 +60,7 @@ within-fits room x e = elim (decLt room (length (x .bytes))) [
   | no h ↦ rw (le-ltb room (length (x .bytes)) (omega arith)) (omega arith)
 ]
 
--- ---- a fault stands, and bytes are gone on from
+-- ---- after a fault the answer stays; without one the reading goes on
 module _ (m : Meant) (next : List ℕ → Meant) where
   stands : (m .fault ≡ 0 → ⊥) → onward m next ≡ m
   unfolding onward
@@ -70,7 +70,7 @@ module _ (m : Meant) (next : List ℕ → Meant) where
   unfolding onward
   goes-on h = rw (eq-eqb (m .fault) 0 h)
 
--- ---- the pieces before byte `at` are put, and no byte behind them is changed
+-- ---- the pieces before byte `at` are put, and no byte after them is changed
 pub record Joining (w last out₀ out : List ℕ) (at len : ℕ) : Type 0 where
   pub there : List ℕ
   pub long : len ≡ length there

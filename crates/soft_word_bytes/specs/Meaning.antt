@@ -49,7 +49,7 @@ isCounted p = ltb (high p 0) 16 && (ltb (low p 0) 16 && isNumber (drop 3 p))
 unfoldable pub counted : ℕ → List ℕ → Meant
 counted step p = cond (isCounted p) (taken (stepped (byteOf p 0) step (numberOf (drop 3 p)))) form
 
--- `last`; `*`, which is 42, or `+`, which is 43, behind two characters; or digits
+-- `last`; `*`, which is 42, or `+`, which is 43, after two characters; or digits
 unfoldable pub pieceOf : List ℕ → List ℕ → Meant
 pieceOf last p =
     cond (sameBytes p (108 ∷ 97 ∷ 115 ∷ 116 ∷ [])) (taken last)
@@ -58,7 +58,7 @@ pieceOf last p =
     (pairs p)))
 
 -- ---- `01.11*32`: pieces joined by dots, which are 46
--- what stands before the first dot, and the pieces behind it
+-- what comes before the first dot, and the pieces after it
 abbrev pub firstPiece : List ℕ → List ℕ
 firstPiece [] = []
 firstPiece (c ∷ s) = cond (eqb c 46) [] (c ∷ firstPiece s)
@@ -70,7 +70,7 @@ laterPieces (c ∷ s) = cond (eqb c 46) (firstPiece s ∷ laterPieces s) (laterP
 abbrev pub piecesIn : List ℕ → List (List ℕ)
 piecesIn w = firstPiece w ∷ laterPieces w
 
--- the bytes of the pieces, in order, behind the bytes that are there; the first fault decides
+-- the bytes of the pieces, in order, after the bytes that are there; the first fault decides
 unfoldable pub onward : Meant → (List ℕ → Meant) → Meant
 onward m next = cond (eqb (m .fault) 0) (next (m .bytes)) m
 
@@ -83,7 +83,7 @@ unfoldable pub meaning : List ℕ → List ℕ → ℕ → Meant
 meaning last w room = cond (sameBytes w (45 ∷ [])) (taken []) (joined last room [] (piecesIn w))
 
 -- ---- what a function answers and leaves in a buffer
--- the fault; where there is none, the bytes stand in the buffer from byte `at` on and end before byte `end`
+-- the fault; where there is none, the bytes are in the buffer from byte `at` on and end before byte `end`
 pub record Puts (m : Meant) (at fault end : ℕ) (before after : List ℕ) : Type 0 where
   pub told : fault ≡ m .fault
   pub ends : fault ≡ 0 → end ≡ at + length (m .bytes)

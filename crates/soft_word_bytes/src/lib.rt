@@ -1,7 +1,7 @@
 // Bytes written in one word (docs/SOFTCARD.md): hexadecimal digits, a byte repeated or rising, the last bytes, and these joined by dots.
 // Every length is in bytes.
 // Proved: a word is read as the bytes that it means, or refused for the fault that it has, as the definition says. What the buffer holds
-// behind a fault is not said, but that its length is kept.
+// after a fault is not said, but that its length is kept.
 ghost use mathlib.Core.Path.{_≡_};
 ghost use mathlib.Core.List.{[]};
 ghost use Prim.Native.Nat.{_-_, _≤_};
@@ -37,7 +37,7 @@ const TOO_MANY: Got = Got {
     len: 0,
 };
 
-// The bytes of a slice behind the first `len`.
+// The bytes of a slice after the first `len`.
 fn append(bytes: &[u8], out: &mut [u8], len: usize) -> Got
     requires { ⌜ len ≤ length (now out) ⌝ }
     ensures { λ r. ⌜ Puts (within (length (now (out .entry)) - len) (taken (now (bytes .entry)))) len (r .fault) (r .len)
@@ -54,7 +54,7 @@ fn append(bytes: &[u8], out: &mut [u8], len: usize) -> Got
     }
 }
 
-// n bytes behind the first `len`: the first is `first`, and each is by `step` more than the one before it.
+// n bytes after the first `len`: the first is `first`, and each is by `step` more than the one before it.
 fn run(first: u8, step: u8, n: usize, out: &mut [u8], len: usize) -> Got
     requires { ⌜ len ≤ length (now out) ⌝ }
     ensures { λ r. ⌜ Puts (within (length (now (out .entry)) - len) (taken (stepped first step n))) len (r .fault) (r .len)
@@ -147,7 +147,7 @@ fn piece(p: &[u8], last: &[u8], out: &mut [u8], len: usize) -> Got
     digits(p, out, len)
 }
 
-// The pieces of a word, one behind the other, each up to its dot or the word's end; the first fault decides.
+// The pieces of a word, one after the other, each up to its dot or the word's end; the first fault decides.
 fn pieces(w: &[u8], last: &[u8], out: &mut [u8]) -> Got
     ensures { λ r. ⌜ Reads (joined (now (last .entry)) (length (now (out .entry))) [] (piecesIn (now (w .entry)))) (r .fault) (r .len)
         (now (out .entry)) (now (out .exit)) ⌝ }

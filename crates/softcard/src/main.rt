@@ -10,7 +10,7 @@ use text_print::say;
 
 const LINE_MAX_BYTES: usize = 4096;
 
-// The desk behind a line, and whether there was one.
+// The desk after a line, and whether there was one.
 struct Played {
     found: bool,
     desk: Desk,

@@ -44,7 +44,7 @@ fn parts_blank(card: Card) -> bool
         & sound_channel::channel_blank(channel)
 }
 
-// Whether the card is sound (01, Operations, Sound).
+// Whether the card is sound (RULES 2.3).
 pub fn sound(card: Card) -> bool
     ensures { λ r. ⌜ r ≡ isSound card ⌝ }
 {
@@ -55,7 +55,7 @@ pub fn sound(card: Card) -> bool
     flag & parts_sound(card)
 }
 
-// RESET (01, Operations): power-up, or refusal 1 and the card as given.
+// RESET (RULES 3.4): power-up, or refusal 1 and the card as given.
 pub fn reset(card: Card) -> Answer
     ensures { λ r. ⌜ r ≡ resetAnswer card ⌝ }
 {

@@ -35,7 +35,7 @@ module _ (uid key keyUid : ℕ) (u : uid ≤ 16) (k : key ≤ 65) (j : keyUid �
   pub application-bytes-le : applicationBytes uid key keyUid ≤ 126
   application-bytes-le = omega (arith, application-bytes-is)
 
--- inner length 94 without a key, 126 with one (01, Commands, SELECT)
+-- inner length 94 without a key, 126 with one (RULES 9.5)
 pub application-bytes-none : applicationBytes 16 65 0 ≡ 94
 application-bytes-none = refl
 
@@ -64,7 +64,7 @@ pub signature-inner : (key r s : List ℕ)
 signature-inner key r s =
     length-append (field 0x80 key) (field 0x30 (pair r s)) ∙ ap₂ _+_ (field-length 0x80 key) (field-length 0x30 (pair r s))
 
--- the parts of the sequence of r and s, and those of SIGN's answer, as they are written one behind the other
+-- the parts of the sequence of r and s, and those of SIGN's answer, as they are written one after the other
 pub pair-parts : (r s : List ℕ) (n : ℕ) → n ≡ length (pair r s)
     → fieldHead 0x30 n ++ derInteger r ++ derInteger s ≡ field 0x30 (pair r s)
 pair-parts r s n e = append-assoc (fieldHead 0x30 n) (derInteger r) (derInteger s) ∙ ap (λ (k : ℕ). fieldHead 0x30 k ++ pair r s) e

@@ -1,4 +1,4 @@
--- The templates that commands answer (01, Commands, SELECT, GET STATUS and SIGN), from the values that they hold.
+-- The templates that commands answer (RULES 9.5), from the values that they hold.
 -- Every length is a number of bytes.
 use mathlib.Core.Bool.{Bool, true, false}
 use mathlib.Core.List.{List, [], _∷_, _++_}
@@ -7,11 +7,11 @@ use Rattle.template_rules.specs.Template.{field, fieldBytes}
 use Rattle.template_rules.specs.Der.{derInteger}
 use Rattle.card.specs.State.{version}
 
--- SELECT before INIT: 80 public key
+-- SELECT before INIT (RULES 6.4, 9.5): 80 public key
 abbrev pub preInitialised : List ℕ → List ℕ
 preInitialised key = field 0x80 key
 
--- SELECT after INIT: A4 holding 8F UID, 80 public key, 02 the card's version, 02 free slots, 8E key UID or empty
+-- SELECT after INIT (RULES 6.4, 9.5): A4 holding 8F UID, 80 public key, 02 the card's version, 02 free slots, 8E key UID or empty
 abbrev pub applicationFields : List ℕ → List ℕ → ℕ → List ℕ → List ℕ
 applicationFields uid key free keyUid =
     field 0x8F uid ++ field 0x80 key ++ field 0x02 version ++ field 0x02 (free ∷ []) ++ field 0x8E keyUid
@@ -28,11 +28,11 @@ abbrev pub keyByte : Bool → ℕ
 keyByte true = 0xFF
 keyByte false = 0x00
 
--- GET STATUS with P1 00: A3 holding 02 PIN tries, 02 PUK tries, 01 key
+-- GET STATUS with P1 00 (RULES 6.10, 9.5): A3 holding 02 PIN tries, 02 PUK tries, 01 key
 abbrev pub status : ℕ → ℕ → Bool → List ℕ
 status pin puk key = field 0xA3 (field 0x02 (pin ∷ []) ++ field 0x02 (puk ∷ []) ++ field 0x01 (keyByte key ∷ []))
 
--- SIGN: A0 holding 80 public key and 30 with r and s
+-- SIGN (RULES 6.18, 9.5): A0 holding 80 public key and 30 with r and s
 abbrev pub pair : List ℕ → List ℕ → List ℕ
 pair r s = derInteger r ++ derInteger s
 

@@ -36,7 +36,7 @@ pub const TAG_SIGNATURE: u8 = 0xA0;
 
 pub const TAG_SEQUENCE: u8 = 0x30;
 
-// Each writer writes from byte `at` on and gives the place behind its template. What it asks of the buffer leaves room for the longest
+// Each writer writes from byte `at` on and gives the place after its template. What it asks of the buffer leaves room for the longest
 // head before the last value.
 
 // SELECT before INIT: the public key, 65 bytes.

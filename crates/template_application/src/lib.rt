@@ -20,7 +20,7 @@ pub const VERSION_BYTES: usize = 2;
 
 pub const FREE_SLOTS_BYTES: usize = 1;
 
-// A writer writes from byte `at` on and gives the place behind its part. What it asks of the buffer leaves room for the longest head
+// A writer writes from byte `at` on and gives the place after its part. What it asks of the buffer leaves room for the longest head
 // before the last value.
 
 // How many bytes the fields of SELECT's answer take, from the lengths in bytes of those that vary.

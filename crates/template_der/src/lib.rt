@@ -15,7 +15,7 @@ use template_rules::TAG_INTEGER;
 use template_write::put_field;
 use template_write::put_head;
 
-// Writes a DER integer from byte `at` on, of a number without leading zeros, and gives the place behind it.
+// Writes a DER integer from byte `at` on, of a number without leading zeros, and gives the place after it.
 fn put_digits(buf: &mut [u8], at: usize, digits: &[u8]) -> usize
     requires { ⌜ (length (now digits) < 255) × (at + 4 + length (now digits) ≤ length (now buf)) ⌝ }
     ensures { λ r. ⌜ Wrote (field 0x02 (withSign (now (digits .entry)))) at r (now (buf .entry)) (now (buf .exit)) ⌝ }
@@ -30,7 +30,7 @@ fn put_digits(buf: &mut [u8], at: usize, digits: &[u8]) -> usize
     behind + 1 + digits.len()
 }
 
-// Writes a number, high byte first, as a DER integer from byte `at` on, and gives the place behind it. There is room for the longest
+// Writes a number, high byte first, as a DER integer from byte `at` on, and gives the place after it. There is room for the longest
 // head, a zero in front and the number.
 pub fn put_integer(buf: &mut [u8], at: usize, number: &[u8]) -> usize
     requires { ⌜ (length (now number) < 255) × (at + 4 + length (now number) ≤ length (now buf)) ⌝ }

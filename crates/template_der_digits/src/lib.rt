@@ -1,4 +1,4 @@
-// What the content of a DER integer is made of: which bytes of a number are leading zeros, and whether a zero has to stand in front.
+// What the content of a DER integer is made of: which bytes of a number are leading zeros, and whether a zero has to be put in front.
 // Every length is in bytes.
 // Proved: zeros, the zero in front and the length of the content are those that the definitions of `template` give.
 ghost use mathlib.Core.Path.{_≡_};
@@ -8,7 +8,7 @@ ghost use Rattle.template_rules.specs.Der.{leadingZeros, needsZero, derContent}
 // The bit that makes the first byte of a DER integer negative.
 pub const SIGN_BIT: u8 = 0x80;
 
-// How many zeros stand before the first byte of a number that is not zero.
+// How many zeros come before the first byte of a number that is not zero.
 pub fn leading_zeros(number: &[u8]) -> usize
     ensures { λ r. ⌜ r ≡ leadingZeros (now (number .entry)) ⌝ }
 {

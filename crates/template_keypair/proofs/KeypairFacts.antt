@@ -17,7 +17,7 @@ use Rattle.template_rules.proofs.Parts.{part-from}
 use Rattle.template_keypair.specs.Keypair.{exactly, privateFields, keypairFields, keypairWith, keypair}
 
 -- ---- exactly
--- nothing is left behind n bytes exactly where there are n
+-- nothing is left after n bytes exactly where there are n
 pub none-behind : (n : ℕ) (s : List ℕ) → n ≤ length s → eqb (length s) n ≡ exactly [] (drop n s)
 none-behind n s h =
     elim (decLt n (length s)) [

@@ -1,4 +1,4 @@
--- The keypair templates that LOAD takes (01, Commands, LOAD): A1 holding 80 (65, optional), 81 (32), and 82 (32) exactly for P1 02.
+-- The keypair templates that LOAD takes (RULES 9.4): A1 holding 80 (65, optional), 81 (32), and 82 (32) exactly for P1 02.
 -- Every length is a number of bytes.
 use mathlib.Core.Bool.{Bool, true, false, _&&_, _||_}
 use mathlib.Core.List.{List, [], _∷_}
@@ -40,7 +40,7 @@ privateFields chain = privateKey ∷ chainFields chain
 abbrev pub keypairFields : Bool → List ℕ → Bool
 keypairFields chain s = exactly (publicKey ∷ privateFields chain) s || exactly (privateFields chain) s
 
--- a template whose head is h: tag A1, nothing behind its value, and the fields inside
+-- a template whose head is h: tag A1, nothing after its value, and the fields inside
 abbrev pub keypairWith : Bool → List ℕ → Head → Bool
 keypairWith chain s Unreadable = false
 keypairWith chain s (Of h n) = eqb (tagOf s) 0xA1 && eqb (h + n) (length s) && keypairFields chain (drop h s)

@@ -1,4 +1,4 @@
-// LOAD's reader of keypair templates, for P1 01 and 02.
+// LOAD's reader of keypair templates (RULES 9.4), for P1 01 and 02.
 // Every length is in bytes.
 // Proved: exactly the templates that the definition describes are accepted, and WALK accepts each of them.
 ghost use mathlib.Core.Path.{_≡_};
@@ -22,7 +22,7 @@ pub const CHAIN_CODE_BYTES: usize = 32;
 // Each of these lengths has a head of 2 bytes.
 pub const HEAD_BYTES: usize = 2;
 
-// Whether s is a private key, with a chain code behind it exactly where one is asked for, and nothing else.
+// Whether s is a private key, with a chain code after it exactly where one is asked for, and nothing else.
 fn is_private(s: &[u8], chain: bool) -> bool
     ensures { λ r. ⌜ r ≡ exactly (privateFields chain) (now (s .entry)) ⌝ }
 {

@@ -85,7 +85,7 @@ der-length s =
     let b = sign-bounds (drop (leadingZeros s) s) in
     (b .0, omega (arith, b .1, length-drop (leadingZeros s) s))
 
--- how many bytes it takes, by whether a zero stands in front of the digits that are left from z on
+-- how many bytes it takes, by whether a zero is in front of the digits that are left from z on
 module _ (s : List ℕ) (z : ℕ) (e : z ≡ leadingZeros s) (b : Bool) (t : b ≡ needsZero (take (length s - z) (drop z s))) where
   digits : List ℕ
   digits = drop (leadingZeros s) s
@@ -126,6 +126,6 @@ strip-number (suc x ∷ s) = refl
 pub der-number : (s : List ℕ) → number (derContent s) ≡ number s
 der-number s = sign-number (drop (leadingZeros s) s) ∙ strip-number s
 
--- ---- derInteger: a zero, written behind the head and before the digits
+-- ---- derInteger: a zero, written after the head and before the digits
 pub zero-field : (s : List ℕ) → needsZero s ≡ true → fieldHead 0x02 (length s + 1) ++ 0 ∷ [] ++ s ≡ field 0x02 (withSign s)
 zero-field s e = rw (sign-zero s e, append-assoc (fieldHead 0x02 (length s + 1)) (0 ∷ []) s, add-one)

@@ -180,7 +180,7 @@ module _ (tag n : ℕ) (s : List ℕ) where
       → (tagOf s ≡ tag) × (readHead s ≡ Of (length (fieldHead tag n)) n) × (fieldBytes n ≤ length s)
   begins-facts t = announced (readHead s) refl t
 
-  -- the field is there as it would be written, before what stands behind it
+  -- the field is there as it would be written, before what follows it
   pub value : List ℕ
   value = take n (drop (length (fieldHead tag n)) s)
 

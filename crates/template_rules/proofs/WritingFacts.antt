@@ -1,4 +1,4 @@
--- Bytes that are written one part behind the other are written as one.
+-- Bytes that are written one part after the other are written as one.
 -- Assumes nothing.
 use mathlib.Core.Path.{_≡_, refl, ap, _∙_}
 use mathlib.Core.List.{List, _++_}

@@ -1,4 +1,4 @@
--- Shortest unsigned DER integers of numbers that are written high byte first (01, Commands, SIGN).
+-- Shortest unsigned DER integers of numbers that are written high byte first (RULES 9.6).
 -- Every length is a number of bytes.
 use mathlib.Core.Bool.{Bool, true, cond}
 use mathlib.Core.List.{List, [], _∷_}
@@ -7,13 +7,13 @@ use lib.Dec.{leb}
 use lib.ListN.{length, drop}
 use Rattle.template_rules.specs.Template.{field}
 
--- how many zeros stand at the front
+-- how many zeros are at the front
 abbrev pub leadingZeros : List ℕ → ℕ
 leadingZeros [] = 0
 leadingZeros (zero ∷ s) = suc (leadingZeros s)
 leadingZeros (suc x ∷ s) = 0
 
--- whether a zero has to stand in front: nothing is there, or the first byte would make the number negative
+-- whether a zero has to be put in front: nothing is there, or the first byte would make the number negative
 abbrev pub needsZero : List ℕ → Bool
 needsZero [] = true
 needsZero (x ∷ s) = leb 0x80 x

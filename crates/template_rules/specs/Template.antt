@@ -1,4 +1,4 @@
--- Fields of templates (01, Templates): one-byte tag, length to 127 in one byte or 128 to 255 as 81 and a byte, value.
+-- Fields of templates (RULES 9.1): one-byte tag, length to 127 in one byte or 128 to 255 as 81 and a byte, value.
 -- Every length is a number of bytes. From 256 on a length has no form: reading takes none, and the laws of proofs/ ask for less.
 use mathlib.Core.Bool.{Bool, false, cond, _&&_}
 use mathlib.Core.List.{List, [], _∷_, _++_}
@@ -11,7 +11,7 @@ use Rattle.template_rules.specs.declared.Head.{Head}
 use Rattle.template_rules.specs.declared.Head.the-variants.{Of, Unreadable}
 
 -- ---- reading
--- the byte of a length from 128 to 255, behind 81
+-- the byte of a length from 128 to 255, after 81
 abbrev pub readSecond : List ℕ → Head
 readSecond [] = Unreadable
 readSecond (n ∷ s) = cond (leb 128 n && ltb n 256) (Of 3 n) Unreadable
@@ -26,7 +26,7 @@ readHead (tag ∷ n ∷ s) = cond (ltb n 128) (Of 2 n) (cond (eqb n 0x81) (readS
 abbrev pub tagOf : List ℕ → ℕ
 tagOf s = getD s 0 0
 
--- whether a tag marks a template, a field whose value is a sequence of fields: bit 20
+-- whether a tag marks a template, a field whose value is a sequence of fields: bit 20 (RULES 9.2)
 abbrev pub isTemplate : ℕ → Bool
 isTemplate tag = eqb (bitAnd tag 0x20) 0x20
 
@@ -39,7 +39,7 @@ announces tag n s (Of h m) = eqb (tagOf s) tag && eqb m n && leb (h + m) (length
 abbrev pub beginsWith : ℕ → ℕ → List ℕ → Bool
 beginsWith tag n s = announces tag n s (readHead s)
 
--- ---- writing
+-- ---- writing (RULES 9.1)
 -- a length in its shortest form, for n below 256
 abbrev pub lengthField : ℕ → List ℕ
 lengthField n = cond (ltb n 128) (n ∷ []) (0x81 ∷ n ∷ [])

@@ -6,7 +6,7 @@ use Prim.Native.Nat.{ℕ, _+_, _≤_}
 use lib.ListN.{length}
 use Rattle.octets.specs.Bytes.{overwrite}
 
--- t stands whole in the buffer from byte `at` on, every other byte is as it was, and `next` is the place behind t
+-- t is whole in the buffer from byte `at` on, every other byte is as it was, and `next` is the place after t
 pub record Wrote (t : List ℕ) (at next : ℕ) (before after : List ℕ) : Type 0 where
   pub place : next ≡ at + length t
   pub fits : next ≤ length before

@@ -16,7 +16,7 @@ use template_write::field_bytes;
 use template_write::put_field;
 use template_write::put_head;
 
-// A writer writes from byte `at` on and gives the place behind its part. What it asks of the buffer leaves room for the longest head
+// A writer writes from byte `at` on and gives the place after its part. What it asks of the buffer leaves room for the longest head
 // before the last value.
 
 // How many bytes the DER integers of r and s, 32 bytes each, take together.

@@ -83,7 +83,7 @@ module _ (levels : ℕ) (t : List ℕ) where
       ∙ rw (field-kept (valueOf levels) s t c b p, drop-append-le b s t g, ih k q)
       (plus-plus c k (sequenceOf levels t) ∙ rw same)
 
-  -- by what the first field is, where what is left behind any field joins
+  -- by what the first field is, where what is left after any field joins
   by-first : (s : List ℕ) (f : Field) → (length s ≡ 0 → ⊥) → readField (valueOf levels) s ≡ f → Inside s f
       → ((b : ℕ) → 2 ≤ b → Joins (drop b s)) → Joins s
   unfolding Joins

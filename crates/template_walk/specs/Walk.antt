@@ -1,4 +1,4 @@
--- WALK (01, Templates): how many fields that are not templates a sequence of fields holds, or the first fault from the left.
+-- WALK (RULES 9.3): how many fields that are not templates a sequence of fields holds, or the first fault from the left.
 -- Every length is a number of bytes.
 use mathlib.Core.Bool.{cond}
 use mathlib.Core.List.{List}
@@ -21,7 +21,8 @@ abbrev pub asField : ℕ → Walked → Field
 asField bytes (Fields n) = Whole n bytes
 asField bytes (Refused f) = Faulty f
 
--- the field that begins s, whose head is h: the end within the parent, then depth and content by `inside`, which walks a template's value
+-- the field that begins s, whose head is h (RULES 9.3, the order of tests): the end within the parent, then depth and content by `inside`,
+-- which walks a template's value
 unfoldable pub fieldWith : (List ℕ → Walked) → List ℕ → Head → Field
 fieldWith inside s Unreadable = Faulty Malformed
 fieldWith inside s (Of h n) =
@@ -35,7 +36,7 @@ abbrev pub plus : ℕ → Walked → Walked
 plus c (Fields n) = Fields (c + n)
 plus c (Refused f) = Refused f
 
--- a field, and then what stands behind it
+-- a field, and then what follows it
 abbrev pub andThen : Field → (ℕ → Walked) → Walked
 andThen (Whole c bytes) rest = plus c (rest bytes)
 andThen (Faulty f) rest = Refused f
@@ -46,7 +47,7 @@ fieldsOf inside zero s = Fields 0
 fieldsOf inside (suc n) s =
     cond (eqb (length s) 0) (Fields 0) (andThen (readField inside s) (λ (bytes : ℕ). fieldsOf inside n (drop bytes s)))
 
--- the value of a template, where this many more levels may be entered
+-- the value of a template, where this many more levels may be entered (RULES 9.2)
 unfoldable pub valueOf : ℕ → List ℕ → Walked
 valueOf zero s = Refused TooDeep
 valueOf (suc levels) s = fieldsOf (valueOf levels) (length s) s
@@ -55,11 +56,11 @@ valueOf (suc levels) s = fieldsOf (valueOf levels) (length s) s
 abbrev pub sequenceOf : ℕ → List ℕ → Walked
 sequenceOf levels s = fieldsOf (valueOf levels) (length s) s
 
--- a template at the top is at depth 1, and depth 4 is the last that is read
+-- a template at the top is at depth 1, and depth 4 is the last that is read (RULES 9.2)
 abbrev pub walkOf : List ℕ → Walked
 walkOf s = sequenceOf 4 s
 
--- the number of each refusal (01, Operations and numbered refusals)
+-- the number of each refusal (RULES 3.2)
 abbrev pub refusalNumber : Fault → ℕ
 refusalNumber Malformed = malformed
 refusalNumber TooDeep = tooDeep
@@ -73,5 +74,6 @@ abbrev pub report : Walked → WalkOut
 report (Fields n) = record { refusal = noRefusal; count = n }
 report (Refused f) = record { refusal = refusalNumber f; count = 0 }
 
+-- WALK (RULES 9.3)
 abbrev pub WALK : List ℕ → WalkOut
 WALK s = report (walkOf s)

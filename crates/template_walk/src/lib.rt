@@ -1,4 +1,4 @@
-// WALK: how many fields that are not templates some bytes hold, or why they are no templates.
+// WALK (RULES 9.3): how many fields that are not templates some bytes hold, or why they are no templates.
 // Every length is in bytes; depth is counted in templates, a template at the top being at depth 1.
 // Proved: for any bytes the answer is what the definition of WALK gives. Calls nest only as deep as templates do.
 ghost use mathlib.Core.Path.{_≡_};

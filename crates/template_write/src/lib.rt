@@ -23,7 +23,7 @@ pub fn field_bytes(value_bytes: usize) -> usize
     }
 }
 
-// Writes the head of a field from byte `at` on, and gives the place behind it. There is room for the longest head.
+// Writes the head of a field from byte `at` on, and gives the place after it. There is room for the longest head.
 pub fn put_head(buf: &mut [u8], at: usize, tag: u8, value_bytes: usize) -> usize
     requires { ⌜ («value_bytes» < 256) × (at + 3 ≤ length (now buf)) ⌝ }
     ensures { λ r. ⌜ Wrote (fieldHead tag «value_bytes») at r (now (buf .entry)) (now (buf .exit)) ⌝ }
@@ -38,7 +38,7 @@ pub fn put_head(buf: &mut [u8], at: usize, tag: u8, value_bytes: usize) -> usize
     at + 3
 }
 
-// Writes a field from byte `at` on, and gives the place behind it. There is room for the longest head and the value.
+// Writes a field from byte `at` on, and gives the place after it. There is room for the longest head and the value.
 pub fn put_field(buf: &mut [u8], at: usize, tag: u8, value: &[u8]) -> usize
     requires { ⌜ (length (now value) < 256) × (at + 3 + length (now value) ≤ length (now buf)) ⌝ }
     ensures { λ r. ⌜ Wrote (field tag (now (value .entry))) at r (now (buf .entry)) (now (buf .exit)) ⌝ }

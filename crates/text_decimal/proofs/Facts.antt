@@ -20,7 +20,7 @@ module _ (w : List ℕ) where
   pub none-long : 4 < length w → 9999 ≡ numberOf w
   none-long h = rw (lt-ltb 0 (length w) (omega arith), le-ltb (length w) 5 (omega arith))
 
--- ---- digits behind a number make it no smaller
+-- ---- digits after a number make it no smaller
 grows : (n : ℕ) (s : List ℕ) → n ≤ spelled n s
 grows n [] = omega arith
 grows n (c ∷ s) = omega (arith, grows (n * 10 + digitOf c) s)

@@ -14,7 +14,7 @@ abbrev pub allDigits : List ℕ → Bool
 allDigits [] = true
 allDigits (c ∷ s) = ltb (digitOf c) 10 && allDigits s
 
--- the number that digits spell behind the number n, the highest first
+-- the number that digits spell after the number n, the highest first
 abbrev pub spelled : ℕ → List ℕ → ℕ
 spelled n [] = n
 spelled n (c ∷ s) = spelled (n * 10 + digitOf c) s
@@ -23,6 +23,6 @@ spelled n (c ∷ s) = spelled (n * 10 + digitOf c) s
 abbrev pub isNumber : List ℕ → Bool
 isNumber w = ltb 0 (length w) && (ltb (length w) 5 && (allDigits w && ltb (spelled 0 w) 1025))
 
--- the number that a word spells; 9999 stands for none
+-- the number that a word spells; 9999 means none
 abbrev pub numberOf : List ℕ → ℕ
 numberOf w = cond (isNumber w) (spelled 0 w) 9999

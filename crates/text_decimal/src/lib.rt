@@ -6,7 +6,7 @@ ghost use Rattle.text_decimal.specs.Decimal.{digitOf, numberOf};
 // The largest number.
 pub const MOST: usize = 1024;
 
-// What stands for a word that is no number.
+// What a word that is no number is read as.
 pub const NO_NUMBER: usize = 9999;
 
 // The most digits.

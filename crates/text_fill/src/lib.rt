@@ -1,4 +1,4 @@
-// Bytes made by a rule, to be sent as data or to stand in a buffer. For the programs.
+// Bytes made by a rule, to be sent as data or put into a buffer. For the programs.
 // Every length is in bytes.
 // Proved: `fill` and `fill_pattern` write the bytes that their rule says, and `bounded` is the lesser of a number and a length.
 ghost use mathlib.Core.Path.{_≡_};
@@ -7,7 +7,7 @@ ghost use lib.ListN.{length};
 ghost use Rattle.io.specs.Counts.{Counts};
 ghost use Rattle.text_fill.specs.Steps.{stepped};
 
-// What stands in a buffer before an operation gets it.
+// What is in a buffer before an operation gets it.
 const PATTERN_FIRST: u8 = 0xa5;
 
 const PATTERN_STEP: u8 = 13;

@@ -1,4 +1,4 @@
--- Where a byte stands in a text.
+-- Where a byte is in a text.
 use mathlib.Core.Path.{_≡_}
 use mathlib.Core.List.{List}
 use Prim.Native.Nat.{ℕ, _≤_, _<_}

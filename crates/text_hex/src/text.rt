@@ -3,7 +3,7 @@ ghost use Prim.Native.Nat.{_<_, _≤_};
 ghost use lib.ListN.{length};
 ghost use Rattle.text_hex.specs.Places.{First};
 
-// A part of the file: from byte `start` up to byte `end`, which is not in it. No value starts at byte 0, so 0 to 0 stands for none.
+// A part of the file: from byte `start` up to byte `end`, which is not in it. No value starts at byte 0, so 0 to 0 means none.
 pub struct TextSpan {
     pub start: usize,
     pub end: usize,
@@ -53,7 +53,7 @@ pub fn place_of(s: &[u8], at: usize, mark: u8) -> usize
     i
 }
 
-// Where the next line begins, behind the line from byte `at` to byte `end`.
+// Where the next line begins, after the line from byte `at` to byte `end`.
 pub fn line_behind(s: &[u8], at: usize, end: usize) -> usize
     requires { ⌜ (at < length (now s)) × (at ≤ end) × (end ≤ length (now s)) ⌝ }
     ensures { λ r. ⌜ (at < r) × (r ≤ length (now (s .entry))) ⌝ }
@@ -75,7 +75,7 @@ pub fn trimmed(s: &[u8], at: usize, end: usize) -> usize
     end
 }
 
-// Where the value of a line begins: two bytes behind the equals sign; at the line's end where there is none.
+// Where the value of a line begins: two bytes after the equals sign; at the line's end where there is none.
 pub fn value_start(s: &[u8], at: usize, end: usize) -> usize
     requires { ⌜ (at ≤ end) × (end ≤ length (now s)) ⌝ }
     ensures { λ r. ⌜ (at ≤ r) × (r ≤ end) ⌝ }

@@ -45,7 +45,7 @@ module _ (s : List ℕ) (i : ℕ) where
     pub words-end : (b : Bool) → wordsBehind b (drop i s) ≡ 0
     words-end b = ap (wordsBehind b) (drop-of-length-le s {i = i} h)
 
--- ---- the places behind blanks and behind a word
+-- ---- the places after blanks and after a word
 pub from-blanks : (s : List ℕ) (at r : ℕ) → r ≡ at + blanks (drop at s) → drop r s ≡ fromWord (drop at s)
 from-blanks s at r e = rw e (sym (drop-drop (blanks (drop at s)) at s))
 

@@ -31,7 +31,7 @@ pub fn trimmed(s: &[u8]) -> usize
     if s[last] == b'\r' { last } else { n }
 }
 
-// The place behind the blanks that begin at `at`.
+// The place after the blanks that begin at `at`.
 fn behind_blanks(s: &[u8], at: usize) -> usize
     requires { ⌜ at ≤ length (now s) ⌝ }
     ensures { λ r. ⌜ (r ≡ at + blanks (drop at (now (s .entry)))) × (r ≤ length (now (s .entry))) ⌝ }
@@ -46,7 +46,7 @@ fn behind_blanks(s: &[u8], at: usize) -> usize
     i
 }
 
-// The place behind the word that begins at `at`.
+// The place after the word that begins at `at`.
 fn behind_word(s: &[u8], at: usize) -> usize
     requires { ⌜ at ≤ length (now s) ⌝ }
     ensures { λ r. ⌜ (r ≡ at + letters (drop at (now (s .entry)))) × (r ≤ length (now (s .entry))) ⌝ }

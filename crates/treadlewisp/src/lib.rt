@@ -1,4 +1,5 @@
-// The operations for callers in C and Rust: include/treadlewisp.h declares them. A card and a session are lent, and changed where they lie.
+// The operations for callers in C and Rust (RULES 3.8; include/treadlewisp.h), over a card and a session that are lent and changed where they
+// lie.
 // Every length, room and count is in bytes; a refusal 0 means that there was none.
 // Proved: the promises of the operations by value, over the record at entry and at exit; refused, it is as it was (READ: FRESH of zeros).
 ghost use mathlib.Core.Path.{_≡_};

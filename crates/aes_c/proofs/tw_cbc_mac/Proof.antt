@@ -1,4 +1,4 @@
--- `aes_c::tw_cbc_mac` meets its contract. An answer of 0 gives a first block and whole blocks behind it; joined they are the text.
+-- `aes_c::tw_cbc_mac` meets its contract. An answer of 0 gives a first block and whole blocks after it; joined they are the text.
 -- Assumes nothing.
 use mathlib.Core.Path.{_≡_, refl, sym, ap, ap₂, _∙_}
 use mathlib.Core.List.{List, _++_}

@@ -1,4 +1,4 @@
--- The block deciphered in its place is the chain's next block, and the answer is the ciphertext that stood there.
+-- The block deciphered in its place is the chain's next block, and the answer is the ciphertext that was there.
 -- Assumes nothing.
 use mathlib.Core.Path.{_≡_, sym, ap, _∙_}
 use mathlib.Core.List.{List}

@@ -1,4 +1,4 @@
--- Behind round r the rounds r - 1 to 1 are left; the step behind the loop completes the inverse cipher.
+-- After round r the rounds r - 1 to 1 are left; the step after the loop completes the inverse cipher.
 -- Assumes nothing.
 use mathlib.Core.Path.{_≡_, refl, ap, ap₂, _∙_}
 use mathlib.Core.List.{List}

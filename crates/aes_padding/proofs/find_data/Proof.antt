@@ -1,4 +1,4 @@
--- What was seen from the end decides: the mark with only zeros behind it, or that no list has this padding.
+-- What was seen from the end decides: the mark with only zeros after it, or that no list has this padding.
 -- Assumes nothing.
 use mathlib.Core.Path.{_≡_}
 use mathlib.Core.List.{List}

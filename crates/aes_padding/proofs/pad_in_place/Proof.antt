@@ -1,4 +1,4 @@
--- The mark, and after each turn one zero more, stand where padding puts them; what is behind is kept.
+-- The mark, and after each turn one zero more, are where padding puts them; what follows is kept.
 -- Assumes nothing.
 use Rattle.aes_padding.proofs.Laws.{padded-larger}
 use Rattle.aes_padding.proofs.Writing.{Written, written-mark, written-zero, written-all, written-from, written-to}

@@ -1,4 +1,4 @@
--- Data and status word are put behind the MAC's place, sealed there, and 9000 follows.
+-- Data and status word are put after the MAC's place, sealed there, and 9000 follows.
 -- Assumes nothing.
 use mathlib.Core.Path.{_≡_, refl, sym, ap, _∙_}
 use mathlib.Core.List.{List, [], _∷_}

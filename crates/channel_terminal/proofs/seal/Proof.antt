@@ -1,4 +1,4 @@
--- Each refusal is the definition's; else the front, and the field sealed in the part behind it, are the command.
+-- Each refusal is the definition's; else the front, and the field sealed in the part after it, are the command.
 -- Assumes nothing.
 use mathlib.Core.Path.{_≡_, refl, sym, ap, _∙_}
 use mathlib.Core.List.{List, [], _∷_}

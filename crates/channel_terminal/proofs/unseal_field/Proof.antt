@@ -1,4 +1,4 @@
--- Nothing opened or too little is refused; else the plaintext is written and nothing behind it.
+-- Nothing opened or too little is refused; else the plaintext is written and nothing after it.
 -- Assumes nothing.
 use mathlib.Core.Path.{_≡_, refl, sym, ap, _∙_}
 use mathlib.Core.List.{List}

@@ -1,4 +1,4 @@
--- The padding that was found and the test of what stands before it decide as the definition does.
+-- The padding that was found and the test of what is before it decide as the definition does.
 -- Assumes nothing.
 use mathlib.Core.List.{List}
 use mathlib.Core.Path.{sym, ap, _∙_}

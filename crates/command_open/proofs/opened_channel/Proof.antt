@@ -1,4 +1,4 @@
--- Each part of the supply stands in its field.
+-- Each part of the supply is in its field.
 -- Assumes nothing.
 use borrow.Author.Needs.{needs}
 use Rattle.command_open.proofs.ReplyFacts.{opened-is}

@@ -1,4 +1,4 @@
--- Salt and IV are written as they stand in the supply.
+-- Salt and IV are written as they are in the supply.
 -- Assumes nothing.
 use mathlib.Core.List.{List, _++_}
 use mathlib.Core.Path.{ap₂}

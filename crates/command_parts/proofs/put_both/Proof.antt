@@ -1,4 +1,4 @@
--- Two parts that were put one behind the other are written as one.
+-- Two parts that were put one after the other are written as one.
 -- Assumes nothing.
 use borrow.Author.Needs.{needs}
 use Rattle.command_parts.proofs.ReplyFacts.{wrote-two}

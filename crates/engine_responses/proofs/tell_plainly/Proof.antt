@@ -1,4 +1,4 @@
--- The response data, and the status word behind it.
+-- The response data, and the status word after it.
 -- Assumes nothing.
 use native.Mathlib.Omega.{arith}
 use Rattle.engine_responses.proofs.Writing.{did-plainly}

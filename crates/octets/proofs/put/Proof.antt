@@ -1,4 +1,4 @@
--- `put` overwrites: after turn i the first i bytes of src stand in their place and nothing else has changed.
+-- `put` overwrites: after turn i the first i bytes of src are in their place and nothing else has changed.
 -- Assumes nothing.
 use mathlib.Core.Path.{_≡_, refl, sym, ap, _∙_}
 use mathlib.Core.List.{List}

@@ -1,4 +1,4 @@
--- Three fields, each at the place behind the one before it, by `at-next`.
+-- Three fields, each at the place after the one before it, by `at-next`.
 -- Assumes nothing.
 use Rattle.card.specs.Sizes.{uidBytes, publicKeyBytes}
 use mathlib.Core.Path.{ap, _∙_}

@@ -1,4 +1,4 @@
--- Four fields, each at the place behind the one before it, by `at-next`.
+-- Four fields, each at the place after the one before it, by `at-next`.
 -- Assumes nothing.
 use Rattle.card.specs.Sizes.{keyBytes}
 use mathlib.Core.Path.{_∙_}

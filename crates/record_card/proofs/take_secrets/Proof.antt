@@ -1,4 +1,4 @@
--- Five fields, each at the place behind the one before it, by `at-next`.
+-- Five fields, each at the place after the one before it, by `at-next`.
 -- Assumes nothing.
 use Rattle.card.specs.Sizes.{pinBytes, pukBytes, keyBytes, slotBytes, slotCount}
 use mathlib.Core.Path.{ap, _∙_}

@@ -1,4 +1,4 @@
--- A slot is its flag and then its key, written one behind the other.
+-- A slot is its flag and then its key, written one after the other.
 -- Assumes nothing.
 use mathlib.Core.Path.{refl, sym, ap, _∙_}
 use mathlib.Core.List.{[], _∷_}

@@ -1,4 +1,4 @@
--- The content is filled in from its span, and the place behind it is given.
+-- The content is filled in from its span, and the place after it is given.
 -- Assumes nothing.
 use mathlib.Core.Path.{ap, _∙_}
 use mathlib.Core.List.{List}

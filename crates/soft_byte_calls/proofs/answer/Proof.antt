@@ -1,4 +1,4 @@
--- ANSWER of the card whose bytes are given, told by `card-did`.
+-- ANSWER of the card whose bytes are given, by `card-did`.
 -- Assumes nothing.
 use borrow.Author.Needs.{needs}
 use Rattle.soft_byte_calls.proofs.CallFacts.{card-did}

@@ -1,4 +1,4 @@
--- READ, told by `answer-flat`.
+-- READ, by `answer-flat`.
 -- Assumes nothing.
 use borrow.Author.Needs.{needs}
 use Rattle.soft_byte_calls.proofs.CallFacts.{answer-flat}

@@ -1,4 +1,4 @@
--- RESET of the card whose bytes are given, told by `answer-flat`.
+-- RESET of the card whose bytes are given, by `answer-flat`.
 -- Assumes nothing.
 use borrow.Author.Needs.{needs}
 use Rattle.soft_byte_calls.proofs.CallFacts.{answer-flat}

@@ -1,4 +1,4 @@
--- SEAL with the session whose bytes are given, told by `seal-did`.
+-- SEAL with the session whose bytes are given, by `seal-did`.
 -- Assumes nothing.
 use mathlib.Core.Path.{_≡_}
 use lib.ListN.{length}

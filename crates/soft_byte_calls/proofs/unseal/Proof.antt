@@ -1,4 +1,4 @@
--- UNSEAL with the session whose bytes are given, told by `session-did`.
+-- UNSEAL with the session whose bytes are given, by `session-did`.
 -- Assumes nothing.
 use borrow.Author.Needs.{needs}
 use Rattle.soft_byte_calls.proofs.CallFacts.{session-did}

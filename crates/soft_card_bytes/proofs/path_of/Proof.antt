@@ -1,4 +1,4 @@
--- The length in use at its place, and the bytes behind it.
+-- The length in use at its place, and the bytes after it.
 -- Assumes nothing.
 use borrow.Author.Needs.{needs}
 use Rattle.soft_card_bytes.proofs.path_of.Statement.{statement}

@@ -1,4 +1,4 @@
--- The first byte, and the five parts behind it.
+-- The first byte, and the five parts after it.
 -- Assumes nothing.
 use mathlib.Core.Path.{sym, refl}
 use mathlib.Core.List.{[], _∷_}

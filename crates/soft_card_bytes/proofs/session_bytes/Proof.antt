@@ -1,4 +1,4 @@
--- Three fields, each written behind the one before it, and the last ends the bytes.
+-- Three fields, each written after the one before it, and the last ends the bytes.
 -- Assumes nothing.
 use mathlib.Core.Path.{sym, _∙_}
 use mathlib.Core.List.{[]}

@@ -1,4 +1,4 @@
--- Four fields, each written behind the one before it, and the last ends the record.
+-- Four fields, each written after the one before it, and the last ends the record.
 -- Assumes nothing.
 use mathlib.Core.Path.{_∙_}
 use native.Mathlib.Omega.{arith}

@@ -1,4 +1,4 @@
--- Two fields, each written behind the one before it.
+-- Two fields, each written after the one before it.
 -- Assumes nothing.
 use native.Mathlib.Omega.{arith}
 use lib.ListN.{take}

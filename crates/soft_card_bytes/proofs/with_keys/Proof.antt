@@ -1,4 +1,4 @@
--- Four fields, each written behind the one before it.
+-- Four fields, each written after the one before it.
 -- Assumes nothing.
 use native.Mathlib.Omega.{arith}
 use lib.ListN.{take, set, length-set}

@@ -1,4 +1,4 @@
--- Four fields, each written behind the one before it.
+-- Four fields, each written after the one before it.
 -- Assumes nothing.
 use mathlib.Core.Path.{sym, ap, _∙_}
 use mathlib.Core.List.{List, _++_}

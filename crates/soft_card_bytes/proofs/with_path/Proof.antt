@@ -1,4 +1,4 @@
--- The length in use, and the bytes behind it.
+-- The length in use, and the bytes after it.
 -- Assumes nothing.
 use mathlib.Core.Path.{ap, _∙_}
 use Prim.Native.Nat.{ℕ, _+_}

@@ -1,4 +1,4 @@
--- Two fields and three bytes, each written behind what is before it.
+-- Two fields and three bytes, each written after what is before it.
 -- Assumes nothing.
 use mathlib.Core.Path.{refl}
 use mathlib.Core.List.{[], _∷_}

@@ -1,4 +1,4 @@
--- `say_slots` is safe and ends: each slot's flag stands within the record. The measure is the number of slots left.
+-- `say_slots` is safe and ends: each slot's flag is within the record. The measure is the number of slots left.
 -- Assumes nothing.
 use Prim.Native.Nat.{_-_, _≤_}
 use native.Mathlib.Omega.{arith}

@@ -1,4 +1,4 @@
--- `put_application_fields` writes the five fields one behind the other; there is room for each.
+-- `put_application_fields` writes the five fields one after the other; there is room for each.
 use native.Mathlib.Omega.{arith}
 use borrow.Author.Needs.{needs}
 use Rattle.template_rules.proofs.HeadFacts.{short-field}

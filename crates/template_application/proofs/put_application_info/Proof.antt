@@ -1,4 +1,4 @@
--- `put_application_info` writes the head for the length of the fields, and the fields behind it.
+-- `put_application_info` writes the head for the length of the fields, and the fields after it.
 use mathlib.Core.Path.{sym, ap, _∙_}
 use mathlib.Core.List.{_++_}
 use Prim.Native.Nat.{ℕ}

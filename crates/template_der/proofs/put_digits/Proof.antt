@@ -1,4 +1,4 @@
--- `put_digits` writes the digits as they are, or head, zero and digits one behind the other.
+-- `put_digits` writes the digits as they are, or head, zero and digits one after the other.
 use mathlib.Core.Path.{sym, ap, _∙_}
 use mathlib.Core.List.{[]}
 use Prim.Native.Nat.{_+_}

@@ -1,4 +1,4 @@
--- `der_bytes` counts the digits behind the leading zeros, and the zero that may stand in front.
+-- `der_bytes` counts the digits after the leading zeros, and the zero that may be in front.
 use native.Mathlib.Omega.{arith}
 use borrow.Author.Needs.{needs}
 use Rattle.template_rules.proofs.DerFacts.{zeros-within, content-more, content-same}

@@ -1,4 +1,4 @@
--- `put_pair` writes head, r and s one behind the other; there is room for each, since no DER integer is longer than 35 bytes.
+-- `put_pair` writes head, r and s one after the other; there is room for each, since no DER integer is longer than 35 bytes.
 use native.Mathlib.Omega.{arith}
 use borrow.Author.Needs.{needs}
 use Rattle.template_rules.proofs.HeadFacts.{short-head}

@@ -1,4 +1,4 @@
--- `put_signature` writes head, key and pair one behind the other; there is room for each.
+-- `put_signature` writes head, key and pair one after the other; there is room for each.
 use mathlib.Core.Path.{ap, ap₂, _∙_}
 use Prim.Native.Nat.{_+_}
 use native.Mathlib.Omega.{arith}

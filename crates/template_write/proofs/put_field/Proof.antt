@@ -1,4 +1,4 @@
--- `put_field` writes a head and then the value behind it, which is the field.
+-- `put_field` writes a head and then the value after it, which is the field.
 use mathlib.Core.List.{[]}
 use native.Mathlib.Omega.{arith}
 use lib.ListN.{length}

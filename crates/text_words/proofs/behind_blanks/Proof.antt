@@ -1,4 +1,4 @@
--- `behind_blanks` meets its contract. Invariant: the place and the blanks behind it make up the place that is told.
+-- `behind_blanks` meets its contract. Invariant: the place and the blanks after it make up the place that is given.
 -- Assumes nothing.
 use mathlib.Core.Path.{_≡_, refl, sym, _∙_}
 use Prim.Native.Nat.{_+_, _-_, _≤_}

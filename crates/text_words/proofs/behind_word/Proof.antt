@@ -1,4 +1,4 @@
--- `behind_word` meets its contract. Invariant: the place and the characters of the word behind it make up the place that is told.
+-- `behind_word` meets its contract. Invariant: the place and the characters of the word after it make up the place that is given.
 -- Assumes nothing.
 use mathlib.Core.Path.{_≡_, refl, sym, _∙_}
 use Prim.Native.Nat.{_+_, _-_, _≤_}

@@ -1,4 +1,4 @@
--- `is_comment` meets its contract: what stands behind the blanks is the first word's first character.
+-- `is_comment` meets its contract: what follows the blanks is the first word's first character.
 -- Assumes nothing.
 use mathlib.Core.Path.{sym, ap, _∙_}
 use Prim.Native.Nat.{ℕ}

@@ -1,4 +1,4 @@
--- `vectors::file::run_text` is safe and ends. The measure is what is left of the file: the next line begins behind this one.
+-- `vectors::file::run_text` is safe and ends. The measure is what is left of the file: the next line begins after this one.
 -- Assumes nothing.
 use Prim.Native.Nat.{_-_, _≤_}
 use lib.ListN.{length}

@@ -1,4 +1,4 @@
--- The byte behind the place, or zero where the slice has ended before it.
+-- The byte after the place, or zero where the slice has ended before it.
 -- Assumes nothing.
 use mathlib.Core.Path.{sym}
 use native.Mathlib.Omega.{arith}

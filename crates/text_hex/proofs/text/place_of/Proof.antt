@@ -1,4 +1,4 @@
--- `text::place_of` meets its contract. The loop's invariant: the position lies between the start and the end, and the byte does not stand
+-- `text::place_of` meets its contract. The loop's invariant: the position lies between the start and the end, and the byte is not
 -- before it.
 -- Assumes nothing.
 use mathlib.Core.Path.{_≡_}
