@@ -59,7 +59,7 @@ abbrev nine : List ℕ
 nine = 0x90 ∷ 0x00 ∷ []
 
 nine-bytes : Bytes nine
-nine-bytes = (omega arith, omega arith, tt)
+nine-bytes = (omega arith, (omega arith, tt))
 
 -- ---- RESET
 reset-is : (c : Card) → isSound c ≡ true → resetAnswer c ≡ done (resetOf c)
