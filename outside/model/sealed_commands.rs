@@ -1,5 +1,5 @@
 //! The commands of document 01 that come sealed: MUTUAL in stage 1 or 2, all others in stage 2. Their answers are sealed where the channel
-//! then is in stage 2, and plain where it is not. Lengths are in bytes.
+//! then stands in stage 2, and plain where it does not. Lengths are in bytes.
 
 use super::card::*;
 use super::commands::*;
