@@ -1,13 +1,13 @@
 /* The engine of a wallet card, for C and C++: the functions of the library that `rt staticlib treadlewisp` writes, on x86-64 Linux.
    Every length, room and count is in bytes unless the line says fields or tries. Nothing is kept between calls, and nothing is allocated;
    of the C library only memcpy and memset are needed.
-   What is proved of each function stands at its name in crates/treadlewisp/src/lib.rt. It holds if the caller ensures, at every call:
+   What is proved of each function is at its name in crates/treadlewisp/src/lib.rt. It holds if the caller ensures, at every call:
    - each pointer is valid for the bytes named (a buffer, and a card or session that is changed: to read and write), and is not null, also
      where the length is 0; no pointer needs an alignment;
    - a length is the number of bytes that may be read, or written, from its pointer on, and is under 2^63;
    - memory that a call may write (card or session without const, buffer) overlaps no other argument of that call, and no other thread
      reads or writes it meanwhile; memory that a call only reads is written by no one meanwhile.
-   The same stands at each function, for its own arguments. */
+   The same is said at each function, for its own arguments. */
 #ifndef TREADLEWISP_H
 #define TREADLEWISP_H
 
@@ -52,7 +52,7 @@ enum {
     TW_HEADER_BYTES = 4,                         /* CLA INS P1 P2 */
     TW_STATUS_BYTES = 2,                         /* a status word, the high byte first */
 
-    /* Where each field of tw_card begins, in bytes from its start: behind the field before it. */
+    /* Where each field of tw_card begins, in bytes from its start: after the field before it. */
     TW_AT_INITIALISED = 0,
     TW_AT_UID = TW_AT_INITIALISED + 1,
     TW_AT_PUBLIC_KEY = TW_AT_UID + TW_UID_BYTES,
@@ -267,8 +267,8 @@ TW_CHECK(sizeof(tw_card) == TW_CARD_BYTES, "the length of a card");
 TW_CHECK(sizeof(tw_slot) == TW_SLOT_BYTES && offsetof(tw_slot, key) == 1, "the length of a slot");
 TW_CHECK(sizeof(tw_path) == TW_PATH_BYTES && offsetof(tw_path, bytes) == 1, "the length of a path");
 TW_CHECK(sizeof(tw_session) == TW_SESSION_BYTES, "the length of a session");
-TW_CHECK(offsetof(tw_session, mac_key) == TW_KEY_BYTES, "mac_key behind enc_key");
-TW_CHECK(offsetof(tw_session, iv) == TW_KEY_BYTES + TW_KEY_BYTES, "iv behind both keys");
+TW_CHECK(offsetof(tw_session, mac_key) == TW_KEY_BYTES, "mac_key after enc_key");
+TW_CHECK(offsetof(tw_session, iv) == TW_KEY_BYTES + TW_KEY_BYTES, "iv after both keys");
 TW_CHECK(offsetof(tw_card, initialised) == TW_AT_INITIALISED, "where initialised begins");
 TW_CHECK(offsetof(tw_card, uid) == TW_AT_UID, "where uid begins");
 TW_CHECK(offsetof(tw_card, public_key) == TW_AT_PUBLIC_KEY, "where public_key begins");

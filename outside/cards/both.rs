@@ -103,8 +103,8 @@ impl Both {
         }
     }
 
-    /// The model's bytes and those that the library left. Through the black box they are read anew: what Rust takes for granted of bytes
-    /// that a call only borrows is what is to be found out here.
+    /// The model's bytes and those that the library left. They are read through the black box: otherwise Rust may take it for
+    /// granted that bytes which a call only borrows did not change, and that is what is tested here.
     fn same_bytes(&self, call: &Call, what: &str, model: &[u8], library: &Guarded) {
         let library = black_box(library);
         if model != library.content() {

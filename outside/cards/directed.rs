@@ -220,7 +220,7 @@ fn forms(both: &mut Both, random: &mut Random) {
     }
 }
 
-/// Every way of every supply, wherever the card can stand.
+/// Every way of every supply, in every situation of the card.
 fn supplies(both: &mut Both, random: &mut Random) {
     for situation in EVERY_SITUATION {
         for kind in kinds(situation).iter().copied().filter(|&kind| kind != 0) {

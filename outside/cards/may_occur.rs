@@ -66,7 +66,7 @@ pub fn room_of(operation: Operation, bytes: usize) -> Option<Room> {
     })
 }
 
-/// Where a sound card stands when a call comes.
+/// The situation of a sound card when a call comes.
 #[derive(Clone, Copy, PartialEq, Eq, PartialOrd, Ord, Debug)]
 pub enum Situation {
     PreInitialised,

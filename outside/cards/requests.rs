@@ -1,4 +1,4 @@
-//! What a terminal sends before sealing: for each command a right request, as a well-behaved terminal makes it for the card as it stands, and
+//! What a terminal sends before sealing: for each command a right request, as a well-behaved terminal makes it for the card as it is, and
 //! a wrong one. Lengths are in bytes.
 
 use crate::states::random_path;

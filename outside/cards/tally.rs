@@ -16,16 +16,16 @@ const COMPARISONS: [Comparison; 4] = [
     Comparison::Puk(false),
 ];
 
-/// An answer: the command, where the card stood, the status word, and whether it was sealed.
+/// An answer: the command, the card's situation, the status word, and whether it was sealed.
 pub type Row = (Option<Name>, Situation, u16, bool);
 
 #[derive(Default)]
 pub struct Tally {
     operations: BTreeMap<(Operation, u8), usize>,
     rooms: BTreeMap<(Operation, Room), usize>,
-    /// Calls on a sound card by where it stood.
+    /// Calls on a sound card, by its situation.
     situations: BTreeMap<(Operation, Situation), usize>,
-    /// ASK's kinds by where the card stood.
+    /// ASK's kinds, by the card's situation.
     kinds: BTreeMap<(Situation, u8), usize>,
     comparisons: BTreeMap<Comparison, usize>,
     answers: BTreeMap<Row, usize>,
@@ -152,7 +152,7 @@ impl Tally {
         let kinds = summed(&self.kinds, |(_, kind)| *kind);
         println!("kinds: {}", listed(shown(&kinds)));
         println!("comparisons: {}", listed(shown(&self.comparisons)));
-        println!("calls that a sound card got, by where it stood:");
+        println!("calls that a sound card got, by its situation:");
         for (operation, _) in REFUSALS {
             print_part(&self.situations, operation);
         }
@@ -164,7 +164,7 @@ impl Tally {
         for kind in 1..=MOST_KIND {
             print_part(&self.supplies, kind);
         }
-        println!("forms of commands, by where the card stood:");
+        println!("forms of commands, by the card's situation:");
         for situation in EVERY_SITUATION {
             print_part(&self.forms, situation);
         }

@@ -7,7 +7,7 @@ use outside::random::Random;
 
 const TEMPLATE_BIT: u8 = 0x20;
 const MOST_CONTENT_BYTES: usize = 255;
-/// The longest content whose length stands in one byte.
+/// The longest content whose length fits one byte.
 const MOST_SHORT_BYTES: usize = 127;
 
 /// A field whose content has at most 255 bytes: a template holding others down to some depth, or another field.

@@ -1,4 +1,4 @@
-//! The terminal of the walks: it chooses commands for the card as it stands, seals them with SEAL and opens the answers with UNSEAL, and
+//! The terminal of the walks: it chooses commands for the card as it is, seals them with SEAL and opens the answers with UNSEAL, and
 //! from time to time sends what no terminal should. Lengths are in bytes.
 
 use crate::both::Both;

@@ -7,7 +7,7 @@ const MAX_DEPTH: usize = 4;
 const TEMPLATE_BIT: u8 = 0x20;
 const LONG_LENGTH: u8 = 0x81;
 
-/// A field's tag and content, and what stands after it.
+/// A field's tag and content, and what comes after it.
 pub struct Field<'a> {
     pub tag: u8,
     pub content: &'a [u8],
@@ -38,7 +38,7 @@ pub fn walk(input: &[u8]) -> Result<usize, u8> {
     count_fields(input, 1)
 }
 
-/// The fields of one sequence, which stand at this depth.
+/// The fields of one sequence, which are at this depth.
 fn count_fields(sequence: &[u8], depth: usize) -> Result<usize, u8> {
     let mut count = 0;
     let mut left = sequence;

@@ -9,7 +9,7 @@ use outside::model::card::{POINT_BYTES, UID_BYTES};
 use outside::model::engine::*;
 use outside::model::message::HEADER_BYTES;
 
-/// A call with its arguments, in the order of the words; a room stands last.
+/// A call with its arguments, in the order of the words; a room comes last.
 #[derive(PartialEq, Eq, Debug)]
 pub enum Call {
     Help,

@@ -12,7 +12,7 @@ use crate::supply::SupplyKind;
 /// A card's whole state: the record of [`CARD_BYTES`] bytes that the library takes, byte for byte as `include/treadlewisp.h` has it.
 ///
 /// Any bytes of that length can be a `Card`; one that is not sound is refused with [`Refusal::Unsound`]. Every card that an operation gives is sound.
-/// PIN, PUK and keys lie in it as they are, and its memory is not wiped when it is dropped. `Debug` shows none of them.
+/// PIN, PUK and keys are in it as they are, and its memory is not wiped when it is dropped. `Debug` shows none of them.
 #[derive(Clone, PartialEq, Eq)]
 #[repr(C)]
 pub struct Card {
@@ -43,7 +43,7 @@ pub struct Card {
 pub struct CardField {
     /// Its name in `include/treadlewisp.h`.
     pub name: &'static str,
-    /// Its name in `docs/LAYOUT.md`, behind that of its part.
+    /// Its name in `docs/LAYOUT.md`, after that of its part.
     pub path: &'static str,
     /// Where it begins, in bytes from the card's start.
     pub offset: usize,
@@ -89,7 +89,7 @@ impl Card {
     ];
 }
 
-// The layout of include/treadlewisp.h: no padding, no alignment, and each field behind the one before it.
+// The layout of include/treadlewisp.h: no padding, no alignment, and each field after the one before it.
 const _: () = assert!(size_of::<Card>() == CARD_BYTES && align_of::<Card>() == 1);
 const _: () = assert!(size_of::<Slot>() == SLOT_BYTES && size_of::<Path>() == PATH_BYTES);
 const _: () = {

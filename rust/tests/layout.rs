@@ -29,7 +29,7 @@ fn written_rows(text: &str) -> Vec<Row> {
     text.lines().filter_map(row).collect()
 }
 
-/// The rows of one field: a slot's flag and key stand apart for the first slot, a path's length and room for each path.
+/// The rows of one field: a slot's flag and key are apart for the first slot, a path's length and room for each path.
 fn field_rows(field: &CardField) -> Vec<Row> {
     let row = |at: usize, bytes: usize, name: String| (Some(field.offset + at), bytes, name);
     let path = field.path;
