@@ -348,7 +348,7 @@ tw_told tw_seal(tw_session *session, const uint8_t *header, const uint8_t *data,
 
 /* UNSEAL: the session becomes the next session; the response's plaintext, inner status word included, from the buffer's start, 2 to 223
    bytes. Refusals: TW_ROOM (buf_bytes under 223), TW_NOT_GENUINE. Lr, in the response's MAC, counts MAC and ciphertext, in bytes; cards of
-   version 0.1.0 left the MAC out, and their responses are not genuine here.
+   version 0.1.0 left the MAC out, and their sealed responses are not genuine here.
    The caller ensures:
    - session: TW_SESSION_BYTES bytes, valid to read and write, overlapping no other argument, and used by no other thread during the call;
    - response: response_bytes bytes, valid to read, and written by no one during the call;

@@ -53,7 +53,7 @@ impl Session {
     /// UNSEAL: a response's plaintext, inner status word included, from the buffer's start, and its length in bytes; the session becomes
     /// the next one.
     ///
-    /// Lr, in the response's MAC, counts MAC and ciphertext, in bytes. Cards of version 0.1.0 left the MAC out: their responses are not
+    /// Lr, in the response's MAC, counts MAC and ciphertext, in bytes. Cards of version 0.1.0 left the MAC out: their sealed responses are not
     /// genuine here.
     ///
     /// Refused with [`Refusal::Room`] where the buffer is under [`UNSEAL_ROOM_BYTES`](crate::UNSEAL_ROOM_BYTES), or

@@ -23,7 +23,7 @@ module _ (ciph inv : List ℕ → List ℕ) (p : Permutes ciph inv) where
       ∙ ap (xorBytes x) (ciph-injective (xorBytes x a) (xorBytes x b) (xor-block x a hx (ha .bytes)) (xor-block x b hx (hb .bytes)) e)
       ∙ xor-bytes-cancel x b (hx .long ∙ sym (hb .long))
 
-  -- ---- so does the last block of a chain over n blocks, from its first block on
+  -- ---- nor does the last block of a chain over n blocks, from the block that it begins with
   abbrev encrypted : ℕ → List ℕ → List ℕ → List ℕ
   encrypted = chain (encryptBlock ciph) (encryptBlock ciph)
 
@@ -44,7 +44,7 @@ module _ (ciph inv : List ℕ → List ℕ) (p : Permutes ciph inv) where
       ∙ e
       ∙ last-block-behind b d (encrypted n d (drop 16 xs)) (hb .long) (hd .long)))
 
-  -- ---- and the MAC, from its head block on
+  -- ---- nor does the MAC, from its head block on
   pub mac-injective : (a b xs : List ℕ) → Block a → Block b → Bytes xs → length xs % 16 ≡ 0
       → cbcMac ciph (a ++ xs) ≡ cbcMac ciph (b ++ xs) → a ≡ b
   unfolding cbcEncrypt

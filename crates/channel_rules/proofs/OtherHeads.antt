@@ -22,6 +22,18 @@ use Rattle.channel_rules.specs.Terminal.{Out, refused, plainSuccess, sea
 use Rattle.channel_rules.proofs.Fields.{length-ciphertext, bytes-ciphertext, length-field, bytes-field, take-field, drop-field, genuine}
 use Rattle.channel_rules.proofs.Trips.{short, response-head-block, field-before-end, end-after-field}
 
+-- what UNSEAL gives past the test of the room
+abbrev judged : Session → List ℕ → Out
+judged s response =
+    cond (sameBytes (drop (length response - 2) response) plainSuccess)
+    (unsealed s (sealedField response) (openField s responseHead (sealedField response))) (refused s notGenuine)
+
+-- ---- unsealOut, where the room is not enough: whatever the response is
+pub no-room : (s : Session) (response : List ℕ) (room : ℕ) → room < unsealRoom → unsealOut s response room ≡ refused s noRoom
+unfolding unsealOut
+no-room s response room l =
+    ap (λ (b : Bool). cond b (refused s noRoom) (judged s response)) (lt-ltb room unsealRoom l)
+
 module _ (s : Session) (k : Keyed s) (other : ℕ → List ℕ) (d : List ℕ) (hd : Bytes d) (ho : Block (other (length (ciphertext s d)))) where
   abbrev n : ℕ
   n = length (ciphertext s d)
@@ -51,24 +63,15 @@ module _ (s : Session) (k : Keyed s) (other : ℕ → List ℕ) (d : List ℕ) (
         go none e = refl
         go (some x) e = absurd (differ (same-head x e))
 
-  -- ---- unsealOut: 2 where the room is under 223 bytes, else 7
+  -- ---- unsealOut, where the room is enough
   module _ (fits : length d ≤ dataMost) (differ : responseHead n ≡ other n → ⊥) (room : ℕ) where
     abbrev response : List ℕ
     response = field ++ plainSuccess
 
-    abbrev judged : Out
-    judged =
-        cond (sameBytes (drop (length response - 2) response) plainSuccess)
-        (unsealed s (sealedField response) (openField s responseHead (sealedField response))) (refused s notGenuine)
-
-    pub other-no-room : room < unsealRoom → unsealOut s response room ≡ refused s noRoom
-    unfolding unsealOut
-    other-no-room l = ap (λ (b : Bool). cond b (refused s noRoom) judged) (lt-ltb room unsealRoom l)
-
     pub other-not-genuine : unsealRoom ≤ room → unsealOut s response room ≡ refused s notGenuine
     unfolding unsealOut
     other-not-genuine l =
-        ap (λ (b : Bool). cond b (refused s noRoom) judged) (le-ltb room unsealRoom l)
+        ap (λ (b : Bool). cond b (refused s noRoom) (judged s response)) (le-ltb room unsealRoom l)
         ∙ ap (λ (b : Bool). cond b (unsealed s (sealedField response) (openField s responseHead (sealedField response))) (refused s notGenuine))
         (ap (λ (y : List ℕ). sameBytes y plainSuccess) (end-after-field field) ∙ same-refl plainSuccess)
         ∙ ap (λ (f : List ℕ). unsealed s f (openField s responseHead f)) (field-before-end field)

@@ -115,6 +115,10 @@ module _ (s : Session) (k : Keyed s) where
     pub response-keyed : Keyed (withIv s (fieldMac s responseHead p))
     response-keyed = keyed-after s (fieldMac s responseHead p) k (field-mac-block s k responseHead p hp response-block)
 
+    -- Lr is the field's length
+    pub lr-counts : lr (length (ciphertext s p)) ≡ length (sealField s responseHead p)
+    lr-counts = omega (arith, length-field s k responseHead p hp response-block, length-ciphertext s k p hp)
+
     -- UNSEAL gives the same bytes, and the session that the card holds after sealing
     pub unseal-seals : (room : ℕ) → unsealRoom ≤ room → 2 ≤ length p
         → unsealOut s (sealedResponse s p) room ≡ record { refusal = noRefusal; session = withIv s (fieldMac s responseHead p); bytes = p }

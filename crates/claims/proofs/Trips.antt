@@ -11,8 +11,8 @@ use Rattle.octets.proofs.Lists.{bytes-replicate}
 use Rattle.channel_rules.specs.declared.Session.{Session}
 use Rattle.channel_rules.specs.Message.{Keyed, withIv, responseHead, ciphertext, fieldMac}
 use Rattle.channel_rules.specs.Terminal.{Out, sealedResponse, unsealOut}
-use Rattle.channel_rules.proofs.Trips.{short, unseal-seals}
-use Rattle.channel_rules.proofs.OtherHeads.{other-no-room, other-not-genuine}
+use Rattle.channel_rules.proofs.Trips.{short, lr-counts, unseal-seals}
+use Rattle.channel_rules.proofs.OtherHeads.{no-room, other-not-genuine}
 use Rattle.template_walk.specs.declared.Fault.the-variants as fault
 use Rattle.template_walk.specs.declared.Walked.{Walked}
 use Rattle.template_walk.specs.declared.Walked.the-variants as walked
@@ -87,9 +87,10 @@ joined s t m n e f = ap report (walk-sum s t m n (counted (walkOf s) m e) (count
 pub trips : Trips
 trips = record {
   responses = record {
+    lrcounts = λ s p k b most. lr-counts s k p b most;
     unseals = unseals;
     oldrefused = oldrefused;
-    oldroom = λ s p room k b most r. other-no-room s k oldHead p b (old-block s k p b most) most (old-differs (length (ciphertext s p))) room r;
+    oldroom = λ s p room r. no-room s (oldResponse s p) room r;
     example = (
       ap (λ (o : Out). o .refusal) (unseals zeroSession nine 223 zero-keyed nine-bytes (omega arith) (omega arith) (omega arith)),
       ap (λ (o : Out). o .refusal) (oldrefused zeroSession nine 223 zero-keyed nine-bytes (omega arith) (omega arith)),
