@@ -24,9 +24,9 @@ extern "C" {
 /* The version: one number for this header, the library, the Rust crate and the crates that they are proved from. CHANGELOG.md says what it
    promises about the card's layout and the stored record. */
 #define TW_VERSION_MAJOR 0
-#define TW_VERSION_MINOR 1
+#define TW_VERSION_MINOR 2
 #define TW_VERSION_PATCH 0
-#define TW_VERSION "0.1.0"
+#define TW_VERSION "0.2.0"
 
 /* Numbers that follow from others are written as their sums; docs/LAYOUT.md has them worked out, and rust/tests/layout.rs holds both against
    each other. */
@@ -323,7 +323,8 @@ uint8_t tw_reset(tw_card *card);
    - no pointer is null, also where a length is 0, and each length is under 2^63. */
 tw_asked tw_ask(const tw_card *card, const uint8_t *cmd, size_t cmd_bytes, uint8_t *buf, size_t buf_bytes);
 
-/* ANSWER: the card becomes the next card; response data and status word from the buffer's start.
+/* ANSWER: the card becomes the next card; response data and status word from the buffer's start. A sealed response is MAC, ciphertext and
+   9000; Lr, in its MAC, counts MAC and ciphertext, in bytes.
    Refusals: TW_UNSOUND, TW_ROOM (buf_bytes under 258), TW_BAD_SUPPLY. The supply is read only where ASK names a kind; else it may have any
    length, 0 too.
    The caller ensures:
@@ -346,7 +347,8 @@ tw_told tw_answer(tw_card *card, const uint8_t *cmd, size_t cmd_bytes, const uin
 tw_told tw_seal(tw_session *session, const uint8_t *header, const uint8_t *data, size_t data_bytes, uint8_t *buf, size_t buf_bytes);
 
 /* UNSEAL: the session becomes the next session; the response's plaintext, inner status word included, from the buffer's start, 2 to 223
-   bytes. Refusals: TW_ROOM (buf_bytes under 223), TW_NOT_GENUINE.
+   bytes. Refusals: TW_ROOM (buf_bytes under 223), TW_NOT_GENUINE. Lr, in the response's MAC, counts MAC and ciphertext, in bytes; cards of
+   version 0.1.0 left the MAC out, and their sealed responses are not genuine here.
    The caller ensures:
    - session: TW_SESSION_BYTES bytes, valid to read and write, overlapping no other argument, and used by no other thread during the call;
    - response: response_bytes bytes, valid to read, and written by no one during the call;

@@ -1,7 +1,7 @@
 //! Every operation on the model and on the library at once: results, next state, the whole buffer and the bytes around it are held to each
 //! other, and the first difference ends the run. Lengths are in bytes.
 
-use crate::may_occur::Operation;
+use crate::may_occur::{lr_of, Operation};
 use crate::tally::Tally;
 use outside::ffi::treadlewisp::{self, CARD_BYTES};
 use outside::model::card::{Card, Session, POINT_BYTES, UID_BYTES};
@@ -271,6 +271,7 @@ impl Both {
 
     pub fn unseal(&mut self, session: &mut Session, response: &[u8], buffer: &mut [u8]) -> Told {
         let before = treadlewisp::session_bytes(session);
+        let lr = lr_of(session, response);
         let mut lent = self.guarded(&before);
         let given = self.guarded(response);
         let mut room = self.guarded(buffer);
@@ -289,6 +290,7 @@ impl Both {
         self.same_bytes(&call, "the buffer", buffer, &room);
         self.unchanged(&call, &[&given]);
         self.tally.operation(Operation::Unseal, model.refusal);
+        self.tally.response(lr, model.refusal);
         self.tally.room(Operation::Unseal, buffer.len());
         model
     }

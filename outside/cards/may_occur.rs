@@ -1,9 +1,11 @@
-//! What the rules (docs/RULES.md) let occur, as tables: the refusals of each operation, the status words of each command in each situation, the supplies.
-//! A run has to meet every row, and nothing beside them. Lengths are in bytes.
+//! What the rules (docs/RULES.md) let occur, as tables: the refusals of each operation, the status words of each command in each situation, the supplies,
+//! what UNSEAL says of a response by its Lr. A run has to meet every row, and nothing beside them. Lengths are in bytes.
 
-use outside::model::card::{Card, AUTHENTICATED, NO, OPENED, YES};
+use outside::ciphers::plain::BLOCK_BYTES;
+use outside::model::card::{Card, Session, AUTHENTICATED, NO, OPENED, YES};
 use outside::model::commands::*;
 use outside::model::engine::*;
+use outside::model::message::{mac, MAX_FIELD_BYTES, MIN_FIELD_BYTES};
 use outside::model::status::*;
 
 #[derive(Clone, Copy, PartialEq, Eq, PartialOrd, Ord, Debug)]
@@ -33,6 +35,44 @@ pub const REFUSALS: [(Operation, &[u8]); 10] = [
     (Operation::Write, &[NOT_REFUSED, UNSOUND, SHORT_BUFFER]),
     (Operation::Read, &[NOT_REFUSED, NOT_A_RECORD]),
 ];
+
+/// What Lr counts in the MAC of a response, by the session that it is opened with.
+#[derive(Clone, Copy, PartialEq, Eq, PartialOrd, Ord, Debug)]
+pub enum Lr {
+    /// MAC and ciphertext.
+    Field,
+    /// The ciphertext alone, as up to version 0.1.0.
+    Ciphertext,
+    /// Neither: the MAC is wrong, or there is no field before a 9000.
+    Neither,
+}
+
+/// The refusals that UNSEAL can give by Lr. Where Lr is right, padding or the length inside may be wrong; another Lr is never opened.
+pub const RESPONSES: [(Lr, &[u8]); 3] = [
+    (Lr::Field, &[NOT_REFUSED, SHORT_BUFFER, NOT_GENUINE]),
+    (Lr::Ciphertext, &[SHORT_BUFFER, NOT_GENUINE]),
+    (Lr::Neither, &[SHORT_BUFFER, NOT_GENUINE]),
+];
+
+pub fn lr_of(session: &Session, response: &[u8]) -> Lr {
+    let Some(field) = response.strip_suffix(&[0x90, 0x00]) else {
+        return Lr::Neither;
+    };
+    if field.len() % BLOCK_BYTES != 0 || !(MIN_FIELD_BYTES..=MAX_FIELD_BYTES).contains(&field.len()) {
+        return Lr::Neither;
+    }
+    let (tag, ciphertext) = field.split_at(BLOCK_BYTES);
+    let is_made_with = |lr: usize| {
+        let mut head = [0; BLOCK_BYTES];
+        head[0] = lr as u8;
+        mac(&session.mac_key, &head, ciphertext) == tag
+    };
+    match ciphertext.len() {
+        bytes if is_made_with(bytes + BLOCK_BYTES) => Lr::Field,
+        bytes if is_made_with(bytes) => Lr::Ciphertext,
+        _ => Lr::Neither,
+    }
+}
 
 /// The operations with a buffer, and the least room that each takes.
 pub const ROOMS: [(Operation, usize); 5] = [

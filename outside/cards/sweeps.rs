@@ -6,7 +6,8 @@ use crate::directed::ready_card;
 use crate::may_occur::{Room, Situation, EVERY_ROOM, EVERY_SITUATION};
 use crate::records::moved_fields;
 use crate::states::{break_rule, random_session, RULES};
-use outside::ffi::treadlewisp::{card_bytes, card_of, CARD_BYTES};
+use crate::terminal::with_old_lr;
+use outside::ffi::treadlewisp::{card_bytes, card_of, session_bytes, CARD_BYTES};
 use outside::model::card::{Card, Path, KEY_UID_BYTES, NO_KEY, PATH_BYTES, YES};
 use outside::model::engine::*;
 use outside::model::message::{seal_response, MAX_DATA_BYTES};
@@ -20,6 +21,8 @@ const TEMPLATE_BYTES: [u8; 8] = [0x00, 0x01, 0x02, 0x20, 0x7f, 0x80, 0x81, 0xa1]
 const MOST_TEMPLATE_BYTES: usize = 4;
 /// Bytes at the edge of what a field of a record may hold.
 const EDGES: [u8; 8] = [0x00, 0x01, 0x02, 0x05, 0x06, b'0', b'9' + 1, 0xff];
+/// How many sessions see a response with the old Lr at each length.
+const OLD_LR_SESSIONS: usize = 4;
 const SELECT: &[u8] = b"\x00\xa4\x04\x00\x0fStatusWalletApp";
 
 pub fn run(both: &mut Both, seed: u64) {
@@ -37,6 +40,9 @@ pub fn run(both: &mut Both, seed: u64) {
         records(both, random, &card);
     }
     messages(both, random);
+    for _ in 0..OLD_LR_SESSIONS {
+        old_responses(both, random);
+    }
     rooms_of_a_session(both, random);
     long_inputs(both, random);
     templates(both, &mut Vec::new());
@@ -187,6 +193,41 @@ fn messages(both: &mut Both, random: &mut Random) {
         let is_genuine = data_bytes >= 2 && !is_long;
         if (told.refusal == LONG_DATA) != is_long || (opened.refusal == NOT_REFUSED) != is_genuine {
             println!("THE SWEEP of messages with {data_bytes} bytes gave {told:?} and {opened:?}");
+            std::process::exit(1);
+        }
+    }
+}
+
+/// Responses with each length inside, their Lr the ciphertext's length alone: refused with 2 in a short buffer, else with 7. Session and
+/// buffer stay, and in that session the same response with the right Lr opens, from 2 bytes inside on.
+fn old_responses(both: &mut Both, random: &mut Random) {
+    for data_bytes in 0..=MAX_DATA_BYTES {
+        let mut session = random_session(random);
+        let data = random.bytes(data_bytes);
+        let response = [&seal_response(&mut session.clone(), &data)[..], &[0x90, 0x00]].concat();
+        let old = with_old_lr(&session, &response);
+        let before = session_bytes(&session);
+        for room in EVERY_ROOM {
+            let given = buffer(random, room, UNSEAL_ROOM_BYTES);
+            let mut left = given.clone();
+            let told = both.unseal(&mut session, &old, &mut left);
+            let wanted = if given.len() < UNSEAL_ROOM_BYTES {
+                SHORT_BUFFER
+            } else {
+                NOT_GENUINE
+            };
+            if told.refusal != wanted || left != given || session_bytes(&session) != before {
+                println!("THE SWEEP of old responses with {data_bytes} bytes gave {told:?}, room {room:?}");
+                std::process::exit(1);
+            }
+        }
+        let mut opened = random.bytes(UNSEAL_ROOM_BYTES);
+        let told = both.unseal(&mut session, &response, &mut opened);
+        if data_bytes < 2 {
+            continue;
+        }
+        if told.refusal != NOT_REFUSED || opened[..told.count] != data[..] {
+            println!("THE SWEEP of old responses with {data_bytes} bytes gave {told:?} for the right Lr");
             std::process::exit(1);
         }
     }

@@ -23,6 +23,8 @@ pub type Row = (Option<Name>, Situation, u16, bool);
 pub struct Tally {
     operations: BTreeMap<(Operation, u8), usize>,
     rooms: BTreeMap<(Operation, Room), usize>,
+    /// UNSEAL's refusals by the Lr of the response.
+    responses: BTreeMap<(Lr, u8), usize>,
     /// Calls on a sound card, by its situation.
     situations: BTreeMap<(Operation, Situation), usize>,
     /// ASK's kinds, by the card's situation.
@@ -47,6 +49,11 @@ impl Tally {
         if let Some(room) = room_of(operation, bytes) {
             *self.rooms.entry((operation, room)).or_default() += 1;
         }
+    }
+
+    /// What UNSEAL gave for a response with this Lr.
+    pub fn response(&mut self, lr: Lr, refusal: u8) {
+        *self.responses.entry((lr, refusal)).or_default() += 1;
     }
 
     /// A call that this card, as it was before, did not refuse as unsound.
@@ -95,6 +102,9 @@ impl Tally {
         for (operation, _) in ROOMS {
             missing.extend(lacking("buffer", &self.rooms, EVERY_ROOM.map(|room| (operation, room))));
         }
+        for (lr, refusals) in RESPONSES {
+            missing.extend(lacking("response", &self.responses, refusals.iter().map(|&refusal| (lr, refusal))));
+        }
         for operation in [Operation::Reset, Operation::Ask, Operation::Answer, Operation::Write] {
             missing.extend(lacking(
                 "sound card",
@@ -118,7 +128,7 @@ impl Tally {
         missing
     }
 
-    /// Answers and kinds that the tables do not have.
+    /// Answers, kinds and opened responses that the tables do not have.
     pub fn too_many(&self) -> Vec<String> {
         let rows = every_row();
         let answers = self
@@ -127,7 +137,10 @@ impl Tally {
             .filter(|row| !rows.contains(row))
             .map(|row| format!("answer {row:x?}"));
         let asked = self.kinds.keys().filter(|(situation, kind)| !kinds(*situation).contains(kind));
-        answers.chain(asked.map(|row| format!("kind {row:?}"))).collect()
+        let can_be = |(lr, refusal): &(Lr, u8)| RESPONSES.iter().any(|row| row.0 == *lr && row.1.contains(refusal));
+        let opened = self.responses.keys().filter(|row| !can_be(row));
+        let opened = opened.map(|row| format!("response {row:?}"));
+        answers.chain(asked.map(|row| format!("kind {row:?}"))).chain(opened).collect()
     }
 
     pub fn print(&self) {
@@ -159,6 +172,10 @@ impl Tally {
         println!("buffers beside the least room:");
         for (operation, _) in ROOMS {
             print_part(&self.rooms, operation);
+        }
+        println!("responses by what Lr counts, and of them per refusal:");
+        for (lr, _) in RESPONSES {
+            print_part(&self.responses, lr);
         }
         println!("supplies that were read, by kind:");
         for kind in 1..=MOST_KIND {

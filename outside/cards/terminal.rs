@@ -88,9 +88,14 @@ impl Terminal {
         buffer
     }
 
-    /// UNSEAL of the card's response, after a try with damage now and then. Where it is not genuine the terminal mostly goes back to the
-    /// session that it had before the command.
+    /// UNSEAL of the card's response, after a try with damage or with the old Lr now and then. Where it is not genuine the terminal mostly
+    /// goes back to the session that it had before the command.
     pub fn receive(&mut self, both: &mut Both, random: &mut Random, response: &[u8]) {
+        if response.len() >= MIN_FIELD_BYTES + 2 && response.len() % BLOCK_BYTES == 2 && chance(random, 5) {
+            let response = with_old_lr(&self.session, response);
+            let mut buffer = room(random, UNSEAL_ROOM_BYTES);
+            both.unseal(&mut self.session, &response, &mut buffer);
+        }
         if chance(random, 5) {
             let response = damaged(random, response);
             let mut buffer = room(random, UNSEAL_ROOM_BYTES);
@@ -206,6 +211,15 @@ fn wrong_padding(random: &mut Random, session: &Session) -> Vec<u8> {
     text
 }
 
+/// A sealed response, its MAC made with the Lr of version 0.1.0: the ciphertext's length alone.
+pub fn with_old_lr(session: &Session, response: &[u8]) -> Vec<u8> {
+    let end = response.len() - 2;
+    let ciphertext = &response[BLOCK_BYTES..end];
+    let mut head = [0; BLOCK_BYTES];
+    head[0] = ciphertext.len() as u8;
+    [&mac(&session.mac_key, &head, ciphertext)[..], &response[BLOCK_BYTES..]].concat()
+}
+
 /// SEAL and UNSEAL on their own: data of any length and any header; responses with the right MAC and few bytes inside, a wrong padding, a
 /// wrong end or a wrong length.
 pub fn messages_alone(both: &mut Both, random: &mut Random) {
@@ -238,7 +252,7 @@ fn strange_response(random: &mut Random, mut session: Session) -> Vec<u8> {
         _ => pad(&some_bytes(random, 0, MAX_DATA_BYTES + 20)),
     };
     let ciphertext = encrypt(&session.enc_key, &session.iv, &text);
-    let field = field_of(&mut session, &response_head(ciphertext.len()), &ciphertext);
+    let field = field_of(&mut session, &response_head(BLOCK_BYTES + ciphertext.len()), &ciphertext);
     let end: &[u8] = match random.below(8) {
         0 => &[],
         1 => &[0x90, 0x01],

@@ -54,10 +54,10 @@ pub fn command_head(header: [u8; HEADER_BYTES], field_bytes: usize) -> Block {
     head
 }
 
-/// Head for a response: Lr and 15 zeros; Lr counts the ciphertext.
-pub fn response_head(ciphertext_bytes: usize) -> Block {
+/// Head for a response: Lr and 15 zeros; Lr counts MAC and ciphertext, as Lc does: the ciphertext's bytes and 16 more.
+pub fn response_head(field_bytes: usize) -> Block {
     let mut head = [0; BLOCK_BYTES];
-    head[0] = ciphertext_bytes as u8;
+    head[0] = field_bytes as u8;
     head
 }
 
@@ -78,7 +78,7 @@ pub fn seal_command(session: &mut Session, header: [u8; HEADER_BYTES], data: &[u
 /// The card's sealing: the field of the response.
 pub fn seal_response(session: &mut Session, data: &[u8]) -> Vec<u8> {
     let ciphertext = encrypt(&session.enc_key, &session.iv, &pad(data));
-    let head = response_head(ciphertext.len());
+    let head = response_head(BLOCK_BYTES + ciphertext.len());
     field_of(session, &head, &ciphertext)
 }
 
@@ -93,7 +93,7 @@ pub fn open_response(session: &mut Session, response: &[u8]) -> Option<Vec<u8>> 
     let field = response.strip_suffix(&[0x90, 0x00])?;
     is_field_length(field.len()).then_some(())?;
     let mut next = *session;
-    let data = open(&mut next, &response_head(field.len() - BLOCK_BYTES), field)?;
+    let data = open(&mut next, &response_head(field.len()), field)?;
     if data.len() < 2 {
         return None;
     }

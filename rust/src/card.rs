@@ -148,7 +148,8 @@ impl Card {
         ffi::ask(self, command, buffer)
     }
 
-    /// ANSWER: response data and status word from the buffer's start, and their count in bytes; the card becomes the next card.
+    /// ANSWER: response data and status word from the buffer's start, and their count in bytes; the card becomes the next card. A sealed
+    /// response is MAC, ciphertext and 9000; Lr, in its MAC, counts MAC and ciphertext, in bytes.
     ///
     /// The supply is read only where [`ask`](Card::ask) names a kind; else it may be empty. Refused with [`Refusal::Unsound`],
     /// [`Refusal::Room`] where the buffer is under [`ANSWER_ROOM_BYTES`], or [`Refusal::BadSupply`]; card and buffer are then as they were.

@@ -53,6 +53,9 @@ impl Session {
     /// UNSEAL: a response's plaintext, inner status word included, from the buffer's start, and its length in bytes; the session becomes
     /// the next one.
     ///
+    /// Lr, in the response's MAC, counts MAC and ciphertext, in bytes. Cards of version 0.1.0 left the MAC out: their sealed responses are not
+    /// genuine here.
+    ///
     /// Refused with [`Refusal::Room`] where the buffer is under [`UNSEAL_ROOM_BYTES`](crate::UNSEAL_ROOM_BYTES), or
     /// [`Refusal::NotGenuine`]; session and buffer are then as they were. Bytes past the count are never touched.
     pub fn unseal(&mut self, response: &[u8], buffer: &mut [u8]) -> Result<usize, Refusal> {

@@ -132,3 +132,31 @@ fn a_sealed_command_is_enciphered_and_authenticated_by_the_standards() {
     assert_eq!(sealed, [&head[..5], &mac, &ciphertext].concat());
     assert_eq!(life.terminal.iv(), &mac);
 }
+
+/// ANSWER's response, held against the plain AES: Lr counts MAC and ciphertext, 16 and 16 bytes.
+#[test]
+fn a_sealed_response_is_authenticated_by_the_standards() {
+    let aes = common::plain::Aes::new();
+    let mut life = Life::in_channel();
+    let command = life.seal(command::GET_STATUS, command::P1_STATUS_TRIES, &[]);
+    let response = life.plain(&command);
+    let (field, end) = response.split_at(32);
+    let mut head = [0; 16];
+    head[0] = 32;
+    let mac = aes.cbc_mac(&MAC_KEY, &[&head[..], &field[MAC_BYTES..]].concat());
+    assert_eq!((&field[..MAC_BYTES], end), (&mac[..], &[0x90, 0x00][..]));
+}
+
+/// UNSEAL opens what the plain AES sealed, at each length that a response can have.
+#[test]
+fn a_response_that_was_sealed_by_the_standards_opens() {
+    for plaintext_bytes in STATUS_BYTES..=UNSEAL_ROOM_BYTES {
+        let plaintext = vec![0x77; plaintext_bytes];
+        let response = sealed_response(&plaintext, MAC_BYTES);
+        let mut terminal = Life::fresh().terminal;
+        let mut opened = [FILL; UNSEAL_ROOM_BYTES];
+        assert_eq!(terminal.unseal(&response, &mut opened), Ok(plaintext_bytes));
+        assert_eq!(opened[..plaintext_bytes], plaintext);
+        assert_eq!(terminal.iv()[..], response[..MAC_BYTES]);
+    }
+}

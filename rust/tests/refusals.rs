@@ -134,6 +134,25 @@ fn not_genuine_7() {
     assert_eq!(life.terminal.unseal(&response, &mut opened), Ok(13));
 }
 
+/// A card of version 0.1.0 leaves the MAC out of Lr: its responses are refused at every length, and the session stays.
+#[test]
+fn not_genuine_7_where_lr_leaves_out_the_mac() {
+    let mut life = Life::fresh();
+    let before = life.terminal.clone();
+    let mut opened = [0; UNSEAL_ROOM_BYTES];
+    for plaintext_bytes in STATUS_BYTES..=UNSEAL_ROOM_BYTES {
+        let plaintext = vec![0x77; plaintext_bytes];
+        let old = sealed_response(&plaintext, 0);
+        let unseal = with_buffer(UNSEAL_ROOM_BYTES, |b| life.terminal.unseal(&old, b));
+        assert_eq!(unseal, Err(Refusal::NotGenuine), "{plaintext_bytes} bytes inside");
+        let unseal = with_buffer(UNSEAL_ROOM_BYTES - 1, |b| life.terminal.unseal(&old, b));
+        assert_eq!(unseal, Err(Refusal::Room), "{plaintext_bytes} bytes inside");
+        assert_eq!(life.terminal, before);
+        let new = sealed_response(&plaintext, MAC_BYTES);
+        assert_eq!(before.clone().unseal(&new, &mut opened), Ok(plaintext_bytes));
+    }
+}
+
 #[test]
 fn not_record_8() {
     let life = Life::initialised();

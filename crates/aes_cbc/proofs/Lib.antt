@@ -1,3 +1,4 @@
 pub mod Chains
 pub mod Mac
+pub mod Heads
 pub mod Laws

@@ -34,12 +34,12 @@ pub fn command_head(header: [u8; 4], ciphertext_bytes: usize) -> [u8; 16]
     ]
 }
 
-// The head block of a response: Lr and 15 zeros. Lr counts the ciphertext, in bytes.
+// The head block of a response: Lr and 15 zeros. Lr counts the MAC and the ciphertext, in bytes.
 pub fn response_head(ciphertext_bytes: usize) -> [u8; 16]
     requires { ⌜ «ciphertext_bytes» < 240 ⌝ }
     ensures { λ r. ⌜ r ≡ responseHead «ciphertext_bytes» ⌝ }
 {
-    let lr = ciphertext_bytes as u8;
+    let lr = (MAC_BYTES + ciphertext_bytes) as u8;
     [lr, 0, 0, 0, 0, 0, 0, 0, 0, 0, 0, 0, 0, 0, 0, 0]
 }
 

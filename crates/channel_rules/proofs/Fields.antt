@@ -146,7 +146,7 @@ module _ (s : Session) (k : Keyed s) where
     abbrev plain : List ℕ
     plain = cbcDecrypt (invAes256 (s .«enc_key»)) (s .iv) (drop 16 f)
 
-    genuine : macOf s (head (length f - 16)) (drop 16 f) ≡ take 16 f
+    pub genuine : macOf s (head (length f - 16)) (drop 16 f) ≡ take 16 f
     genuine = same-eq (macOf s (head (length f - 16)) (drop 16 f)) (take 16 f) (provided-some mac-test (unpad plain) d inner)
 
     plain-is : plain ≡ pad d

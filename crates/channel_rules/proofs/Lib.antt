@@ -1,3 +1,4 @@
 pub mod Fields
 pub mod Trips
+pub mod OtherHeads
 pub mod Accepted

@@ -38,12 +38,23 @@ command-head-block header n h l =
 pub response-head-block : (n : ℕ) → n ≤ 224 → Block (responseHead n)
 response-head-block n l = record { long = refl; bytes = (omega arith, bytes-replicate 15 0 (omega arith)) }
 
+-- ---- a field with 9000 after it: UNSEAL finds the two
+module _ (f : List ℕ) where
+  length-before-end : length f ≡ length (f ++ plainSuccess) - 2
+  length-before-end = omega (arith, length-append f plainSuccess)
+
+  pub field-before-end : sealedField (f ++ plainSuccess) ≡ f
+  field-before-end = take-at f plainSuccess (length (f ++ plainSuccess) - 2) length-before-end
+
+  pub end-after-field : drop (length (f ++ plainSuccess) - 2) (f ++ plainSuccess) ≡ plainSuccess
+  end-after-field = drop-at f plainSuccess (length (f ++ plainSuccess) - 2) length-before-end
+
 -- a session stays one when its IV becomes a MAC
 pub keyed-after : (s : Session) (mac : List ℕ) → Keyed s → Block mac → Keyed (withIv s mac)
 keyed-after s mac k h = record { enc = k .enc; mac = k .mac; iv = h }
 
 module _ (s : Session) (k : Keyed s) where
-  short : (d : List ℕ) → Bytes d → length d ≤ dataMost → length (ciphertext s d) ≤ 224
+  pub short : (d : List ℕ) → Bytes d → length d ≤ dataMost → length (ciphertext s d) ≤ 224
   short d hd l = omega (arith, length-ciphertext s k d hd, padded-next (length d) 224 refl (omega arith))
 
   -- ---- a command
@@ -93,20 +104,20 @@ module _ (s : Session) (k : Keyed s) where
     abbrev field : List ℕ
     field = sealField s responseHead p
 
-    length-response : length (sealedResponse s p) - 2 ≡ length field
-    unfolding sealedResponse
-    length-response = omega (arith, length-append field plainSuccess)
-
     pub response-field : sealedField (sealedResponse s p) ≡ field
     unfolding sealedResponse
-    response-field = take-at field plainSuccess (length (sealedResponse s p) - 2) (sym length-response)
+    response-field = field-before-end field
 
     response-end : drop (length (sealedResponse s p) - 2) (sealedResponse s p) ≡ plainSuccess
     unfolding sealedResponse
-    response-end = drop-at field plainSuccess (length (sealedResponse s p) - 2) (sym length-response)
+    response-end = end-after-field field
 
     pub response-keyed : Keyed (withIv s (fieldMac s responseHead p))
     response-keyed = keyed-after s (fieldMac s responseHead p) k (field-mac-block s k responseHead p hp response-block)
+
+    -- Lr is the field's length
+    pub lr-counts : lr (length (ciphertext s p)) ≡ length (sealField s responseHead p)
+    lr-counts = omega (arith, length-field s k responseHead p hp response-block, length-ciphertext s k p hp)
 
     -- UNSEAL gives the same bytes, and the session that the card holds after sealing
     pub unseal-seals : (room : ℕ) → unsealRoom ≤ room → 2 ≤ length p

@@ -26,12 +26,12 @@ pub record Keyed (s : Session) : Type 0 where
 abbrev pub withIv : Session → List ℕ → Session
 withIv s mac = record { «enc_key» = s .«enc_key»; «mac_key» = s .«mac_key»; iv = mac }
 
--- Lc counts the MAC and the ciphertext; Lr counts the ciphertext (RULES 8.2). n is the ciphertext's length
+-- Lc of a command and Lr of a response each count the MAC and the ciphertext (RULES 8.2). n is the ciphertext's length
 abbrev pub lc : ℕ → ℕ
 lc n = 16 + n
 
 abbrev pub lr : ℕ → ℕ
-lr n = n
+lr n = 16 + n
 
 -- the head block of a command with the header CLA INS P1 P2, and of a response, for a ciphertext of n bytes (RULES 8.2)
 abbrev pub commandHead : List ℕ → ℕ → List ℕ

@@ -2,10 +2,17 @@
 -- Assumes nothing.
 use mathlib.Core.Path.{_≡_, refl, sym, ap, _∙_}
 use mathlib.Core.Bool.{Bool, true, false}
-use mathlib.Core.List.{List, _++_}
-use Prim.Native.Nat.{ℕ, _+_}
+use mathlib.Core.List.{List, [], _∷_, _++_}
+use Prim.Native.Nat.{ℕ, _+_, _≤_, _<_}
 use native.Mathlib.Omega.{arith}
-use Rattle.channel_rules.proofs.Trips.{unseal-seals}
+use lib.ListN.{length, getD}
+use Rattle.octets.specs.Bytes.{Bytes, Block}
+use Rattle.octets.proofs.Lists.{bytes-replicate}
+use Rattle.channel_rules.specs.declared.Session.{Session}
+use Rattle.channel_rules.specs.Message.{Keyed, withIv, responseHead, ciphertext, fieldMac}
+use Rattle.channel_rules.specs.Terminal.{Out, sealedResponse, unsealOut}
+use Rattle.channel_rules.proofs.Trips.{short, lr-counts, unseal-seals}
+use Rattle.channel_rules.proofs.OtherHeads.{no-room, other-not-genuine}
 use Rattle.template_walk.specs.declared.Fault.the-variants as fault
 use Rattle.template_walk.specs.declared.Walked.{Walked}
 use Rattle.template_walk.specs.declared.Walked.the-variants as walked
@@ -23,8 +30,36 @@ use Rattle.record_rules.proofs.ReadFacts.{read-write, write-read, read-sound, r
 use Rattle.laws_engine.proofs.Sound.{answer-sound}
 use Rattle.laws_engine.proofs.Rooms.{answer-most, ask-most}
 use Rattle.laws_engine.proofs.Agreement.{kind-is, ask-data, ask-empty, unread-taken, unread-same, read-refused, read-taken}
-use Rattle.claims.specs.Trips.{Trips}
+use Rattle.claims.specs.Trips.{oldHead, oldResponse, zeroSession, Trips}
 use Rattle.claims.proofs.Refusals.{refusals}
+
+-- ---- responses, and those of the old rule: Lr is another byte there
+old-block : (s : Session) → Keyed s → (p : List ℕ) → Bytes p → length p ≤ 223 → Block (oldHead (length (ciphertext s p)))
+old-block s k p b most = record { long = refl; bytes = (omega (arith, short s k p b most), bytes-replicate 15 0 (omega arith)) }
+
+old-differs : (n : ℕ) → responseHead n ≡ oldHead n → ⊥
+old-differs n e = absurd (omega (arith, ap (λ (x : List ℕ). getD x 0 0) e))
+
+unseals : (s : Session) (p : List ℕ) (room : ℕ) → Keyed s → Bytes p → 2 ≤ length p → length p ≤ 223 → 223 ≤ room
+    → unsealOut s (sealedResponse s p) room ≡ record { refusal = 0; session = withIv s (fieldMac s responseHead p); bytes = p }
+unseals s p room k b two most r = unseal-seals s k p b most room r two
+
+oldrefused : (s : Session) (p : List ℕ) (room : ℕ) → Keyed s → Bytes p → length p ≤ 223 → 223 ≤ room
+    → unsealOut s (oldResponse s p) room ≡ record { refusal = 7; session = s; bytes = [] }
+oldrefused s p room k b most r = other-not-genuine s k oldHead p b (old-block s k p b most) most (old-differs (length (ciphertext s p))) room r
+
+zero-keyed : Keyed zeroSession
+zero-keyed = record {
+  enc = record { long = refl; bytes = bytes-replicate 32 0 (omega arith) };
+  mac = record { long = refl; bytes = bytes-replicate 32 0 (omega arith) };
+  iv = record { long = refl; bytes = bytes-replicate 16 0 (omega arith) };
+}
+
+abbrev nine : List ℕ
+nine = 0x90 ∷ 0x00 ∷ []
+
+nine-bytes : Bytes nine
+nine-bytes = (omega arith, (omega arith, tt))
 
 -- ---- RESET
 reset-is : (c : Card) → isSound c ≡ true → resetAnswer c ≡ done (resetOf c)
@@ -51,7 +86,16 @@ joined s t m n e f = ap report (walk-sum s t m n (counted (walkOf s) m e) (count
 
 pub trips : Trips
 trips = record {
-  responses = record { unseals = λ s p room k b two most r. unseal-seals s k p b most room r two };
+  responses = record {
+    lrcounts = λ s p k b most. lr-counts s k p b most;
+    unseals = unseals;
+    oldrefused = oldrefused;
+    oldroom = λ s p room r. no-room s (oldResponse s p) room r;
+    example = (
+      ap (λ (o : Out). o .refusal) (unseals zeroSession nine 223 zero-keyed nine-bytes (omega arith) (omega arith) (omega arith)),
+      ap (λ (o : Out). o .refusal) (oldrefused zeroSession nine 223 zero-keyed nine-bytes (omega arith) (omega arith)),
+    );
+  };
   records = record {
     readwrite = λ c room w h. read-write c room w h ∙ sym (reset-is c (written-sound c room h));
     writeread = write-read;

@@ -3,13 +3,13 @@
 use Prim.Native.Nat.{ℕ, _+_, _≤_, _<_}
 use mathlib.Core.Path.{_≡_}
 use mathlib.Core.Bool.{Bool, true, false}
-use mathlib.Core.List.{List, [], _++_}
+use mathlib.Core.List.{List, [], _∷_, _++_}
 use mathlib.Core.Logic.{_↔_, _⊎_}
-use lib.ListN.{length}
+use lib.ListN.{length, replicate}
 use Rattle.octets.specs.Bytes.{Bytes}
 use Rattle.channel_rules.specs.declared.Session.{Session}
-use Rattle.channel_rules.specs.Message.{Keyed, withIv, responseHead, fieldMac}
-use Rattle.channel_rules.specs.Terminal.{sealedResponse, unsealOut}
+use Rattle.channel_rules.specs.Message.{Keyed, withIv, lr, responseHead, ciphertext, fieldMac, sealField}
+use Rattle.channel_rules.specs.Terminal.{plainSuccess, sealedResponse, unsealOut}
 use Rattle.template_walk.specs.Walk.{WALK}
 use Rattle.template_answers.specs.Answers.{preInitialised, applicationInfo, status, signature}
 use Rattle.card.specs.declared.Card.{Card}
@@ -24,10 +24,31 @@ use Rattle.rules.specs.Supplies.{suits}
 use Rattle.rules.specs.Steps.{goes, Arrived, arrival, decide}
 use Rattle.rules.specs.Engine.{askOut, answerOut}
 
--- ---- sealed messages, from card to terminal: UNSEAL gives the bytes that were sealed, and the session of the card that sealed them
+-- ---- a response sealed by the rule of version 0.1.0, under which Lr counted the ciphertext alone, without the MAC of 16 bytes
+abbrev pub oldHead : ℕ → List ℕ
+oldHead n = n ∷ replicate 15 0
+
+abbrev pub oldResponse : Session → List ℕ → List ℕ
+oldResponse s p = sealField s oldHead p ++ plainSuccess
+
+-- an example: a session of zeros
+abbrev pub zeroSession : Session
+zeroSession = record { «enc_key» = replicate 32 0; «mac_key» = replicate 32 0; iv = replicate 16 0 }
+
+-- ---- sealed messages, from card to terminal. Lr is the length of the field, MAC and ciphertext. UNSEAL gives the bytes that were sealed, and the session of the card that sealed them. With the
+-- same session it never takes a response sealed by the old rule: 7 where the room is enough, 2 where it is not, and the session as given
 pub record Responses : Type 0 where
+  pub lrcounts : (s : Session) (p : List ℕ) → Keyed s → Bytes p → length p ≤ 223
+      → lr (length (ciphertext s p)) ≡ length (sealField s responseHead p)
   pub unseals : (s : Session) (p : List ℕ) (room : ℕ) → Keyed s → Bytes p → 2 ≤ length p → length p ≤ 223 → 223 ≤ room
       → unsealOut s (sealedResponse s p) room ≡ record { refusal = 0; session = withIv s (fieldMac s responseHead p); bytes = p }
+  pub oldrefused : (s : Session) (p : List ℕ) (room : ℕ) → Keyed s → Bytes p → length p ≤ 223 → 223 ≤ room
+      → unsealOut s (oldResponse s p) room ≡ record { refusal = 7; session = s; bytes = [] }
+  pub oldroom : (s : Session) (p : List ℕ) (room : ℕ) → room < 223
+      → unsealOut s (oldResponse s p) room ≡ record { refusal = 2; session = s; bytes = [] }
+  -- 9000 alone under the session of zeros: taken as it is sealed now, refused as it was sealed
+  pub example : (unsealOut zeroSession (sealedResponse zeroSession (0x90 ∷ 0x00 ∷ [])) 223 .refusal ≡ 0)
+      × (unsealOut zeroSession (oldResponse zeroSession (0x90 ∷ 0x00 ∷ [])) 223 .refusal ≡ 7)
 
 -- ---- the stored record (RULES 10.5): READ of WRITE is RESET, WRITE of READ is the record
 pub record Records : Type 0 where

@@ -12,7 +12,7 @@ use lib.ListN.{length, take, drop, getD, replicate, length-append, length-drop, 
 use lib.Seq.{drop-cons, take-at, drop-at, take-all, drop-drop, length-take-le, take-append-le}
 use borrow.Author.Tests.{eq-eqb, eqb-true}
 use Rattle.octets.specs.Bytes.{Bytes, Block, tabulate, xorBytes, overwrite, sameBytes}
-use Rattle.octets.proofs.Xor.{xor-undo}
+use Rattle.octets.proofs.Xor.{xor-cancel, xor-undo}
 use Rattle.octets.proofs.Table.{and-left, and-right}
 
 -- two lists are the same where their heads and their tails are
@@ -89,6 +89,12 @@ pub xor-bytes-undo : (s t : List ℕ) → xorBytes (xorBytes s t) t ≡ s
 xor-bytes-undo [] t = refl
 xor-bytes-undo (x ∷ s) [] = refl
 xor-bytes-undo (x ∷ s) (y ∷ t) = xor-undo x y & xor-bytes-undo s t
+
+pub xor-bytes-cancel : (s t : List ℕ) → length s ≡ length t → xorBytes s (xorBytes s t) ≡ t
+xor-bytes-cancel [] [] l = refl
+xor-bytes-cancel [] (y ∷ t) l = absurd (omega (arith, l))
+xor-bytes-cancel (x ∷ s) [] l = absurd (omega (arith, l))
+xor-bytes-cancel (x ∷ s) (y ∷ t) l = xor-cancel x y & xor-bytes-cancel s t (omega (arith, l))
 
 pub xor-zeros : (s : List ℕ) (n : ℕ) → xorBytes s (replicate n 0) ≡ s
 xor-zeros [] n = refl

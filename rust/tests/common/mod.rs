@@ -80,6 +80,19 @@ pub fn supply(kind: SupplyKind) -> Vec<u8> {
     parts.concat()
 }
 
+/// A response that holds this plaintext, sealed by the plain AES with the session of [`Life::fresh`]. Lr counts the ciphertext and so many
+/// bytes more: those of the MAC, or none, as in version 0.1.0.
+pub fn sealed_response(plaintext: &[u8], lr_more_bytes: usize) -> Vec<u8> {
+    let aes = Aes::new();
+    let mut ciphertext = [plaintext, &[0x80]].concat();
+    ciphertext.resize(ciphertext.len().next_multiple_of(16), 0);
+    aes.cbc_encrypt(&ENC_KEY, &SEED_IV, &mut ciphertext);
+    let mut head = [0; 16];
+    head[0] = u8::try_from(ciphertext.len() + lr_more_bytes).expect("Lr has one byte");
+    let mac = aes.cbc_mac(&MAC_KEY, &[&head[..], &ciphertext].concat());
+    [&mac[..], &ciphertext, &[0x90, 0x00]].concat()
+}
+
 /// A card, and the terminal's end of its channel.
 pub struct Life {
     pub card: Card,
