@@ -2,8 +2,9 @@
 // A table has 256 bytes; a byte is looked up in it.
 // Proved: the two constant tables are FIPS 197's, and each function gives what the field's rule says, for every byte.
 ghost use mathlib.Core.Path.{_≡_};
-ghost use Rattle.aes_field.specs.Field.{xTimes, _•_, subByte, invSubByte};
+ghost use Rattle.aes_field.specs.Field.{xTimes, subByte, invSubByte};
 ghost use Rattle.aes_field.specs.Tables.{sbox, invSbox};
+ghost use Rattle.aes_bytes.specs.Products.{productsOf};
 
 mod inverse;
 mod sbox;
@@ -45,31 +46,25 @@ pub fn x_times(b: u8) -> u8
     (b << 1) ^ ((b >> 7) * 27)
 }
 
-// The products that the inverse column step takes.
-pub fn times_9(b: u8) -> u8
-    ensures { λ r. ⌜ r ≡ 9 • b ⌝ }
-{
-    b ^ x_times(x_times(x_times(b)))
+// A byte's products by 9, 11, 13 and 14, which the inverse column step takes.
+pub struct Products {
+    pub by_9: u8,
+    pub by_11: u8,
+    pub by_13: u8,
+    pub by_14: u8,
 }
 
-pub fn times_11(b: u8) -> u8
-    ensures { λ r. ⌜ r ≡ 11 • b ⌝ }
-{
-    let b2 = x_times(b);
-    b ^ (b2 ^ x_times(x_times(b2)))
-}
-
-pub fn times_13(b: u8) -> u8
-    ensures { λ r. ⌜ r ≡ 13 • b ⌝ }
-{
-    let b4 = x_times(x_times(b));
-    b ^ (b4 ^ x_times(b4))
-}
-
-pub fn times_14(b: u8) -> u8
-    ensures { λ r. ⌜ r ≡ 14 • b ⌝ }
+// Three doublings, each made once and used for all four products: twice the byte, four times and eight times.
+pub fn products_of(b: u8) -> Products
+    ensures { λ r. ⌜ r ≡ productsOf b ⌝ }
 {
     let b2 = x_times(b);
     let b4 = x_times(b2);
-    b2 ^ (b4 ^ x_times(b4))
+    let b8 = x_times(b4);
+    Products {
+        by_9: b ^ b8,
+        by_11: b ^ (b2 ^ b8),
+        by_13: b ^ (b4 ^ b8),
+        by_14: b2 ^ (b4 ^ b8),
+    }
 }

@@ -7,10 +7,7 @@ ghost use lib.ListN.{length};
 ghost use Rattle.aes_field.specs.Tables.{invSbox};
 ghost use Rattle.aes_rules.specs.InvCipher.{invShiftRows, invSubBytes, invMixRow, invMixColumns, invCipher};
 use aes_bytes::inv_sub_byte;
-use aes_bytes::times_9;
-use aes_bytes::times_11;
-use aes_bytes::times_13;
-use aes_bytes::times_14;
+use aes_bytes::products_of;
 use aes_keys::ROUNDS;
 use aes_keys::round_key;
 use octets::xor_blocks;
@@ -41,22 +38,19 @@ fn inv_sub_bytes(table: &[u8; 256], s: [u8; 16]) -> [u8; 16]
     r
 }
 
-// The product of the first row of InvMixColumns' matrix with a column.
-fn inv_mix_row(a: u8, b: u8, c: u8, d: u8) -> u8
-    ensures { λ r. ⌜ r ≡ invMixRow a b c d ⌝ }
-{
-    times_14(a) ^ (times_11(b) ^ (times_13(c) ^ times_9(d)))
-}
-
-// The product of InvMixColumns' matrix with one column.
+// The product of InvMixColumns' matrix with one column. Each byte's products are made once; a row takes those of the four bytes in turn.
 fn inv_mix_column(a: u8, b: u8, c: u8, d: u8) -> [u8; 4]
     ensures { λ r. ⌜ r ≡ invMixRow a b c d ∷ invMixRow b c d a ∷ invMixRow c d a b ∷ invMixRow d a b c ∷ [] ⌝ }
 {
+    let p = products_of(a);
+    let q = products_of(b);
+    let r = products_of(c);
+    let s = products_of(d);
     [
-        inv_mix_row(a, b, c, d),
-        inv_mix_row(b, c, d, a),
-        inv_mix_row(c, d, a, b),
-        inv_mix_row(d, a, b, c),
+        p.by_14 ^ (q.by_11 ^ (r.by_13 ^ s.by_9)),
+        q.by_14 ^ (r.by_11 ^ (s.by_13 ^ p.by_9)),
+        r.by_14 ^ (s.by_11 ^ (p.by_13 ^ q.by_9)),
+        s.by_14 ^ (p.by_11 ^ (q.by_13 ^ r.by_9)),
     ]
 }
 

@@ -1,2 +1,3 @@
 pub mod Sbox
 pub mod Products
+pub mod Doublings

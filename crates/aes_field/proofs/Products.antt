@@ -72,7 +72,7 @@ pub product-sum : (c a b : ℕ) → c • (a ⊕ b) ≡ (c • a) ⊕ (c • b)
 unfolding _•_
 product-sum c a b = terms-sum 8 c a b
 
--- ---- the products of MixColumns and InvMixColumns, by one doubling and by three
+-- ---- the products of MixColumns, by one doubling
 pub two : (b : ℕ) → 2 • b ≡ xTimes b
 unfolding _•_
 two b = simp (zero-mul, one-mul, xor-zero-r)
@@ -80,19 +80,3 @@ two b = simp (zero-mul, one-mul, xor-zero-r)
 pub three : (b : ℕ) → 3 • b ≡ b ⊕ xTimes b
 unfolding _•_
 three b = simp (zero-mul, one-mul, xor-zero-r)
-
-pub nine : (b : ℕ) → 9 • b ≡ b ⊕ xTimes (xTimes (xTimes b))
-unfolding _•_
-nine b = simp (zero-mul, one-mul, xor-zero-r)
-
-pub eleven : (b : ℕ) → 11 • b ≡ b ⊕ xTimes b ⊕ xTimes (xTimes (xTimes b))
-unfolding _•_
-eleven b = simp (zero-mul, one-mul, xor-zero-r)
-
-pub thirteen : (b : ℕ) → 13 • b ≡ b ⊕ xTimes (xTimes b) ⊕ xTimes (xTimes (xTimes b))
-unfolding _•_
-thirteen b = simp (zero-mul, one-mul, xor-zero-r)
-
-pub fourteen : (b : ℕ) → 14 • b ≡ xTimes b ⊕ xTimes (xTimes b) ⊕ xTimes (xTimes (xTimes b))
-unfolding _•_
-fourteen b = simp (zero-mul, one-mul, xor-zero-r)

@@ -6,12 +6,14 @@ use Rattle.claims.proofs.Rows.{rows}
 use Rattle.claims.proofs.RowsMet.{rows-met}
 use Rattle.claims.proofs.WrongEngines.{wrong-engines}
 use Rattle.claims.proofs.Refusals.{refusals}
+use Rattle.claims.proofs.Ciphers.{ciphers}
 use Rattle.claims.proofs.Trips.{trips}
 use Rattle.claims.proofs.Secrecy.{secrecy}
 
 pub claims : Claims
 claims = record {
   refusals = refusals;
+  ciphers = ciphers;
   trips = trips;
   together = together;
   secrecy = secrecy;

@@ -6,6 +6,7 @@ pub mod RowsMet
 pub mod WrongEngines
 pub mod Genuine
 pub mod Refusals
+pub mod Ciphers
 pub mod Trips
 pub mod Secrecy
 pub mod Claims
