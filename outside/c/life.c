@@ -212,7 +212,7 @@ static void open_channel(void)
     const text iv = filled(0x63, TW_IV_BYTES);
     const text supply = joined(joined(byte(1), key(0x61)), joined(joined(key(0x62), key(0x94)), iv));
     const text open = plain_command(TW_CLASS_CARD, TW_INS_OPEN, 0, point());
-    plain_status("OPEN of slot 5", plain_command(TW_CLASS_CARD, TW_INS_OPEN, 5, point()), TW_SW_WRONG_PARAMETERS);
+    plain_status("OPEN past the last slot", plain_command(TW_CLASS_CARD, TW_INS_OPEN, TW_SLOTS, point()), TW_SW_WRONG_PARAMETERS);
     plain("OPEN", open, TW_SUPPLY_OPEN, point(), supply, joined(joined(key(0x94), iv), status(TW_SW_SUCCESS)));
     expect(card->stage == TW_STAGE_OPENED, "stage 1");
     memset(terminal->enc_key, 0x61, sizeof terminal->enc_key);
@@ -293,7 +293,7 @@ static void keys(void)
     sealed_status("VERIFY, right", TW_INS_VERIFY, 0, words(PIN), TW_SW_SUCCESS);
     sealed_status("REMOVE", TW_INS_REMOVE, 0, none(), TW_SW_SUCCESS);
     expect(card->key_kind == TW_KEY_NONE && card->current.len == 0 && card->pinless.len == 0, "no key, no paths");
-    sealed_status("UNPAIR of slot 5", TW_INS_UNPAIR, 5, none(), TW_SW_WRONG_PARAMETERS);
+    sealed_status("UNPAIR past the last slot", TW_INS_UNPAIR, TW_SLOTS, none(), TW_SW_WRONG_PARAMETERS);
     sealed_status("UNPAIR", TW_INS_UNPAIR, 0, none(), TW_SW_SUCCESS);
     expect(card->slots[0].filled == 0 && card->slots[0].key[31] == 0, "slot 0 is free");
 }

@@ -17,7 +17,7 @@ use outside::random::choice::{array, byte, chance, pick, some_bytes};
 use outside::random::Random;
 
 /// P1 that no command lists.
-const UNLISTED_P1: [u8; 3] = [0x05, 0x80, 0xff];
+const UNLISTED_P1: [u8; 3] = [SLOTS as u8, 0x80, 0xff];
 
 /// A sound card in this situation that has all that a command can need: a verified PIN, an extended key on the PIN-less path, a filled
 /// slot and free ones.

@@ -2,6 +2,7 @@
 
 use super::call::length_text;
 use super::fields::card_field;
+use outside::model::card::SLOTS;
 use outside::model::status::*;
 
 /// What it is, its length, and the bytes where there are any.
@@ -76,7 +77,7 @@ pub fn status_text(answer: &[u8]) -> Option<String> {
 /// The card in one line.
 pub fn card_text(card: &[u8]) -> String {
     let byte = |name: &str| card[card_field(name.as_bytes()).expect("a field of the card").1.start];
-    let slots: Vec<String> = (0..5).map(|index| byte(&format!("slot{index}.filled")).to_string()).collect();
+    let slots: Vec<String> = (0..SLOTS).map(|index| byte(&format!("slot{index}.filled")).to_string()).collect();
     format!(
         "  card: initialised {}, stage {}, verified {}, PIN tries {}, PUK tries {}, slots {}, pending {}, key kind {}, \
          current path {}, PIN-less path {}",

@@ -4,11 +4,11 @@ use mathlib.Core.Path.{_≡_, refl, sym, ap, _∙_}
 use mathlib.Core.Bool.{Bool, true, false, false≢true}
 use mathlib.Core.List.{List}
 use mathlib.Core.Logic.{_⊎_, inl, inr, ⊎-elim}
-use Prim.Native.Nat.{ℕ}
+use Prim.Native.Nat.{ℕ, zero, suc, _*_}
 use native.Mathlib.Omega.{arith}
 use borrow.Author.Tests.{ltb-true, ltb-false}
 use lib.Dec.{ltb}
-use lib.ListN.{length}
+use lib.ListN.{length, drop}
 use Rattle.record_rules.specs.Lengths.{writeRoom}
 use Rattle.channel_rules.specs.declared.Session.{Session}
 use Rattle.channel_rules.specs.Terminal.{sealOut}
@@ -18,10 +18,11 @@ use Rattle.template_walk.specs.declared.Walked.the-variants as walked
 use Rattle.template_walk.specs.Walk.{walkOf, report}
 use Rattle.card.specs.declared.Card.{Card}
 use Rattle.card.specs.Sound.{isSound}
-use Rattle.card.specs.Shape.{Shaped}
+use Rattle.card.specs.Shape.{KeysLong, Shaped}
+use Rattle.card.specs.Sizes.{slotBytes, slotCount}
 use Rattle.sound.specs.declared.Answer.{Answer}
 use Rattle.sound.specs.Reset.{resetAnswer}
-use Rattle.record_rules.specs.Parse.{slotsFrom, cardOf}
+use Rattle.record_rules.specs.Parse.{fit, content, slotsFrom, cardOf}
 use Rattle.record_rules.specs.Answers.{writeRefusal, writeBytes, readAnswer}
 use Rattle.record_rules.proofs.ReadFacts.{read-cases, read-refuses}
 use Rattle.laws_engine.proofs.Refusals.{ask-refused, ask-unsound, ask-room, ask-numbers, answer-refused, answer-unsound, answer-room, answer-supply, answer-numbers}
@@ -86,6 +87,12 @@ write-refuses c room = go (isSound c) (ltb room writeRoom) refl refl
         }
 
 -- ---- READ
+-- however many slots are read, their keys have their length
+slots-keyed : (n : ℕ) (x : List ℕ) → KeysLong (slotsFrom n x)
+unfolding slotsFrom
+slots-keyed zero x = tt
+slots-keyed (suc n) x = (refl, slots-keyed n (drop slotBytes x))
+
 -- the card of any bytes has its shape
 read-shaped : (s : List ℕ) → Shaped (cardOf s)
 unfolding cardOf slotsFrom
@@ -96,7 +103,7 @@ read-shaped s = record {
   puk = refl;
   secret = refl;
   slots = refl;
-  keys = (refl, (refl, (refl, (refl, (refl, tt)))));
+  keys = slots-keyed slotCount (fit (slotBytes * slotCount) (content s 7));
   expected = refl;
   keyuid = refl;
   current = refl;

@@ -8,26 +8,28 @@ use Prim.Native.Nat.{ℕ, _≤_}
 use native.Mathlib.Omega.{arith}
 use borrow.Author.Tests.{leb-true}
 use lib.Dec.{leb}
-use lib.ListN.{length}
+use lib.ListN.{length, replicate}
 use Rattle.octets.specs.Bytes.{Bytes}
 use Rattle.octets.proofs.Lists.{bytes-replicate}
 use Rattle.channel_rules.specs.Terminal.{Out, sealedCommand}
 use Rattle.card.specs.declared.Card.{Card}
-use Rattle.card.specs.State.{zeros, noKeys}
+use Rattle.card.specs.State.{zeros, noKeys, freeSlot, slotCount}
 use Rattle.card.specs.Slots.{allOf}
 use Rattle.card.specs.Sound.{isSound, isDigit}
 use Rattle.card.proofs.Tests.{both}
 use Rattle.card.proofs.Rules.{pins-rules, parts-rules}
 use Rattle.card.proofs.SoundFacts.{fresh-sound}
+use Rattle.card.proofs.ShapeFacts.{keys-long-replicate}
 use Rattle.rules.specs.declared.Instruction.the-variants as ins
 use Rattle.rules.specs.declared.StatusKind.the-variants as status
 use Rattle.rules.specs.declared.Command.the-variants as command
 use Rattle.rules.specs.Supplies.{suits}
-use Rattle.rules.specs.Commands.{statusReply, ruleOf}
+use Rattle.rules.specs.Commands.{filledWith, statusReply, ruleOf}
 use Rattle.rules.specs.Rows.{rowOf, isPlain}
 use Rattle.rules.specs.Channel.{sessionOf}
 use Rattle.rules.specs.Steps.{isInitialised}
 use Rattle.rules.specs.Engine.{answerOut}
+use Rattle.laws_commands.proofs.Changed.{keys-set}
 use Rattle.laws_engine.proofs.Sound.{answer-sound}
 use Rattle.laws_exchange.specs.Exchange.{Typed, Turn, answeredBy, unsealedBy, Names, InStage2}
 use Rattle.laws_exchange.proofs.Seals.{gives, is-after}
@@ -174,7 +176,7 @@ opened-typed = record {
     puk = refl;
     secret = refl;
     slots = refl;
-    keys = (refl, (refl, (refl, (refl, (refl, tt)))));
+    keys = keys-set (replicate slotCount freeSlot) 0 (filledWith (zeros 32)) (keys-long-replicate slotCount freeSlot refl) refl;
     expected = refl;
     keyuid = refl;
     current = refl;

@@ -50,10 +50,10 @@ use Rattle.engine.proofs.ask as g
 use Rattle.engine.proofs.ask.Symbol as g-def
 use Rattle.engine.proofs.ask.Symbol.{name as #g}
 use Rattle.engine.proofs.ask.Met as g-thm
-use Rattle.treadlewisp.proofs.tw_ask.Key.{name as #f}
-use Rattle.treadlewisp.proofs.tw_ask as f
-use Rattle.treadlewisp.proofs.tw_ask.Statement as stated
-use Rattle.treadlewisp.proofs.tw_ask.Code as code
+use Rattle.library_engine.proofs.tw_ask.Key.{name as #f}
+use Rattle.library_engine.proofs.tw_ask as f
+use Rattle.library_engine.proofs.tw_ask.Statement as stated
+use Rattle.library_engine.proofs.tw_ask.Code as code
 
 abbrev stayed : Stays (f.ended .signature .params) (f.ended .kept)
 stayed = (stay-none-ref (0 ∷ []) tt (plain (λ _. T.the-row)) yes, (stay-none-slice (1 ∷ []) tt (plain (λ _. u8)) yes, (gave-slice (2 ∷ []) tt (plain (λ _. u8)), tt)))

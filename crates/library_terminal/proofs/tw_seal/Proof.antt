@@ -55,10 +55,10 @@ use Rattle.library_calls.proofs.sealed.Met as g-thm
 use Rattle.library_calls.specs.declared.Counted.{Counted}
 use Rattle.library_calls.proofs.Counted as R
 use Rattle.library_calls.proofs.Counted.Laws as R′
-use Rattle.treadlewisp.proofs.tw_seal.Key.{name as #f}
-use Rattle.treadlewisp.proofs.tw_seal as f
-use Rattle.treadlewisp.proofs.tw_seal.Statement as stated
-use Rattle.treadlewisp.proofs.tw_seal.Code as code
+use Rattle.library_terminal.proofs.tw_seal.Key.{name as #f}
+use Rattle.library_terminal.proofs.tw_seal as f
+use Rattle.library_terminal.proofs.tw_seal.Statement as stated
+use Rattle.library_terminal.proofs.tw_seal.Code as code
 
 abbrev F : RattleType
 F = Array u8 tt 4

@@ -45,10 +45,10 @@ use Rattle.library_calls.proofs.made as g
 use Rattle.library_calls.proofs.made.Symbol as g-def
 use Rattle.library_calls.proofs.made.Symbol.{name as #g}
 use Rattle.library_calls.proofs.made.Met as g-thm
-use Rattle.treadlewisp.proofs.tw_fresh.Key.{name as #f}
-use Rattle.treadlewisp.proofs.tw_fresh as f
-use Rattle.treadlewisp.proofs.tw_fresh.Statement as stated
-use Rattle.treadlewisp.proofs.tw_fresh.Code as code
+use Rattle.library_card.proofs.tw_fresh.Key.{name as #f}
+use Rattle.library_card.proofs.tw_fresh as f
+use Rattle.library_card.proofs.tw_fresh.Statement as stated
+use Rattle.library_card.proofs.tw_fresh.Code as code
 
 abbrev U : RattleType
 U = Array u8 tt 16

@@ -55,10 +55,10 @@ use Rattle.engine.proofs.answer.Met as g-thm
 use Rattle.library_calls.specs.declared.Counted.{Counted}
 use Rattle.library_calls.proofs.Counted as R
 use Rattle.library_calls.proofs.Counted.Laws as R′
-use Rattle.treadlewisp.proofs.tw_answer.Key.{name as #f}
-use Rattle.treadlewisp.proofs.tw_answer as f
-use Rattle.treadlewisp.proofs.tw_answer.Statement as stated
-use Rattle.treadlewisp.proofs.tw_answer.Code as code
+use Rattle.library_engine.proofs.tw_answer.Key.{name as #f}
+use Rattle.library_engine.proofs.tw_answer as f
+use Rattle.library_engine.proofs.tw_answer.Statement as stated
+use Rattle.library_engine.proofs.tw_answer.Code as code
 
 abbrev stayed : Stays (f.ended .signature .params) (f.ended .kept)
 stayed = (stay-ref (0 ∷ []) tt (plain (λ _. T.the-row)), (stay-none-slice (1 ∷ []) tt (plain (λ _. u8)) yes, (stay-none-slice (2 ∷ []) tt (plain (λ _. u8)) yes, (gave-slice (3 ∷ []) tt (plain (λ _. u8)), tt))))

@@ -52,10 +52,10 @@ use Rattle.record_read.proofs.read as g
 use Rattle.record_read.proofs.read.Symbol as g-def
 use Rattle.record_read.proofs.read.Symbol.{name as #g}
 use Rattle.record_read.proofs.read.Met as g-thm
-use Rattle.treadlewisp.proofs.tw_read.Key.{name as #f}
-use Rattle.treadlewisp.proofs.tw_read as f
-use Rattle.treadlewisp.proofs.tw_read.Statement as stated
-use Rattle.treadlewisp.proofs.tw_read.Code as code
+use Rattle.library_card.proofs.tw_read.Key.{name as #f}
+use Rattle.library_card.proofs.tw_read as f
+use Rattle.library_card.proofs.tw_read.Statement as stated
+use Rattle.library_card.proofs.tw_read.Code as code
 
 abbrev stayed : Stays (f.ended .signature .params) (f.ended .kept)
 stayed = (stay-ref (0 ∷ []) tt (plain (λ _. T.the-row)), (stay-none-slice (1 ∷ []) tt (plain (λ _. u8)) yes, tt))

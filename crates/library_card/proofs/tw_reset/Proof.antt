@@ -48,10 +48,10 @@ use Rattle.sound.proofs.reset as g
 use Rattle.sound.proofs.reset.Symbol as g-def
 use Rattle.sound.proofs.reset.Symbol.{name as #g}
 use Rattle.sound.proofs.reset.Met as g-thm
-use Rattle.treadlewisp.proofs.tw_reset.Key.{name as #f}
-use Rattle.treadlewisp.proofs.tw_reset as f
-use Rattle.treadlewisp.proofs.tw_reset.Statement as stated
-use Rattle.treadlewisp.proofs.tw_reset.Code as code
+use Rattle.library_card.proofs.tw_reset.Key.{name as #f}
+use Rattle.library_card.proofs.tw_reset as f
+use Rattle.library_card.proofs.tw_reset.Statement as stated
+use Rattle.library_card.proofs.tw_reset.Code as code
 
 abbrev stayed : Stays (f.ended .signature .params) (f.ended .kept)
 stayed = (stay-ref (0 ∷ []) tt (plain (λ _. T.the-row)), tt)

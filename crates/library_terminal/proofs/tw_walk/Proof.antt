@@ -4,8 +4,8 @@ use mathlib.Core.Path.{_≡_, ap, ap₂, _∙_}
 use Prim.Native.Nat.{ℕ}
 use borrow.Author.Needs.{needs}
 use Rattle.template_walk.specs.Walk.{WalkOut}
-use Rattle.treadlewisp.proofs.tw_walk.Statement.{statement}
-use Rattle.treadlewisp.proofs.tw_walk.Tie as tie
+use Rattle.library_terminal.proofs.tw_walk.Statement.{statement}
+use Rattle.library_terminal.proofs.tw_walk.Tie as tie
 
 abbrev both : ℕ → ℕ → WalkOut
 both n m = record { refusal = n; count = m }

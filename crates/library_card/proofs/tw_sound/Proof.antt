@@ -45,10 +45,10 @@ use Rattle.library_calls.proofs.sound_number as g
 use Rattle.library_calls.proofs.sound_number.Symbol as g-def
 use Rattle.library_calls.proofs.sound_number.Symbol.{name as #g}
 use Rattle.library_calls.proofs.sound_number.Met as g-thm
-use Rattle.treadlewisp.proofs.tw_sound.Key.{name as #f}
-use Rattle.treadlewisp.proofs.tw_sound as f
-use Rattle.treadlewisp.proofs.tw_sound.Statement as stated
-use Rattle.treadlewisp.proofs.tw_sound.Code as code
+use Rattle.library_card.proofs.tw_sound.Key.{name as #f}
+use Rattle.library_card.proofs.tw_sound as f
+use Rattle.library_card.proofs.tw_sound.Statement as stated
+use Rattle.library_card.proofs.tw_sound.Code as code
 
 abbrev stayed : Stays (f.ended .signature .params) (f.ended .kept)
 stayed = (stay-none-ref (0 ∷ []) tt (plain (λ _. T.the-row)) yes, tt)

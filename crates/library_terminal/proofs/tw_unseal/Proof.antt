@@ -55,10 +55,10 @@ use Rattle.channel_terminal.proofs.unseal.Met as g-thm
 use Rattle.library_calls.specs.declared.Counted.{Counted}
 use Rattle.library_calls.proofs.Counted as R
 use Rattle.library_calls.proofs.Counted.Laws as R′
-use Rattle.treadlewisp.proofs.tw_unseal.Key.{name as #f}
-use Rattle.treadlewisp.proofs.tw_unseal as f
-use Rattle.treadlewisp.proofs.tw_unseal.Statement as stated
-use Rattle.treadlewisp.proofs.tw_unseal.Code as code
+use Rattle.library_terminal.proofs.tw_unseal.Key.{name as #f}
+use Rattle.library_terminal.proofs.tw_unseal as f
+use Rattle.library_terminal.proofs.tw_unseal.Statement as stated
+use Rattle.library_terminal.proofs.tw_unseal.Code as code
 
 abbrev stayed : Stays (f.ended .signature .params) (f.ended .kept)
 stayed = (stay-ref (0 ∷ []) tt (plain (λ _. T.the-row)), (stay-none-slice (1 ∷ []) tt (plain (λ _. u8)) yes, (gave-slice (2 ∷ []) tt (plain (λ _. u8)), tt)))

@@ -50,10 +50,10 @@ use Rattle.library_calls.proofs.written as g
 use Rattle.library_calls.proofs.written.Symbol as g-def
 use Rattle.library_calls.proofs.written.Symbol.{name as #g}
 use Rattle.library_calls.proofs.written.Met as g-thm
-use Rattle.treadlewisp.proofs.tw_write.Key.{name as #f}
-use Rattle.treadlewisp.proofs.tw_write as f
-use Rattle.treadlewisp.proofs.tw_write.Statement as stated
-use Rattle.treadlewisp.proofs.tw_write.Code as code
+use Rattle.library_card.proofs.tw_write.Key.{name as #f}
+use Rattle.library_card.proofs.tw_write as f
+use Rattle.library_card.proofs.tw_write.Statement as stated
+use Rattle.library_card.proofs.tw_write.Code as code
 
 abbrev stayed : Stays (f.ended .signature .params) (f.ended .kept)
 stayed = (stay-none-ref (0 ∷ []) tt (plain (λ _. T.the-row)) yes, (gave-slice (1 ∷ []) tt (plain (λ _. u8)), tt))

@@ -1,0 +1,36 @@
+// ASK and ANSWER for callers in C and Rust (RULES 3.8; include/treadlewisp.h). The card is lent, and ANSWER changes it where it lies.
+// Every length, room and count is in bytes; a refusal 0 means that there was none.
+// Proved: the promises of the operations by value, over the record at entry and at exit; refused, it is as it was.
+ghost use mathlib.Core.Path.{_≡_};
+ghost use lib.ListN.{length};
+ghost use Rattle.rules.specs.Engine.{askOut, answerOut};
+ghost use Rattle.engine_responses.specs.Did.{AskDid, AnswerDid};
+ghost use Rattle.library_calls.specs.Left.{answeredOf};
+use card::Card;
+use engine_responses::Asked;
+use library_calls::Counted;
+
+// ASK: the card is only read.
+#[no_mangle]
+pub extern "C" fn tw_ask(card: &Card, cmd: &[u8], buf: &mut [u8]) -> Asked
+    ensures { λ r. ⌜ AskDid (askOut (now (card .entry)) (now (cmd .entry)) (length (now (buf .entry)))) r (now (buf .entry)) (now (buf .exit))
+        × (now (card .exit) ≡ now (card .entry)) ⌝ }
+{
+    let found = *card;
+    engine::ask(found, cmd, buf)
+}
+
+// ANSWER.
+#[no_mangle]
+pub extern "C" fn tw_answer(card: &mut Card, cmd: &[u8], supply: &[u8], buf: &mut [u8]) -> Counted
+    ensures { λ r. ⌜ AnswerDid (answerOut (now (card .entry)) (now (cmd .entry)) (now (supply .entry)) (length (now (buf .entry))))
+        (answeredOf r (now (card .exit))) (now (buf .entry)) (now (buf .exit)) ⌝ }
+{
+    let found = *card;
+    let told = engine::answer(found, cmd, supply, buf);
+    *card = told.card;
+    Counted {
+        refusal: told.refusal,
+        count: told.count,
+    }
+}
