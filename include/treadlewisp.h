@@ -308,7 +308,8 @@ void tw_fresh(tw_card *card, const uint8_t *uid, const uint8_t *public_key);
    - no pointer is null. */
 uint8_t tw_sound(const tw_card *card);
 
-/* RESET: power-up. Gives the refusal: TW_DONE or TW_UNSOUND.
+/* RESET: power-up. Gives the refusal: TW_DONE or TW_UNSOUND. Resetting twice is resetting once: a second call gives the same refusal and
+   changes no byte of the card.
    The caller ensures:
    - card: TW_CARD_BYTES bytes, valid to read and write, and used by no other thread during the call;
    - no pointer is null. */
@@ -357,7 +358,8 @@ tw_told tw_seal(tw_session *session, const uint8_t *header, const uint8_t *data,
 tw_told tw_unseal(tw_session *session, const uint8_t *response, size_t response_bytes, uint8_t *buf, size_t buf_bytes);
 
 /* WALK: how many fields that are not templates the input holds; the count is in fields. Templates are read to depth 4, input of any
-   length. Refusals: TW_MALFORMED, TW_TOO_DEEP, by the first fault from left to right.
+   length. Refusals: TW_MALFORMED, TW_TOO_DEEP, by the first fault from left to right. Parts that it accepts, joined, count the sum of their
+   fields. Long input may therefore be cut between two fields at the top.
    The caller ensures:
    - input: input_bytes bytes, valid to read, and written by no one during the call;
    - the pointer is not null, also where the length is 0, and the length is under 2^63. */
@@ -379,6 +381,13 @@ tw_told tw_write(const tw_card *card, uint8_t *buf, size_t buf_bytes);
    - record: record_bytes bytes, valid to read, and written by no one during the call;
    - no pointer is null, also where the length is 0, and the length is under 2^63. */
 uint8_t tw_read(tw_card *card, const uint8_t *record, size_t record_bytes);
+
+/* Data in AES-256 CBC may be cut. This library has no function for CBC alone; the library aes_c has: tw_cbc_encrypt and tw_cbc_decrypt of
+   crates/aes_c/src/lib.rt, with a key of 32 bytes, an IV of 16 bytes, and the data in place, a multiple of 16 bytes. Callers may cut data
+   after any multiple of 16 bytes and do the parts one after the other: together they give the bytes of one call over the whole. The IV of
+   a part is the last 16 bytes of ciphertext before it, or the first IV where no bytes are before it. When decrypting, that is the
+   ciphertext as it was read: keep those 16 bytes before they are decrypted in place. Padding is added once, to the whole. docs/RULES.md,
+   7.6, has an example. */
 
 #ifdef __cplusplus
 }

@@ -361,7 +361,11 @@ static void templates(void)
     for (uint8_t depth = 1; depth <= TW_WALK_DEPTH_MAX; depth++) {
         nested = joined(text_of((const uint8_t[]){0xA1, (uint8_t)nested.count}, 2), nested);
     }
-    walked("templates to depth 4", joined(nested, nested), TW_DONE, 2);
+    const text three = text_of((const uint8_t[]){0x80, 0x00, 0x81, 0x00, 0x82, 0x00}, 6);
+    walked("templates to depth 4", nested, TW_DONE, 1);
+    walked("three fields", three, TW_DONE, 3);
+    walked("both, joined", joined(nested, three), TW_DONE, 1 + 3);
+    walked("both, the other way", joined(three, nested), TW_DONE, 3 + 1);
     walked("a template at depth 5", joined(text_of((const uint8_t[]){0xA1, 10}, 2), nested), TW_TOO_DEEP, 0);
     walked("no bytes", none(), TW_DONE, 0);
     walked("A1 00", text_of((const uint8_t[]){0xA1, 0x00}, 2), TW_DONE, 0);

@@ -123,6 +123,8 @@ unsigned call_reset(tw_card *card)
     const unsigned refusal = tw_reset(card);
     expect(places_intact(), "bytes beside the card were changed");
     expect(refusal == TW_DONE || memcmp(card, &before, sizeof before) == 0, "a refusal changed the card");
+    const tw_card once = *card;
+    expect(tw_reset(card) == refusal && memcmp(card, &once, sizeof once) == 0, "resetting twice is not resetting once");
     return refusal;
 }
 

@@ -1,10 +1,11 @@
-//! The proved library beside the plain model of the rules, over the C boundary: the rows to settle, whole lives of cards, and the two
-//! runs of demand 3. The first difference ends the run with a status that is not 0, and so does a row of the tables that never occurred, or an
-//! answer that they do not have.
+//! The proved library beside the plain model of the rules, over the C boundary: the rows to settle, sweeps, whole lives of cards, and the
+//! two runs of demand 3. The first difference ends the run with a status that is not 0, and so does a row of the tables that never occurred,
+//! or an answer that they do not have.
 
 mod both;
 mod directed;
 mod host;
+mod joining;
 mod lives;
 mod may_occur;
 mod pairs;
@@ -77,6 +78,7 @@ fn main() {
     settled_rows::run(&mut both, options.seed);
     directed::run(&mut both, options.seed);
     sweeps::run(&mut both, options.seed);
+    joining::run(&mut both, options.seed);
     let mut lives = 0;
     while both.tally.calls() < options.calls / 100 * (100 - PAIRS_PERCENT) {
         lives::live(&mut both, options.seed, lives);

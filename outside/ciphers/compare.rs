@@ -1,6 +1,11 @@
-//! The program compare: holds the proved library aes_c to the plain implementation on pseudo-random inputs, and every wrong length to its number. The first difference
-//! is printed and ends the run with a status that is not 0. Lengths are in bytes.
+//! The program compare: holds the proved library aes_c to the plain implementation on pseudo-random inputs, whole and cut at block borders,
+//! and every wrong length to its number. With the name of a script it plays that on both instead (`calls.rs`). The first difference is
+//! printed and ends the run with a status that is not 0. Lengths are in bytes.
 
+mod calls;
+mod cuts;
+
+use cuts::Cuts;
 use outside::ciphers::plain::{Aes, Block, Key, BLOCK_BYTES, KEY_BYTES};
 use outside::ffi::aes_c;
 use outside::random::Random;
@@ -216,36 +221,85 @@ fn compare_mac_lengths(aes: &Aes, random: &mut Random, done: &mut Done, case: us
     expect(answer == wanted && after == left, case, "lengths of a MAC");
 }
 
-/// The plain implementation itself on SP 800-38A, F.2.5: the key, the IV, and the first blocks of plaintext and ciphertext.
-fn check_plain(aes: &Aes) {
-    let key: Key = [
-        0x60, 0x3d, 0xeb, 0x10, 0x15, 0xca, 0x71, 0xbe, 0x2b, 0x73, 0xae, 0xf0, 0x85, 0x7d, 0x77, 0x81, 0x1f, 0x35, 0x2c, 0x07, 0x3b, 0x61,
-        0x08, 0xd7, 0x2d, 0x98, 0x10, 0xa3, 0x09, 0x14, 0xdf, 0xf4,
-    ];
-    let iv: Block = [0, 1, 2, 3, 4, 5, 6, 7, 8, 9, 10, 11, 12, 13, 14, 15];
-    let plaintext: Block = [
-        0x6b, 0xc1, 0xbe, 0xe2, 0x2e, 0x40, 0x9f, 0x96, 0xe9, 0x3d, 0x7e, 0x11, 0x73, 0x93, 0x17, 0x2a,
-    ];
-    let ciphertext: Block = [
-        0xf5, 0x8c, 0x4c, 0x04, 0xd6, 0xe5, 0xf1, 0xba, 0x77, 0x9e, 0xab, 0xfb, 0x5f, 0x7b, 0xfb, 0xd6,
-    ];
-    let mut block = plaintext;
-    aes.cbc_encrypt(&key, &iv, &mut block);
-    expect(block == ciphertext, 0, "the plain implementation on SP 800-38A, F.2.5, encryption");
-    aes.cbc_decrypt(&key, &iv, &mut block);
-    expect(block == plaintext, 0, "the plain implementation on SP 800-38A, F.2.5, decryption");
+/// The published message of SP 800-38A, F.2.5: key, IV, four blocks of plaintext and their ciphertext.
+struct Published {
+    key: Key,
+    iv: Block,
+    plaintext: Vec<u8>,
+    ciphertext: Vec<u8>,
+}
+
+const PUBLISHED: &str = include_str!("../../crates/aes_vectors/data/SP800-38A-F25.rsp");
+
+impl Published {
+    fn new() -> Published {
+        Published {
+            key: Published::field("KEY").try_into().expect("a key of 32 bytes"),
+            iv: Published::field("IV").try_into().expect("an IV of 16 bytes"),
+            plaintext: Published::field("PLAINTEXT"),
+            ciphertext: Published::field("CIPHERTEXT"),
+        }
+    }
+
+    fn field(name: &str) -> Vec<u8> {
+        let fields = PUBLISHED.lines().filter_map(|line| line.split_once(" = "));
+        let value = fields.filter(|field| field.0 == name).map(|field| field.1).next();
+        calls::bytes_of(value.unwrap_or_default()).expect("hexadecimal digits")
+    }
+}
+
+/// The plain implementation itself on the published message, both ways.
+fn check_plain(aes: &Aes, published: &Published) {
+    let Published {
+        key,
+        iv,
+        plaintext,
+        ciphertext,
+    } = published;
+    expect(
+        !plaintext.is_empty() && plaintext.len() == ciphertext.len(),
+        0,
+        "the length of the message of SP 800-38A, F.2.5",
+    );
+    let mut text = plaintext.clone();
+    aes.cbc_encrypt(key, iv, &mut text);
+    expect(text == *ciphertext, 0, "the plain implementation on SP 800-38A, F.2.5, encryption");
+    aes.cbc_decrypt(key, iv, &mut text);
+    expect(text == *plaintext, 0, "the plain implementation on SP 800-38A, F.2.5, decryption");
 }
 
 fn main() {
     let aes = Aes::new();
-    check_plain(&aes);
+    let published = Published::new();
+    check_plain(&aes, &published);
+    let arguments: Vec<String> = std::env::args().skip(1).collect();
+    match &arguments[..] {
+        [] => compare_all(&aes, &published),
+        [script] => calls::play(&aes, script),
+        _ => {
+            eprintln!("argument: none, or the name of a script");
+            std::process::exit(2);
+        }
+    }
+}
+
+fn compare_all(aes: &Aes, published: &Published) {
     let mut random = Random::new(SEED);
     let mut cases = Done::default();
     for case in 0..CASES {
-        compare_case(&aes, &mut random, &mut cases, case);
+        compare_case(aes, &mut random, &mut cases, case);
     }
     let mut lengths = Done::default();
-    let combinations = compare_lengths(&aes, &mut random, &mut lengths);
+    let combinations = compare_lengths(aes, &mut random, &mut lengths);
+    let Published {
+        key,
+        iv,
+        plaintext,
+        ciphertext,
+    } = published;
+    let mut cuts = Cuts::default();
+    cuts.published(aes, &mut random, key, iv, plaintext, ciphertext);
+    cuts.random(aes, &mut random);
     println!("the library and the plain implementation, seed {SEED:#x}:");
     println!(
         "  {CASES} cases of 0 to {} bytes: {} calls on {} bytes, each as the plain implementation has it",
@@ -253,6 +307,7 @@ fn main() {
         cases.calls,
         cases.bytes
     );
+    cuts.print();
     println!("  {combinations} combinations of lengths: {} calls, of them", lengths.calls);
     let answers = lengths.answers;
     println!(

@@ -1,5 +1,8 @@
 //! The functions of the proved library `aes_c`, for Rust. A slice is passed as its start and its length in bytes. The answers are 0 (done),
 //! 1 (key length), 2 (IV length), 3 (data length) and 4 (MAC length); crates/aes_c/specs/Calls.antt says when.
+//!
+//! Callers may cut CBC data after any multiple of 16 bytes: the IV of a part is the last ciphertext block before it, or the first IV where
+//! no bytes are before it (RULES 7.6). `ciphers/cuts.rs` does it in both directions.
 
 mod c {
     extern "C" {

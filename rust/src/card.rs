@@ -134,7 +134,8 @@ impl Card {
 
     /// RESET: power-up. Channel, verification and a pending pairing are gone, all else is kept.
     ///
-    /// Refused with [`Refusal::Unsound`]; the card is then as it was.
+    /// Refused with [`Refusal::Unsound`]; the card is then as it was. Resetting twice is resetting once: a second call gives what the first
+    /// gave and changes no byte.
     pub fn reset(&mut self) -> Result<(), Refusal> {
         ffi::reset(self)
     }

@@ -51,6 +51,17 @@
 //! # Ok::<(), Refusal>(())
 //! ```
 //!
+//! # Cutting and joining
+//!
+//! - [`Card::reset`] twice is [`Card::reset`] once.
+//! - [`walk`] of parts that it accepts, joined, counts the sum of their fields. Long input may therefore be cut between two fields at the top.
+//! - Data in AES-256 CBC may be cut after any multiple of 16 bytes and done part by part: together the parts give the bytes of the whole.
+//!   The IV of a part is the last 16 bytes of ciphertext before it, or the first IV where no bytes are before it; when decrypting, the
+//!   ciphertext as it was read. Padding is added once, to the whole. This crate has no function for CBC alone; the proved library `aes_c`
+//!   has, for C and Rust (`crates/aes_c` of the repository, `outside/ffi/aes_c.rs` as an example).
+//!
+//! `docs/RULES.md`, sections 3.9, 9.7 and 7.6, has an example of each.
+//!
 //! # Building
 //!
 //! The library `libtreadlewisp.a` is linked from the repository's `target/staticlib`, where `tools/library` puts it, or from the folder
@@ -79,13 +90,17 @@ pub use supply::SupplyKind;
 
 /// WALK: how many fields that are not templates the input holds. The count is in fields; the input may have any length in bytes.
 ///
-/// Refused with [`Refusal::Malformed`] or [`Refusal::TooDeep`], by the first fault from left to right.
+/// Refused with [`Refusal::Malformed`] or [`Refusal::TooDeep`], by the first fault from left to right. Parts that it accepts, joined, count
+/// the sum of their fields.
 ///
 /// ```
 /// use treadlewisp::{walk, Refusal};
 /// assert_eq!(walk(&[0xA1, 0x05, 0x80, 0x01, 0x99, 0x81, 0x00]), Ok(2));
 /// assert_eq!(walk(&[0xA1, 0x00]), Ok(0));
 /// assert_eq!(walk(&[0x80, 0x81, 0x05]), Err(Refusal::Malformed));
+///
+/// let (one, two) = (&[0x80, 0x01, 0x99][..], &[0x81, 0x00, 0x82, 0x00][..]);
+/// assert_eq!((walk(one), walk(two), walk(&[one, two].concat())), (Ok(1), Ok(2), Ok(3)));
 /// ```
 pub fn walk(input: &[u8]) -> Result<usize, Refusal> {
     ffi::walk(input)

@@ -29,6 +29,24 @@ fn a_stored_record_gives_the_card_back_as_after_reset() {
     }
 }
 
+/// A second RESET gives what the first gave and changes no byte, of a sound card and of one that is not.
+#[test]
+fn a_second_reset_changes_nothing() {
+    let lives = [Life::fresh(), Life::initialised(), Life::in_channel()].map(|life| life.card);
+    let mut bytes = lives[2].to_bytes();
+    bytes[place("verified")][0] = 2;
+    let unsound = Card::from_bytes(&bytes);
+    for card in lives.iter().chain([&unsound]) {
+        let mut once = card.clone();
+        let first = once.reset();
+        assert_eq!(first.is_ok(), card.is_sound());
+        assert!(first.is_ok() || once == *card);
+        let mut twice = once.clone();
+        assert_eq!(twice.reset(), first);
+        assert_eq!(twice, once);
+    }
+}
+
 #[test]
 fn bytes_and_fields_of_a_card() {
     let life = Life::in_channel();

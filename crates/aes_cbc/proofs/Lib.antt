@@ -1,4 +1,5 @@
 pub mod Chains
 pub mod Mac
 pub mod Heads
+pub mod Joining
 pub mod Laws

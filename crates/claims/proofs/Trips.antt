@@ -22,9 +22,10 @@ use Rattle.template_answers.proofs.Walks.{walk-pre-initialised, walk-applicatio
 use Rattle.card.specs.declared.Card.{Card}
 use Rattle.card.specs.State.{resetOf}
 use Rattle.card.specs.Sound.{isSound}
-use Rattle.card.proofs.SoundFacts.{fresh-sound, reset-sound}
+use Rattle.card.proofs.SoundFacts.{fresh-sound, reset-sound, reset-reset}
 use Rattle.sound.specs.declared.Answer.{Answer}
-use Rattle.sound.specs.Reset.{done, resetAnswer}
+use Rattle.refusals.specs.Refusals.{unsound}
+use Rattle.sound.specs.Reset.{refused, done, resetAnswer}
 use Rattle.record_rules.specs.Answers.{writeRefusal}
 use Rattle.record_rules.proofs.ReadFacts.{read-write, write-read, read-sound, record-length}
 use Rattle.laws_engine.proofs.Sound.{answer-sound}
@@ -62,9 +63,20 @@ nine-bytes : Bytes nine
 nine-bytes = (omega arith, (omega arith, tt))
 
 -- ---- RESET
+reset-refused : (c : Card) → isSound c ≡ false → resetAnswer c ≡ refused unsound c
+unfolding resetAnswer
+reset-refused c e = rw e
+
 reset-is : (c : Card) → isSound c ≡ true → resetAnswer c ≡ done (resetOf c)
 unfolding resetAnswer
 reset-is c e = rw e
+
+reset-twice : (c : Card) → resetAnswer (resetAnswer c .card) ≡ resetAnswer c
+reset-twice c = go (isSound c) refl
+  where
+    go : (b : Bool) → isSound c ≡ b → resetAnswer (resetAnswer c .card) ≡ resetAnswer c
+    go true e = ap (λ (a : Answer). resetAnswer (a .card)) (reset-is c e) ∙ reset-is (resetOf c) (reset-sound c e) ∙ ap done (reset-reset c) ∙ sym (reset-is c e)
+    go false e = ap (λ (a : Answer). resetAnswer (a .card)) (reset-refused c e)
 
 -- a card that WRITE takes is sound
 written-sound : (c : Card) (room : ℕ) → writeRefusal c room ≡ 0 → isSound c ≡ true
@@ -122,5 +134,6 @@ trips = record {
     read = read-sound;
     answer = answer-sound;
   };
+  resets = record { twice = reset-twice };
   sizes = record { ask = ask-most; answer = answer-most; write = record-length };
 }

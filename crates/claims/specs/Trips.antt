@@ -87,6 +87,10 @@ pub record Soundness : Type 0 where
   pub read : (s : List ℕ) → isSound (readAnswer s .card) ≡ true
   pub answer : (c : Card) (cmd s : List ℕ) (room : ℕ) → isSound c ≡ true → isSound (answerOut c cmd s room .card) ≡ true
 
+-- ---- RESET twice is RESET once, for every card: of a sound one the next card, of an unsound one refusal 1 and the card as given
+pub record Resets : Type 0 where
+  pub twice : (c : Card) → resetAnswer (resetAnswer c .card) ≡ resetAnswer c
+
 -- ---- the room that is asked for is enough (RULES 11.2): ASK and ANSWER write no more, and a record has its length
 pub record Sizes : Type 0 where
   pub ask : (c : Card) (cmd : List ℕ) (room : ℕ) → Bytes cmd → isSound c ≡ true → 255 ≤ room → length (askOut c cmd room .bytes) ≤ 255
@@ -100,4 +104,5 @@ pub record Trips : Type 0 where
   pub walks : Walks
   pub agree : (c : Card) (cmd : List ℕ) (asks answers : ℕ) → isSound c ≡ true → 255 ≤ asks → 258 ≤ answers → Agreement c cmd asks answers
   pub soundness : Soundness
+  pub resets : Resets
   pub sizes : Sizes
