@@ -1,5 +1,6 @@
--- Demand 1 (RULES 11.1): which refusal each operation gives and exactly when, and that a refusal hands back what it was given and writes
--- nothing (RULES 3.2). What an operation gives beside refusals is its definition. Every length and room is in bytes.
+-- Demand 1 (RULES 11.1): which refusal each operation gives and exactly when (of WALK: which; when is its definition, RULES 9.3), and that a
+-- refusal hands back what it was given, of READ FRESH of zeros, and writes nothing (RULES 3.2). What an operation gives beside refusals is its
+-- definition. Every length and room is in bytes.
 use Prim.Native.Nat.{ℕ, _≤_, _<_}
 use mathlib.Core.Path.{_≡_}
 use mathlib.Core.Bool.{true, false}
@@ -71,7 +72,7 @@ pub record SealRefuses (s : Session) (header d : List ℕ) (room : ℕ) : Type 0
   pub taken : sealOut s header d room .refusal ≡ 0 ↔ (261 ≤ room) × (length d ≤ 223)
   pub nothing : (sealOut s header d room .refusal ≡ 0 → ⊥) → (sealOut s header d room .session ≡ s) × (sealOut s header d room .bytes ≡ [])
 
--- ---- UNSEAL: 2, 7. Genuine is what was sealed under this session: 2 to 223 bytes, data and status word
+-- ---- UNSEAL: 2, 7. Genuine is what sealing some 2 to 223 bytes, data and status word, under this session gives
 abbrev pub Genuine : Session → List ℕ → Type 0
 Genuine s response = (p : List ℕ) × Bytes p × (2 ≤ length p) × (length p ≤ 223) × (response ≡ sealedResponse s p)
 
