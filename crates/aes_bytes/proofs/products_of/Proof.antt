@@ -1,5 +1,6 @@
 -- Three doublings give the four products.
 -- Assumes nothing.
+use mathlib.Core.Path.{refl}
 use Rattle.aes_field.specs.Doublings.{ByDoublings}
 use Rattle.aes_field.proofs.Doublings.{by-doublings}
 use borrow.Author.Needs.{needs}
@@ -16,8 +17,18 @@ x-times-requires-3 : tie.Need-x-times-requires-3
 x-times-requires-3 c κs = search needs
 
 returns : tie.Need-returns
-returns c = let d : ByDoublings (c .before .before .before .args .b) = by-doublings (c .before .before .before .args .b) (search needs) in
-    cc (d .nine, d .eleven, d .thirteen, d .fourteen)
+returns c =
+    let d : ByDoublings (c .before .before .before .args .b) = by-doublings (c .before .before .before .args .b) (search needs) in
+    rw (
+      c .x-times3 .ensures,
+      c .before .x-times2 .ensures,
+      c .before .before .x-times .ensures,
+      d .nine,
+      d .eleven,
+      d .thirteen,
+      d .fourteen,
+    )
+    refl
 
 pub products-of-spec : {M : Type 1} → statement M
 products-of-spec = tie.close (tie.spec x-times-requires x-times-requires-2 x-times-requires-3 returns)
