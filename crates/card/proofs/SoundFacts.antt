@@ -68,7 +68,8 @@ parts-reset c e =
       pairing = pairing-reset (c .pairing) (r .pairing);
       keys = r .keys;
       channel = refl;
-      stage = refl;
+      pending = refl;
+      verified = refl;
     })
 
 pub reset-sound : (c : Card) → isSound c ≡ true → isSound (resetOf c) ≡ true
@@ -99,7 +100,8 @@ secrets-sound c pin puk d g e i = ⊎-elim
         pairing = r .pairing;
         keys = r .keys;
         channel = r .channel;
-        stage = r .stage;
+        pending = r .pending;
+        verified = r .verified;
       });
     }))
     (sound-cases c e)

@@ -31,7 +31,7 @@ use Rattle.rules.specs.Commands.{freeSlots, selected, selectChecks, selectReply
 use Rattle.rules.specs.Rows.{rowOf}
 use Rattle.rules.specs.Steps.{isInitialised}
 use Rattle.laws_commands.proofs.Checks.{suited, part-length, part-most}
-use Rattle.laws_commands.proofs.Parts.{after-init, before-init, pairing-sound, keys-sound, channel-blank, pairing-kept, channel-kept, unverified-sound, closed-sound, pins-shaped, pairing-shaped, channel-shaped, closed-fit, forgotten-fit}
+use Rattle.laws_commands.proofs.Parts.{after-init, before-init, pairing-sound, keys-sound, channel-blank, pairing-kept, channel-kept, or-right, pairing-shaped, channel-shaped, closed-fit, forgotten-fit}
 use Rattle.laws_commands.proofs.Changed.{keys-set, pending-rules, filled-rules, freed-rules, blank-pending, blank-pairing-rules, blank-keys-rules}
 use Rattle.laws_commands.proofs.Erasure.{cond-same}
 use Rattle.laws_commands.specs.Lawful.{Fit, eraseReply, Filled, Lawful}
@@ -73,10 +73,7 @@ selected-short c h = by-test (λ (x : List ℕ). length x ≤ 221) (isZero (c .i
 pub select-lawful : Lawful ins.Select command.Select
 unfolding ruleOf selectReply selectChecks
 select-lawful = record {
-  keeps = λ g c d s f r v u. record {
-    sound = unverified-sound (closed c) (closed-sound c (f .sound));
-    shaped = λ w. pins-shaped (closed c) (channel-shaped c (f .shaped w) _) (unverified (c .pins)) (f .shaped w .pin) (f .shaped w .puk);
-  };
+  keeps = λ g c d s f r v u. closed-fit g c f;
   short = λ c d s h. selected-short c h;
   unread = λ c d s t e. refl;
   unflagged = λ c d s t f. absurd (false≢true f);
@@ -105,7 +102,8 @@ module _ (g c : Card) (f : Fit g c) (n : isInitialised c ≡ false) where
             pairing = pairing-sound (k .pairing) (blank-pairing-rules (c .pairing) (part 18 32 x) (r .pairing));
             keys = keys-sound (c .keys) (blank-keys-rules (c .keys) (r .keys));
             channel = channel-blank c (f .sound);
-            stage = rw (blank-pending (c .pairing) (r .pairing));
+            pending = rw (blank-pending (c .pairing) (r .pairing));
+            verified = refl;
           });
         });
         shaped = λ w. record {
@@ -172,7 +170,7 @@ init-lawful = record {
 -- ---- the others, on an initialised card
 -- a pending pairing only in stage 0, so none in another stage
 stage-alone : (c : Card) → After c → (c .channel .stage ≡ 0 → ⊥) → c .pairing .pending ≡ 0
-stage-alone c a n = by-flag (isZero (c .pairing .pending)) refl (parts-rules c (a .parts) .stage)
+stage-alone c a n = by-flag (isZero (c .pairing .pending)) refl (parts-rules c (a .parts) .pending)
   where
     by-flag : (b : Bool) → isZero (c .pairing .pending) ≡ b → (b || isZero (c .channel .stage)) ≡ true → c .pairing .pending ≡ 0
     by-flag true e t = eqb-true (c .pairing .pending) 0 e
@@ -188,11 +186,11 @@ module _ (g c : Card) (f : Fit g c) (i : isInitialised c ≡ true) where
   abbrev Fits : Reply → Type 0
   Fits r = Fit g (r .card)
 
-  open-fit : (s : List ℕ) → c .pairing .pending ≡ 0 → Fits (openReply c s)
+  open-fit : (s : List ℕ) → c .pairing .pending ≡ 0 → c .pins .verified ≡ 0 → Fits (openReply c s)
   unfolding openReply
-  open-fit s z = by-test Fits (saysYes s)
+  open-fit s z y = by-test Fits (saysYes s)
       (λ e. record {
-        sound = channel-kept c after′ (openedWith s) refl (rw z);
+        sound = channel-kept c after′ (openedWith s) refl (rw z) (rw y);
         shaped = λ w. channel-shaped c (f .shaped w) (openedWith s);
       })
       (λ e. f)
@@ -202,7 +200,8 @@ module _ (g c : Card) (f : Fit g c) (i : isInitialised c ≡ true) where
   mutual-fit d s v =
       let h = eqb-true (c .channel .stage) 1 (v .0) in
       record {
-        sound = channel-kept c after′ (inStage2 (c .channel)) refl (rw (stage-alone c after′ (λ z. omega arith)));
+        sound = channel-kept c after′ (inStage2 (c .channel)) refl (rw (stage-alone c after′ (λ z. omega arith)))
+            (or-right (isZero (c .pins .verified)) true refl);
         shaped = λ w. channel-shaped c (f .shaped w) (inStage2 (c .channel));
       }
 
@@ -244,7 +243,7 @@ module _ (g c : Card) (f : Fit g c) (i : isInitialised c ≡ true) where
   unpair-fit k =
       let p = withSlot (c .pairing) k freeSlot in
       record {
-        sound = pairing-kept c after′ p (freed-rules (c .pairing) (parts′ .pairing) k) (parts′ .stage);
+        sound = pairing-kept c after′ p (freed-rules (c .pairing) (parts′ .pairing) k) (parts′ .pending);
         shaped = λ w.
             pairing-shaped c (f .shaped w) p (f .shaped w .secret) (rw length-set (f .shaped w .slots))
             (keys-set (c .pairing .slots) k freeSlot (f .shaped w .keys) refl) (f .shaped w .expected);
@@ -254,7 +253,7 @@ module _ (g c : Card) (f : Fit g c) (i : isInitialised c ≡ true) where
 pub open-lawful : (k : ℕ) → Lawful ins.Open (command.Open k)
 unfolding ruleOf openReply openChecks
 open-lawful k = record {
-  keeps = λ g c d s f r v u. open-fit g (closed c) (closed-fit g c f) (r .offer) s (r .pending (λ e. omega arith));
+  keeps = λ g c d s f r v u. open-fit g (closed c) (closed-fit g c f) (r .offer) s (r .pending (λ e. omega arith)) refl;
   short = λ c d s h. by-test Short (saysYes s)
       (λ e. two-parts (openSalt s) (openIv s) 32 16 (part-most 65 32 s) (part-most 97 16 s) (omega arith)) (λ e. nothing);
   unread = λ c d s t e. absurd (omega arith);

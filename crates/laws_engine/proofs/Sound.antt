@@ -71,7 +71,9 @@ mac-sound c mac e n = ⊎-elim
     (λ b.
     let h = both (isZero (c .channel .stage)) (sessionZero (c .channel)) (blank-rules c (b .blank) .channel) in
     absurd (n (eqb-true (c .channel .stage) 0 (h .0))))
-    (λ a. channel-kept c a (withMac c mac .channel) (within (parts-rules c (a .parts) .channel)) (parts-rules c (a .parts) .stage))
+    (λ a.
+    let r = parts-rules c (a .parts) in
+    channel-kept c a (withMac c mac .channel) (within (r .channel)) (r .pending) (r .verified))
     (sound-cases c e)
   where
     within : channelSound (c .channel) ≡ true → channelSound (withMac c mac .channel) ≡ true

@@ -99,7 +99,7 @@ step1-itself c cmd e h n stays =
     rules = parts-rules c (is-after c e n .parts)
 
     none : isZero (c .pairing .pending) ≡ true
-    none = or-left (isZero (c .pairing .pending)) (isZero (c .channel .stage)) (ne-eqb (c .channel .stage) 0 n) (rules .stage)
+    none = or-left (isZero (c .pairing .pending)) (isZero (c .channel .stage)) (ne-eqb (c .channel .stage) 0 n) (rules .pending)
       where
         or-left : (a b : Bool) → b ≡ false → (a || b) ≡ true → a ≡ true
         or-left true b z t = refl

@@ -32,7 +32,7 @@ use Rattle.laws_commands.proofs.Checks.{by-verdict, held}
 use Rattle.laws_commands.proofs.Table.{lawful, commandOf, only-compares}
 use Rattle.laws_two_runs.specs.Runs.{Call, answer, comparisonAt, Agree}
 use Rattle.laws_two_runs.proofs.Erasure.{step1-pins}
-use Rattle.laws_two_runs.proofs.Order.{by-arrival}
+use Rattle.laws_two_runs.proofs.Order.{by-arrival, right-unverified}
 use Rattle.laws_two_runs.proofs.Calls.{StepSame, call-same}
 use Rattle.laws_two_runs.proofs.Over.{opened-over, card-over}
 
@@ -114,7 +114,11 @@ module _ (c : Card) (cmd : List ℕ) (x : Comparison) where
       let l : Lawful (y .instruction) k = lawful (y .instruction) (p1Of cmd) (p2Of cmd) k listed in
       let over : isPlain (y .instruction) ≡ false = over-channel (y .instruction) k l (h .compares) in
       let opened : Card = withMac (step1 cmd c) (take 16 (y .field)) in
-      let pins : step1 cmd c .pins ≡ c .pins = step1-pins cmd c in
+      let right : rightBy (x .of) (step1 cmd c .pins) (y .opened .data′) ≡ x .right =
+          sym (right-unverified (x .of) (step1 cmd c .pins) (y .opened .data′))
+          ∙ ap (λ (p : Pins). rightBy (x .of) p (y .opened .data′)) (step1-pins cmd c)
+          ∙ right-unverified (x .of) (c .pins) (y .opened .data′)
+          ∙ sym (h .right) in
       record {
         field = y .field;
         data′ = y .opened .data′;
@@ -128,7 +132,7 @@ module _ (c : Card) (cmd : List ℕ) (x : Comparison) where
             ∙ step6-replies a (h .checked)
             ∙ ap (replying a) (only-compares k (x .of) (h .compares))
             ∙ by-secret (x .of) a
-            ∙ ap (deciding (a .data′)) (rw (over, card-over c cmd y over, pins, ← h .right));
+            ∙ ap (deciding (a .data′)) (rw (over, card-over c cmd y over, right));
       }
 
   pub one-made : comparison c cmd ≡ some x → Compared c cmd x
