@@ -124,9 +124,9 @@ module _ (c : Card) (a : After c) where
       })
 
 -- a sound card in a stage that is 2 or more is in stage 2
-pub stage-two : (c : Card) → After c → leb 2 (c .channel .stage) ≡ true → c .channel .stage ≡ 2
-stage-two c a l =
-    let most = leb-true (c .channel .stage) 2 (both (leb (c .channel .stage) 2) _ (parts-rules c (a .parts) .channel) .0) in
+pub stage-two : (c : Card) → isSound c ≡ true → leb 2 (c .channel .stage) ≡ true → c .channel .stage ≡ 2
+stage-two c e l =
+    let most = leb-true (c .channel .stage) 2 (both (leb (c .channel .stage) 2) _ (channel-blank c e) .0) in
     omega (arith, leb-true 2 (c .channel .stage) l)
 
 -- a test that may be left out

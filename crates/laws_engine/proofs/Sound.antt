@@ -102,7 +102,7 @@ module _ (g : Card) where
   Fine d = (s : List ℕ) → suits (d .supply) s ≡ true → Leaves (d .answer s)
 
   -- the card after step 4
-  opened-fit : (cmd : List ℕ) (c : Card) → Fit g c → (x : At cmd c) → Fit g (x .opened .card)
+  pub opened-fit : (cmd : List ℕ) (c : Card) → Fit g c → (x : At cmd c) → Fit g (x .opened .card)
   opened-fit cmd c f x = by-opened (λ (o : Opened). Fit g (o .card)) (x .instruction) cmd c (x .field) (λ p. f)
       (λ p t d e. mac-fit c (take 16 (x .field)) f (open-stage p t)) (x .opened) (x .opens)
     where
