@@ -8,6 +8,7 @@ use Rattle.claims.specs.WrongEngines.{WrongEngines}
 use Rattle.claims.specs.Refusals.{Refusals}
 use Rattle.claims.specs.Ciphers.{Ciphers}
 use Rattle.claims.specs.Trips.{Trips}
+use Rattle.claims.specs.Verified.{Verified}
 use Rattle.claims.specs.Secrecy.{Secrecy}
 
 pub record Claims : Type 0 where
@@ -17,6 +18,8 @@ pub record Claims : Type 0 where
   pub ciphers : Ciphers
   pub trips : Trips
   pub together : Together
+  -- verification ends with the channel (RULES 6.2)
+  pub verified : Verified
   -- demand 3 (RULES 11.3): the two runs
   pub secrecy : Secrecy
   -- the rows to settle and that what they suppose is met (RULES 11.4); and the wrong engines that the rules shut out (RULES 11.5)

@@ -2,9 +2,9 @@
 -- does with it what its rule says; the next card is sound, and a sound card is verified in stage 2 alone.
 -- Assumes nothing.
 use mathlib.Core.Path.{_≡_, refl, sym, ap, _∙_, subst}
-use mathlib.Core.Bool.{Bool, true, false, _&&_, _||_, not, cond, false≢true}
+use mathlib.Core.Bool.{Bool, true, false, _&&_, not, cond, false≢true}
 use mathlib.Core.List.{List, []}
-use mathlib.Core.Logic.{_⊎_, inl, inr, ⊎-elim}
+use mathlib.Core.Logic.{_⊎_, inl, inr}
 use mathlib.Core.Option.{Option, none, some}
 use Prim.Native.Nat.{ℕ}
 use native.Mathlib.Omega.{arith}
@@ -16,10 +16,10 @@ use Rattle.refusals.specs.Refusals.{noRefusal, answerRoom}
 use Rattle.card.specs.declared.Pins.{Pins}
 use Rattle.card.specs.declared.Card.{Card}
 use Rattle.card.specs.State.{closed}
-use Rattle.card.specs.Slots.{allZero, isZero}
+use Rattle.card.specs.Slots.{isZero}
 use Rattle.card.specs.Sound.{isSound}
-use Rattle.card.proofs.Tests.{both}
-use Rattle.card.proofs.Rules.{parts-rules, blank-rules, sound-cases}
+use Rattle.card.proofs.Tests.{both, the-first}
+use Rattle.card.proofs.SoundFacts.{verified-stage}
 use Rattle.sound.specs.declared.Answer.{Answer}
 use Rattle.sound.specs.Reset.{resetAnswer}
 use Rattle.rules.specs.declared.Command.{Command}
@@ -49,17 +49,7 @@ use Rattle.laws_two_runs.proofs.Compared.{At6, at6}
 
 -- ---- a sound card is verified in stage 2 alone
 not-verified : (c : Card) → isSound c ≡ true → eqb (c .channel .stage) 2 ≡ false → isVerified (c .pins) ≡ false
-not-verified c e z = ⊎-elim
-    (λ b.
-    let h = both ((allZero (c .pins .pin) && allZero (c .pins .puk)) && (isZero (c .pins .«pin_tries») && isZero (c .pins .«puk_tries»)))
-    (isZero (c .pins .verified)) (blank-rules c (b .blank) .pins) in
-    ap not (h .1))
-    (λ a. ap not (left (isZero (c .pins .verified)) (eqb (c .channel .stage) 2) z (parts-rules c (a .parts) .verified)))
-    (sound-cases c e)
-  where
-    left : (a b : Bool) → b ≡ false → (a || b) ≡ true → a ≡ true
-    left true b z t = refl
-    left false b z t = absurd (false≢true (sym z ∙ t))
+not-verified c e z = ap not (the-first (isZero (c .pins .verified)) (eqb (c .channel .stage) 2) z (verified-stage c e))
 
 -- so that it is enough to know it there
 exact : (c : Card) → isSound c ≡ true → (b : Bool) → (c .channel .stage ≡ 2 → isVerified (c .pins) ≡ b)
