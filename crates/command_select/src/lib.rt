@@ -128,5 +128,6 @@ pub fn select(card: Card, out: &mut [u8]) -> Replied
     let slots = card.pairing.slots;
     let keys = card.keys;
     let count = put_selected(card.initialised, identity, slots, keys, out);
-    replied(card.close(), count)
+    let closed = card.close();
+    replied(closed, count)
 }
