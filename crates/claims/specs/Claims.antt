@@ -1,5 +1,5 @@
 -- The claims, to be read first: what RULES 11 demands of the card, the terminal's end and the stored record, as one statement. Each field names a
--- statement of this crate (Rows, RowsMet, WrongEngines, Refusals, Ciphers, Trips, Secrecy) or of crate `laws_exchange`; those cite nothing but
+-- statement of this crate (Rows, RowsMet, WrongEngines, Refusals, Ciphers, Trips, Verified, Secrecy) or of crate `laws_exchange`; those cite nothing but
 -- definitions, and the code's contracts cite the same definitions. The proof is `claims` of proofs/Claims.
 use Rattle.laws_exchange.specs.Exchange.{Together}
 use Rattle.claims.specs.Rows.{Rows}
