@@ -24,9 +24,9 @@ extern "C" {
 /* The version: one number for this header, the library, the Rust crate and the crates that they are proved from. CHANGELOG.md says what it
    promises about the card's layout and the stored record. */
 #define TW_VERSION_MAJOR 0
-#define TW_VERSION_MINOR 2
+#define TW_VERSION_MINOR 3
 #define TW_VERSION_PATCH 0
-#define TW_VERSION "0.2.0"
+#define TW_VERSION "0.3.0"
 
 /* Numbers that follow from others are written as their sums; docs/LAYOUT.md has them worked out, and rust/tests/layout.rs holds both against
    each other. */
@@ -227,7 +227,7 @@ typedef struct tw_card {
     uint8_t puk[TW_PUK_BYTES];      /* digits, 0x30 to 0x39 */
     uint8_t pin_tries;              /* tries left, at most TW_PIN_TRIES */
     uint8_t puk_tries;              /* tries left, at most TW_PUK_TRIES */
-    uint8_t verified;               /* flag: the PIN is verified */
+    uint8_t verified;               /* flag: the PIN is verified; only in stage 2 */
     uint8_t secret[TW_KEY_BYTES];   /* pairing secret */
     tw_slot slots[TW_SLOTS];
     uint8_t pending;                /* flag: a first step of PAIR waits for its second */

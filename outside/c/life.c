@@ -323,9 +323,40 @@ static void messages(void)
     expect(call_seal(terminal, TW_INS_LOAD, 3, most, TW_SEAL_ROOM_BYTES, &command) == TW_DONE && command.count == 245, "SEAL of the most");
     command.bytes[5] = (uint8_t)(command.bytes[5] ^ 1);
     plain_status("a forged command", command, TW_SW_SECURITY_NOT_MET);
-    expect(card->stage == TW_STAGE_CLOSED && card->verified == 1, "the channel is lost, the verification kept");
+    expect(card->stage == TW_STAGE_CLOSED && card->verified == 0, "channel and verification are lost");
     plain_status("a good command after it", plain_command(TW_CLASS_CARD, TW_INS_VERIFY, 0, words(PIN)), TW_SW_CONDITIONS_NOT_MET);
-    expect(call_reset(card) == TW_DONE && card->verified == 0, "RESET drops the verification");
+    expect(call_reset(card) == TW_DONE, "RESET");
+}
+
+/* One client verifies the PIN, and another opens a channel on the card: it finds the PIN not verified. A refused OPEN, and what keeps the
+   channel, keep the verification; SELECT and RESET end it. A verified PIN without a channel in stage 2 is not sound. */
+static void second_client(void)
+{
+    text wrote;
+    const text open = plain_command(TW_CLASS_CARD, TW_INS_OPEN, 0, point());
+    const text pairing = plain_command(TW_CLASS_CARD, TW_INS_PAIR, TW_P1_PAIR_FIRST, key(0x0F));
+    pair();
+    open_channel();
+    sealed_status("VERIFY, the first client", TW_INS_VERIFY, 0, words(PIN), TW_SW_SUCCESS);
+    plain_status("PAIR over the channel", pairing, TW_SW_CONDITIONS_NOT_MET);
+    sealed_status("MUTUAL over the channel", TW_INS_MUTUAL, 0, key(0x0E), TW_SW_CONDITIONS_NOT_MET);
+    expect(call_answer(card, open, byte(0), TW_ANSWER_ROOM_BYTES, &wrote) == TW_BAD_SUPPLY, "OPEN with a flag alone");
+    expect(card->stage == TW_STAGE_MUTUAL && card->verified == 1, "channel and verification are kept");
+    sealed_status("UNPAIR, the first client", TW_INS_UNPAIR, TW_SLOTS - 1, none(), TW_SW_SUCCESS);
+    open_channel();
+    expect(card->verified == 0, "the second client finds no verification");
+    sealed_status("UNPAIR, the second client", TW_INS_UNPAIR, 0, none(), TW_SW_CONDITIONS_NOT_MET);
+    sealed_status("VERIFY, the second client", TW_INS_VERIFY, 0, words(PIN), TW_SW_SUCCESS);
+    sealed_status("UNPAIR, then", TW_INS_UNPAIR, TW_SLOTS - 1, none(), TW_SW_SUCCESS);
+    about("SELECT and RESET after VERIFY");
+    tw_card reset = *card;
+    expect(call_reset(&reset) == TW_DONE && reset.stage == TW_STAGE_CLOSED && reset.verified == 0, "RESET ends the verification");
+    expect(call_answer(card, select_command(), none(), TW_ANSWER_ROOM_BYTES, &wrote) == TW_DONE, "SELECT is refused");
+    expect(card->stage == TW_STAGE_CLOSED && card->verified == 0, "SELECT ends the verification");
+    card->verified = 1;
+    expect(tw_sound(card) == 0 && call_reset(card) == TW_UNSOUND, "a verified PIN in stage 0 is not sound");
+    card->verified = 0;
+    expect(tw_sound(card) == 1, "the same card without it is sound");
 }
 
 /* SP 800-38A, F.2.5, CBC-AES256.Encrypt: its first block, as SEAL enciphers it. */
@@ -389,6 +420,7 @@ static void play(enum placing placing)
     pin_and_puk();
     keys();
     messages();
+    second_client();
     published_vector();
     templates();
     places_release(0);

@@ -1,7 +1,8 @@
 //! Every operation on the model and on the library at once: results, next state, the whole buffer and the bytes around it are held to each
 //! other, and the first difference ends the run. Lengths are in bytes.
 
-use crate::may_occur::{lr_of, Operation};
+use crate::may_occur::{lr_of, name_of, Operation};
+use crate::standing::{standing_after, standing_of, Standing};
 use crate::tally::Tally;
 use outside::ffi::treadlewisp::{self, CARD_BYTES};
 use outside::model::card::{Card, Session, POINT_BYTES, UID_BYTES};
@@ -169,6 +170,9 @@ impl Both {
         self.tally.operation(Operation::Reset, model);
         self.tally.card(Operation::Reset, model, &before);
         self.next_card_sound(&call, model, &lent);
+        if model == 0 {
+            self.stands(&call, card, Standing::Closed);
+        }
         model
     }
 
@@ -216,7 +220,33 @@ impl Both {
         self.unchanged(&call, &[&given, &supplied]);
         self.tally_answer(&before, command, supply, buffer.len(), &model);
         self.next_card_sound(&call, model.told.refusal, &lent);
+        self.passes(&call, &before, command, &model, card);
         model
+    }
+
+    /// The card that an answer left stands as the table says; a refused call left the card as it was.
+    fn passes(&mut self, call: &Call, before: &Card, command: &[u8], answered: &Answered, after: &Card) {
+        let Some(status) = answered.status else {
+            if after != before {
+                self.differ(call, "a refused call changed the card", "", "");
+            }
+            return;
+        };
+        let name = name_of(command);
+        let Some(stood) = standing_of(before) else {
+            self.differ(call, "a verified PIN outside stage 2 was taken for sound", "", "");
+        };
+        let stands = standing_after(stood, name, status, answered.sealed);
+        self.stands(call, after, stands);
+        self.tally.passage(stood, stands, (name, status, answered.sealed));
+    }
+
+    fn stands(&self, call: &Call, card: &Card, wanted: Standing) {
+        let stands = standing_of(card);
+        if stands != Some(wanted) {
+            let got = format!("both left it {stands:?}");
+            self.differ(call, &format!("by the table the card is then {wanted:?}"), &got, &got);
+        }
     }
 
     /// The card that a call left, where it was not refused, is sound by the library's own word.
@@ -340,6 +370,7 @@ impl Both {
         self.same_result(&call, (model, 0, 0), (library, 0, 0));
         self.same_bytes(&call, "the card", &treadlewisp::card_bytes(&card), &lent);
         self.unchanged(&call, &[&given]);
+        self.stands(&call, &card, Standing::Closed);
         self.tally.operation(Operation::Read, model);
         (model, card)
     }

@@ -19,15 +19,15 @@ use outside::random::Random;
 /// P1 that no command lists.
 const UNLISTED_P1: [u8; 3] = [SLOTS as u8, 0x80, 0xff];
 
-/// A sound card in this situation that has all that a command can need: a verified PIN, an extended key on the PIN-less path, a filled
-/// slot and free ones.
+/// A sound card in this situation that has all that a command can need: in stage 2 a verified PIN, an extended key on the PIN-less path,
+/// a filled slot and free ones.
 pub fn ready_card(random: &mut Random, situation: Situation) -> Card {
     if situation == Situation::PreInitialised {
         return Card::fresh(array(random), array(random));
     }
     let mut card = sound_card(random);
     card.power_up();
-    (card.verified, card.pin_tries, card.puk_tries) = (YES, PIN_TRIES, PUK_TRIES);
+    (card.pin_tries, card.puk_tries) = (PIN_TRIES, PUK_TRIES);
     card.slots = [Slot::FREE; SLOTS];
     card.slots[random.below(SLOTS)] = filled(random);
     (card.key_kind, card.key_uid) = (EXTENDED_KEY, array(random));
@@ -38,7 +38,7 @@ pub fn ready_card(random: &mut Random, situation: Situation) -> Card {
         Situation::PreInitialised | Situation::Closed => {}
         Situation::Pending => (card.pending, card.expected) = (YES, array(random)),
         Situation::Opened => (card.stage, card.session) = (OPENED, random_session(random)),
-        Situation::Authenticated => (card.stage, card.session) = (AUTHENTICATED, random_session(random)),
+        Situation::Authenticated => (card.stage, card.session, card.verified) = (AUTHENTICATED, random_session(random), YES),
     }
     card
 }

@@ -1,6 +1,6 @@
-//! The proved library beside the plain model of the rules, over the C boundary: the rows to settle, sweeps, whole lives of cards, and the
-//! two runs of demand 3. The first difference ends the run with a status that is not 0, and so does a row of the tables that never occurred,
-//! or an answer that they do not have.
+//! The proved library beside the plain model of the rules, over the C boundary: the rows to settle, sweeps, every way to keep or lose a
+//! verified PIN, whole lives of cards, and the two runs of demand 3. The first difference ends the run with a status that is not 0, and so
+//! does a row of the tables that never occurred, or an answer that they do not have.
 
 mod both;
 mod directed;
@@ -11,7 +11,9 @@ mod may_occur;
 mod pairs;
 mod records;
 mod requests;
+mod second_client;
 mod settled_rows;
+mod standing;
 mod states;
 mod sweeps;
 mod tally;
@@ -79,6 +81,7 @@ fn main() {
     directed::run(&mut both, options.seed);
     sweeps::run(&mut both, options.seed);
     joining::run(&mut both, options.seed);
+    second_client::run(&mut both, options.seed);
     let mut lives = 0;
     while both.tally.calls() < options.calls / 100 * (100 - PAIRS_PERCENT) {
         lives::live(&mut both, options.seed, lives);

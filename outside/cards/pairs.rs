@@ -127,7 +127,7 @@ fn begin(random: &mut Random) -> Two {
         first.session.mac_key = array(random);
     }
     match random.below(4) {
-        0 => (first.verified, first.pin_tries) = (YES, PIN_TRIES),
+        0 if first.stage == AUTHENTICATED => (first.verified, first.pin_tries) = (YES, PIN_TRIES),
         1 => (first.verified, first.pin_tries, first.puk_tries) = (NO, 0, PUK_TRIES),
         _ => {}
     }

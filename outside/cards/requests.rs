@@ -20,7 +20,7 @@ pub struct Request {
 }
 
 impl Request {
-    fn new(name: Name, p1: u8, data: &[u8]) -> Request {
+    pub fn new(name: Name, p1: u8, data: &[u8]) -> Request {
         let class = if name == Name::Select { 0x00 } else { 0x80 };
         let known = INSTRUCTIONS
             .iter()

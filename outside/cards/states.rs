@@ -27,15 +27,14 @@ pub fn sound_card(random: &mut Random) -> Card {
     card.pin = digits(random);
     card.puk = digits(random);
     card.pairing_secret = array(random);
-    card.pin_tries = pick(random, &[0, 0, 0, 1, 2, PIN_TRIES]);
+    card.pin_tries = pick(random, &[0, 0, 0, 1, 2, PIN_TRIES, PIN_TRIES, PIN_TRIES]);
     card.puk_tries = random.below(PUK_TRIES as usize + 1) as u8;
-    if chance(random, 50) {
-        card.pin_tries = PIN_TRIES;
-        card.verified = pick(random, &[NO, YES, YES]);
-    }
     fill_slots(random, &mut card);
     fill_key(random, &mut card);
     card.stage = pick(random, &[CLOSED, OPENED, AUTHENTICATED, AUTHENTICATED]);
+    if card.stage == AUTHENTICATED && chance(random, 40) {
+        (card.verified, card.pin_tries) = (YES, PIN_TRIES);
+    }
     if card.stage != CLOSED {
         card.session = random_session(random);
     } else if card.first_free_slot().is_some() && chance(random, 50) {
@@ -102,7 +101,7 @@ fn pre_initialised_with_more(random: &mut Random) -> Card {
 }
 
 /// How many rules of soundness `break_rule` breaks.
-pub const RULES: usize = 20;
+pub const RULES: usize = 21;
 
 /// Breaks one rule of soundness (RULES 2.3); some need another field to be as it is not, so a card may stay sound.
 pub fn break_rule(random: &mut Random, card: &mut Card, rule: usize) {
@@ -141,7 +140,13 @@ pub fn break_rule(random: &mut Random, card: &mut Card, rule: usize) {
         16 => (card.key_kind, card.key_uid) = (NO_KEY, array(random)),
         17 => (card.slots[slot].filled, card.slots[slot].key) = (NO, array(random)),
         18 => (card.pending, card.expected) = (NO, array(random)),
-        _ => (card.stage, card.session) = (CLOSED, random_session(random)),
+        19 => (card.stage, card.session) = (CLOSED, random_session(random)),
+        _ => {
+            (card.verified, card.pin_tries) = (YES, PIN_TRIES);
+            if card.stage == AUTHENTICATED {
+                card.stage = OPENED;
+            }
+        }
     }
 }
 

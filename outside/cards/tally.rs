@@ -2,6 +2,7 @@
 //! an answer that has no row is one too many.
 
 use crate::may_occur::*;
+use crate::standing::{every_verified_row, Standing, VerifiedRow, PASSAGES};
 use outside::model::card::Card;
 use outside::model::commands::{Comparison, Name};
 use outside::model::engine::{Answered, Asked};
@@ -31,6 +32,10 @@ pub struct Tally {
     kinds: BTreeMap<(Situation, u8), usize>,
     comparisons: BTreeMap<Comparison, usize>,
     answers: BTreeMap<Row, usize>,
+    /// How the card stood before an answer and after it.
+    passages: BTreeMap<(Standing, Standing), usize>,
+    /// Answers that a card with a verified PIN got.
+    verified: BTreeMap<VerifiedRow, usize>,
     forms: BTreeMap<(Situation, Form), usize>,
     /// Supplies by the kind that was read.
     supplies: BTreeMap<(u8, Supplied), usize>,
@@ -89,6 +94,14 @@ impl Tally {
         }
     }
 
+    /// An answer to a card that stood so and stands so now.
+    pub fn passage(&mut self, before: Standing, after: Standing, row: VerifiedRow) {
+        *self.passages.entry((before, after)).or_default() += 1;
+        if before == Standing::Verified {
+            *self.verified.entry(row).or_default() += 1;
+        }
+    }
+
     /// What has to occur and did not.
     pub fn missing(&self) -> Vec<String> {
         let mut missing = Vec::new();
@@ -114,6 +127,10 @@ impl Tally {
         }
         missing.extend(lacking("comparison", &self.comparisons, COMPARISONS));
         missing.extend(lacking("answer", &self.answers, every_row()));
+        missing.extend(lacking("answer to a verified card", &self.verified, every_verified_row()));
+        for (before, after) in PASSAGES {
+            missing.extend(lacking("passage", &self.passages, after.iter().map(|&after| (before, after))));
+        }
         for situation in EVERY_SITUATION {
             missing.extend(lacking("kind", &self.kinds, kinds(situation).iter().map(|&kind| (situation, kind))));
             missing.extend(lacking("form", &self.forms, EVERY_FORM.map(|form| (situation, form))));
@@ -128,7 +145,7 @@ impl Tally {
         missing
     }
 
-    /// Answers, kinds and opened responses that the tables do not have.
+    /// Answers, passages, kinds and opened responses that the tables do not have.
     pub fn too_many(&self) -> Vec<String> {
         let rows = every_row();
         let answers = self
@@ -140,7 +157,14 @@ impl Tally {
         let can_be = |(lr, refusal): &(Lr, u8)| RESPONSES.iter().any(|row| row.0 == *lr && row.1.contains(refusal));
         let opened = self.responses.keys().filter(|row| !can_be(row));
         let opened = opened.map(|row| format!("response {row:?}"));
-        answers.chain(asked.map(|row| format!("kind {row:?}"))).chain(opened).collect()
+        let verified_rows = every_verified_row();
+        let verified = self.verified.keys().filter(|row| !verified_rows.contains(row));
+        let verified = verified.map(|row| format!("answer to a verified card {row:x?}"));
+        let can_pass = |(before, after): &(Standing, Standing)| PASSAGES.iter().any(|row| row.0 == *before && row.1.contains(after));
+        let passed = self.passages.keys().filter(|row| !can_pass(row));
+        let passed = passed.map(|row| format!("passage {row:?}"));
+        let asked = asked.map(|row| format!("kind {row:?}"));
+        answers.chain(verified).chain(passed).chain(asked).chain(opened).collect()
     }
 
     pub fn print(&self) {
@@ -168,6 +192,10 @@ impl Tally {
         println!("calls that a sound card got, by its situation:");
         for (operation, _) in REFUSALS {
             print_part(&self.situations, operation);
+        }
+        println!("how the card stood before an answer, and of these how after it:");
+        for (before, _) in PASSAGES {
+            print_part(&self.passages, before);
         }
         println!("buffers beside the least room:");
         for (operation, _) in ROOMS {
@@ -204,6 +232,13 @@ impl Tally {
         let least = rows.iter().filter_map(|row| self.answers.get(row)).min();
         println!(
             "{} rows of command, situation and status word, each at least {} times",
+            rows.len(),
+            least.unwrap_or(&0)
+        );
+        let rows = every_verified_row();
+        let least = rows.iter().filter_map(|row| self.verified.get(row)).min();
+        println!(
+            "{} rows of command and status word with the PIN verified, each at least {} times",
             rows.len(),
             least.unwrap_or(&0)
         );

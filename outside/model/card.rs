@@ -153,13 +153,14 @@ impl Card {
     /// RESET's effect: power-up.
     pub fn power_up(&mut self) {
         self.close_channel();
-        self.verified = NO;
         self.forget_pending();
     }
 
+    /// The only way out of stage 2: verification ends with the channel.
     pub fn close_channel(&mut self) {
         self.stage = CLOSED;
         self.session = Session::ZERO;
+        self.verified = NO;
     }
 
     pub fn forget_pending(&mut self) {
@@ -184,7 +185,7 @@ impl Card {
         let key_kind = self.key_kind <= EXTENDED_KEY;
         let digits = is_digits(&self.pin) && is_digits(&self.puk);
         let tries = self.pin_tries <= PIN_TRIES && self.puk_tries <= PUK_TRIES;
-        let verified = self.verified == NO || self.pin_tries == PIN_TRIES;
+        let verified = self.verified == NO || (self.pin_tries == PIN_TRIES && self.stage == AUTHENTICATED);
         let stage = self.stage <= AUTHENTICATED;
         let pending = self.pending == NO || (self.stage == CLOSED && self.first_free_slot().is_some());
         let paths = self.current_path.is_sound() && self.pinless_path.is_sound();

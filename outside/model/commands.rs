@@ -259,7 +259,6 @@ fn select(card: &mut Card, apdu: &Apdu) -> Outcome {
     require_p1(apdu, &[0x04])?;
     require(apdu.data == APPLICATION_ID, NOT_FOUND)?;
     card.close_channel();
-    card.verified = NO;
     Ok(Reply::success(select_answer(card)))
 }
 

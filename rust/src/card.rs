@@ -246,7 +246,7 @@ impl Card {
         self.puk_tries
     }
 
-    /// Whether the PIN is verified.
+    /// Whether the PIN is verified. A sound card has a verified PIN only in [`Stage::Mutual`]: verification ends with the channel.
     pub fn is_verified(&self) -> bool {
         self.verified == 1
     }

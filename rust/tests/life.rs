@@ -104,15 +104,16 @@ fn keys_and_paths() {
 }
 
 #[test]
-fn the_channel_is_lost_by_a_forged_command_and_by_reset() {
+fn channel_and_verification_are_lost_by_a_forged_command_and_by_reset() {
     let mut life = Life::in_channel();
     assert_eq!(life.sealed_status(command::VERIFY, 0x00, PIN), StatusWord::SUCCESS);
     let mut forged = life.seal(command::GET_STATUS, 0x00, &[]);
     forged[5] ^= 1;
     assert_eq!(life.plain(&forged), [0x69, 0x82]);
-    assert_eq!(life.card.stage(), Some(Stage::Closed));
-    assert!(life.card.is_verified());
+    assert_eq!((life.card.stage(), life.card.is_verified()), (Some(Stage::Closed), false));
     life.open();
+    life.mutual();
+    assert_eq!(life.sealed_status(command::VERIFY, 0x00, PIN), StatusWord::SUCCESS);
     life.card.reset().expect("RESET");
     assert_eq!((life.card.stage(), life.card.is_verified()), (Some(Stage::Closed), false));
 }

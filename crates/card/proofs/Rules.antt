@@ -118,18 +118,20 @@ pub record PartsRules (c : Card) : Type 0 where
   pub pairing : pairingSound (c .pairing) ≡ true
   pub keys : keysSound (c .keys) ≡ true
   pub channel : channelSound (c .channel) ≡ true
-  pub stage : (isZero (c .pairing .pending) || isZero (c .channel .stage)) ≡ true
+  pub pending : (isZero (c .pairing .pending) || isZero (c .channel .stage)) ≡ true
+  pub verified : (isZero (c .pins .verified) || eqb (c .channel .stage) 2) ≡ true
 
 pub parts-rules : (c : Card) → partsSound c ≡ true → PartsRules c
 parts-rules c e =
-    let l = both _ _ e in
+    let v = both _ _ e in
+    let l = both _ _ (v .0) in
     let t = both _ _ (l .0) in
     let k = both _ _ (t .0) in
     let d = both _ _ (k .0) in
-    record { pins = d .0; pairing = d .1; keys = k .1; channel = t .1; stage = l .1 }
+    record { pins = d .0; pairing = d .1; keys = k .1; channel = t .1; pending = l .1; verified = v .1 }
 
 pub parts-sound : (c : Card) → PartsRules c → partsSound c ≡ true
-parts-sound c r = rw (r .pins, r .pairing, r .keys, r .channel) (r .stage)
+parts-sound c r = rw (r .pins, r .pairing, r .keys, r .channel, r .pending) (r .verified)
 
 -- ---- partsBlank
 pub record BlankRules (c : Card) : Type 0 where

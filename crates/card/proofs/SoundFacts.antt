@@ -1,17 +1,18 @@
 -- Facts about sound cards: FRESH is sound, RESET keeps soundness and does no more the second time, and PIN and PUK may be
 -- any digits. Assumes nothing.
 use mathlib.Core.Path.{_≡_, refl}
-use mathlib.Core.Bool.{true, _&&_}
+use mathlib.Core.Bool.{Bool, true, _&&_, _||_}
 use mathlib.Core.Logic.{⊎-elim}
 use mathlib.Core.List.{List}
 use Prim.Native.Nat.{ℕ, _≤_}
+use lib.Dec.{eqb}
 use borrow.Author.Tests.{leb-true}
 use native.Mathlib.Omega.{arith}
 use Rattle.card.specs.declared.Card.{Card}
 use Rattle.card.specs.declared.Pins.{Pins}
 use Rattle.card.specs.declared.Pairing.{Pairing}
 use Rattle.card.specs.Sizes.{pathMostBytes}
-use Rattle.card.specs.State.{freshOf, resetOf, unverified, notPending, withSecrets}
+use Rattle.card.specs.State.{pinTries, freshOf, resetOf, unverified, notPending, withSecrets}
 use Rattle.card.specs.Slots.{allOf, isZero, allZero, slotWithin}
 use Rattle.card.specs.Sound.{isSound, isDigit, partsBlank, partsSound, pinsSound, pairingSound, pinsBlank, pairingBlank}
 use Rattle.card.proofs.Tests.{both}
@@ -68,7 +69,8 @@ parts-reset c e =
       pairing = pairing-reset (c .pairing) (r .pairing);
       keys = r .keys;
       channel = refl;
-      stage = refl;
+      pending = refl;
+      verified = refl;
     })
 
 pub reset-sound : (c : Card) → isSound c ≡ true → isSound (resetOf c) ≡ true
@@ -99,13 +101,28 @@ secrets-sound c pin puk d g e i = ⊎-elim
         pairing = r .pairing;
         keys = r .keys;
         channel = r .channel;
-        stage = r .stage;
+        pending = r .pending;
+        verified = r .verified;
       });
     }))
     (sound-cases c e)
   where
     one-not-zero : {n : ℕ} → n ≡ 1 → n ≡ 0 → ⊥
     one-not-zero p q = omega arith
+
+-- ---- a verified PIN: only in stage 2, and only with full tries
+module _ (c : Card) (e : isSound c ≡ true) where
+  blank-verified : partsBlank c ≡ true → (b : Bool) → (isZero (c .pins .verified) || b) ≡ true
+  blank-verified h b = rw (both
+      ((allZero (c .pins .pin) && allZero (c .pins .puk)) && (isZero (c .pins .«pin_tries») && isZero (c .pins .«puk_tries»)))
+      (isZero (c .pins .verified)) (blank-rules c h .pins) .1)
+
+  pub verified-stage : (isZero (c .pins .verified) || eqb (c .channel .stage) 2) ≡ true
+  verified-stage = ⊎-elim (λ b. blank-verified (b .blank) _) (λ a. parts-rules c (a .parts) .verified) (sound-cases c e)
+
+  pub verified-tries : (isZero (c .pins .verified) || eqb (c .pins .«pin_tries») pinTries) ≡ true
+  verified-tries =
+      ⊎-elim (λ b. blank-verified (b .blank) _) (λ a. pins-rules (c .pins) (parts-rules c (a .parts) .pins) .verified) (sound-cases c e)
 
 -- ---- paths: no longer than their room
 pub path-lengths : (c : Card) → isSound c ≡ true → (c .keys .current .len ≤ pathMostBytes) × (c .keys .pinless .len ≤ pathMostBytes)

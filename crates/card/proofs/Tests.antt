@@ -1,6 +1,6 @@
 -- Facts about tests: a conjunction that holds, and a test over a list.
 -- Assumes nothing.
-use mathlib.Core.Path.{_≡_, refl}
+use mathlib.Core.Path.{_≡_, refl, sym, _∙_}
 use mathlib.Core.Bool.{Bool, true, false, _&&_, _||_, not, false≢true}
 use mathlib.Core.List.{List, [], _∷_}
 use Prim.Native.Nat.{ℕ, _+_, _≤_, _<_}
@@ -19,6 +19,15 @@ both false b e = absurd (false≢true e)
 pub implied : (a b : Bool) → a ≡ true → (not a || b) ≡ true → b ≡ true
 implied true b h e = e
 implied false b h e = absurd (false≢true h)
+
+-- one of two tests holds, and the other does not
+pub the-first : (a b : Bool) → b ≡ false → (a || b) ≡ true → a ≡ true
+the-first true b z e = refl
+the-first false b z e = absurd (false≢true (sym z ∙ e))
+
+pub the-second : (a b : Bool) → a ≡ false → (a || b) ≡ true → b ≡ true
+the-second true b z e = absurd (false≢true (sym z))
+the-second false b z e = e
 
 -- ---- allOf: one element is tested, and the rest is left
 module _ {A : Type 0} (p : A → Bool) (s : List A) (i : ℕ) (d : A) where

@@ -60,7 +60,7 @@ sessionZero k = allZero (k .«enc_key») && allZero (k .«mac_key») && allZero 
 abbrev pub channelSound : Channel → Bool
 channelSound k = leb (k .stage) 2 && (not (isZero (k .stage)) || sessionZero k)
 
--- the parts, and the rule that joins two of them: a pending pairing only in stage 0
+-- the parts, and the two rules that join one of them to the channel: a pending pairing only in stage 0, a verified PIN only in stage 2
 abbrev pub partsSound : Card → Bool
 partsSound c =
     pinsSound (c .pins)
@@ -68,6 +68,7 @@ partsSound c =
     && keysSound (c .keys)
     && channelSound (c .channel)
     && (isZero (c .pairing .pending) || isZero (c .channel .stage))
+    && (isZero (c .pins .verified) || eqb (c .channel .stage) 2)
 
 -- ---- a pre-initialised card: all but the identity is zero (RULES 2.3, rule 9)
 abbrev pub pinsBlank : Pins → Bool

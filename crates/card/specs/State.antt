@@ -121,13 +121,13 @@ withChannel c k = record {
   channel = k;
 }
 
--- ---- the card with its channel closed (RULES 3.4): stage 0, the session's bytes zero
-abbrev pub closed : Card → Card
-closed c = withChannel c closedOf
-
 -- the PIN not verified
 abbrev pub unverified : Pins → Pins
 unverified p = record { pin = p .pin; puk = p .puk; «pin_tries» = p .«pin_tries»; «puk_tries» = p .«puk_tries»; verified = 0 }
+
+-- ---- the card with its channel closed (RULES 3.4): stage 0, the session's bytes zero, and verification ended with it (RULES 6.2)
+abbrev pub closed : Card → Card
+closed c = withPins (withChannel c closedOf) (unverified (c .pins))
 
 -- no pending pairing, and its bytes zero
 abbrev pub notPending : Pairing → Pairing
@@ -136,9 +136,9 @@ notPending p = record { secret = p .secret; slots = p .slots; pending = 0; expec
 abbrev pub forgotten : Card → Card
 forgotten c = withPairing c (notPending (c .pairing))
 
--- ---- power-up (RULES 3.4): the channel closed, the PIN not verified, no pending pairing
+-- ---- power-up (RULES 3.4): the channel closed and verification with it, no pending pairing
 abbrev pub resetOf : Card → Card
-resetOf c = withPins (forgotten (closed c)) (unverified (c .pins))
+resetOf c = forgotten (closed c)
 
 -- PIN and PUK put in the place of the card's own
 abbrev pub withSecrets : List ℕ → List ℕ → Card → Card

@@ -202,10 +202,11 @@ impl Card {
         }
     }
 
-    // The card with its channel closed: the one place that closes a channel.
+    // The card with its channel closed and the PIN not verified: the one place that closes a channel, and verification ends with it.
     pub fn close(mut self) -> Card
         ensures { λ r. ⌜ r ≡ closed self ⌝ }
     {
+        self.pins.verified = 0;
         let channel = Channel::closed();
         self.channel = channel;
         self
@@ -218,7 +219,6 @@ impl Card {
         let mut pairing = self.pairing;
         pairing.pending = 0;
         pairing.expected = [0; KEY_BYTES];
-        self.pins.verified = 0;
         self.pairing = pairing;
         self.close()
     }

@@ -8,6 +8,7 @@ use Rattle.claims.proofs.WrongEngines.{wrong-engines}
 use Rattle.claims.proofs.Refusals.{refusals}
 use Rattle.claims.proofs.Ciphers.{ciphers}
 use Rattle.claims.proofs.Trips.{trips}
+use Rattle.claims.proofs.Verified.{verified}
 use Rattle.claims.proofs.Secrecy.{secrecy}
 
 pub claims : Claims
@@ -16,6 +17,7 @@ claims = record {
   ciphers = ciphers;
   trips = trips;
   together = together;
+  verified = verified;
   secrecy = secrecy;
   rows = rows;
   rowsmet = rows-met;

@@ -8,5 +8,6 @@ pub mod Genuine
 pub mod Refusals
 pub mod Ciphers
 pub mod Trips
+pub mod Verified
 pub mod Secrecy
 pub mod Claims

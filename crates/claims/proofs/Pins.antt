@@ -10,11 +10,12 @@ use borrow.Author.Tests.{ne-eqb}
 use lib.ListN.{take}
 use Rattle.octets.specs.Bytes.{sameBytes}
 use Rattle.octets.proofs.Lists.{same-eq}
+use Rattle.template_rules.proofs.HeadFacts.{by-test}
 use Rattle.channel_rules.specs.Terminal.{sealedResponse}
 use Rattle.card.specs.declared.Channel.{Channel}
 use Rattle.card.specs.declared.Pins.{Pins}
 use Rattle.card.specs.declared.Card.{Card}
-use Rattle.card.specs.State.{withPins, closed, forgotten}
+use Rattle.card.specs.State.{withPins, forgotten}
 use Rattle.card.specs.Slots.{isZero}
 use Rattle.card.specs.Sound.{isSound}
 use Rattle.rules.specs.declared.Command.{Command}
@@ -23,21 +24,22 @@ use Rattle.rules.specs.Words.{triesLeft, word, Hold, Reply, fails}
 use Rattle.rules.specs.Supplies.{suits}
 use Rattle.rules.specs.Commands.{pinWrong, verifyChecks, verifyReply, ruleOf}
 use Rattle.rules.specs.Channel.{sessionOf, withMac, plainText, sealed}
-use Rattle.rules.specs.Steps.{step1, Arrived, checksOf, supplyOf}
+use Rattle.rules.specs.Steps.{begins, step1, Arrived, checksOf, supplyOf}
 use Rattle.rules.specs.Engine.{AnswerOut, answered, answerOut}
-use Rattle.laws_engine.proofs.Sound.{step1-keeps, answer-sound}
+use Rattle.laws_engine.proofs.Sound.{answer-sound}
 use Rattle.laws_exchange.specs.Opens.{outcome}
 use Rattle.laws_exchange.proofs.Answers.{arrived-in2, result-channel, answer-stage2}
+use Rattle.laws_two_runs.proofs.Sealed.{step1-stage2}
 use Rattle.claims.specs.Rows.{Sent, Gives, Entry, entered, after, Entries}
 
 -- ---- any command over the channel
--- what step 1 keeps, the card at step 6 has
-pub here-keeps : (P : Card → Type 0) → ((x : Card) → P x → P (closed x)) → ((x : Card) → P x → P (forgotten x))
-    → ((x : Card) (mac : List ℕ) → P x → P (withMac x mac))
+-- in stage 2 step 1 closes no channel; what it keeps, the card at step 6 has
+pub here-keeps : (P : Card → Type 0) → ((x : Card) → P x → P (forgotten x)) → ((x : Card) (mac : List ℕ) → P x → P (withMac x mac))
     → (c : Card) → c .channel .stage ≡ 2 → (v : Sent c) → P c → P (v .opens .arrived .card)
-here-keeps P close forget mac c in2 v h =
+here-keeps P forget mac c in2 v h =
     subst P (sym (arrived-in2 c (v .bytes) in2 (v .opens) .card (v .opens .field) (v .opens .form)))
-    (mac (step1 (v .bytes) c) (take 16 (v .opens .field)) (step1-keeps P close forget (v .bytes) c h))
+    (mac (step1 (v .bytes) c) (take 16 (v .opens .field))
+    (subst P (sym (step1-stage2 c (v .bytes) in2)) (by-test P (begins 0x12 (v .bytes)) (λ t. h) (λ t. forget c h))))
 
 module _ (c : Card) (sound : isSound c ≡ true) (in2 : c .channel .stage ≡ 2) (v : Sent c) where
   abbrev x : Arrived
@@ -96,7 +98,7 @@ module _ (c : Card) (pin : List ℕ) (v : Entry c) where
 
   -- at step 6 PIN and tries are the card's
   pins-here : c .channel .stage ≡ 2 → here .pins ≡ c .pins
-  pins-here in2 = here-keeps (λ (y : Card). y .pins ≡ c .pins) (λ y h. h) (λ y h. h) (λ y mac h. h) c in2 (v .sent) refl
+  pins-here in2 = here-keeps (λ (y : Card). y .pins ≡ c .pins) (λ y h. h) (λ y mac h. h) c in2 (v .sent) refl
 
   module _ (l-sound : isSound c ≡ true) (l-stage : c .channel .stage ≡ 2) where
     next-is : after c v ≡ sealed (said c l-sound l-stage (v .sent)) .card

@@ -102,7 +102,7 @@ status-sent c i o h q e =
 
     full : Full x
     full = full-like (initialised c i) x
-        (here-keeps (Like (initialised c i)) (λ y l. l) (λ y l. l) (λ y mac l. l) o (h .stage) q (h .pins, h .keys)) (init-is-full c i)
+        (here-keeps (Like (initialised c i)) (λ y l. l) (λ y mac l. l) o (h .stage) q (h .pins, h .keys)) (init-is-full c i)
 
     replies : plainText (outcome (command.Status status.Application) x (q .opens .arrived .data′) (q .supply)) ≡ said ++ word success
     replies = ap (λ (r : List ℕ). r ++ word success) (status-full x (q .opens .arrived .data′) (q .supply) full)

@@ -4,5 +4,6 @@ pub mod WrongEngines
 pub mod Refusals
 pub mod Ciphers
 pub mod Trips
+pub mod Verified
 pub mod Secrecy
 pub mod Claims

@@ -1,11 +1,11 @@
 -- SELECT's reply, from what the code's calls give.
 -- Assumes nothing.
-use mathlib.Core.Path.{_≡_, refl, ap, _∙_}
+use mathlib.Core.Path.{_≡_, refl}
 use mathlib.Core.List.{List}
 use Prim.Native.Nat.{ℕ}
 use Rattle.template_rules.specs.Writing.{Wrote}
 use Rattle.card.specs.declared.Card.{Card}
-use Rattle.card.specs.State.{withPins, unverified, closed}
+use Rattle.card.specs.State.{closed}
 use Rattle.rules.specs.declared.Replied.{Replied}
 use Rattle.rules.specs.Words.{success}
 use Rattle.rules.specs.Code.{Replies}
@@ -16,6 +16,6 @@ use Rattle.command_parts.proofs.ReplyFacts.{wrote-replies}
 -- ---- selectReply: k is the closed card
 module _ {r : Replied} {n : ℕ} {a b : List ℕ} (c k : Card) where
   pub select-replied : k ≡ closed c → Wrote (selected (c .initialised) (c .identity) (c .pairing .slots) (c .keys)) 0 n a b
-      → r ≡ said success n (withPins k (unverified (k .pins))) → Replies (selectReply c) r a b
+      → r ≡ said success n k → Replies (selectReply c) r a b
   unfolding selectReply
-  select-replied e w er = wrote-replies _ _ er (ap (λ (x : Card). withPins x (unverified (x .pins))) e) w
+  select-replied e w er = wrote-replies _ _ er e w

@@ -119,7 +119,7 @@ fn put_selected(
     }
 }
 
-// Closes the channel and drops verification.
+// Closes the channel, and so ends verification.
 pub fn select(card: Card, out: &mut [u8]) -> Replied
     requires { ⌜ 221 ≤ length (now out) ⌝ }
     ensures { λ r. ⌜ Replies (selectReply card) r (now (out .entry)) (now (out .exit)) ⌝ }
@@ -128,7 +128,6 @@ pub fn select(card: Card, out: &mut [u8]) -> Replied
     let slots = card.pairing.slots;
     let keys = card.keys;
     let count = put_selected(card.initialised, identity, slots, keys, out);
-    let mut next = card.close();
-    next.pins.verified = 0;
-    replied(next, count)
+    let closed = card.close();
+    replied(closed, count)
 }

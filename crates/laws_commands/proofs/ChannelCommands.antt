@@ -14,7 +14,7 @@ use Rattle.template_rules.proofs.HeadFacts.{by-test, field-length, short-field,
 use Rattle.card.specs.declared.Card.{Card}
 use Rattle.card.specs.State.{freeSlot, closed, forgotten, withSecrets, unverified, notPending, keyUid}
 use Rattle.card.specs.Slots.{allOf, isZero}
-use Rattle.card.specs.Sound.{isSound, isDigit}
+use Rattle.card.specs.Sound.{isSound, isDigit, sessionZero}
 use Rattle.card.specs.Shape.{Shaped}
 use Rattle.card.proofs.Tests.{both}
 use Rattle.card.proofs.Rules.{After, PartsRules, parts-rules, parts-sound, blank-rules, pins-sound, sound-after}
@@ -30,11 +30,11 @@ use Rattle.rules.specs.Supplies.{pairFirstSupply, pairFinalSupply, suits, part,
 use Rattle.rules.specs.Commands.{freeSlots, selected, selectChecks, selectReply, isContent, initialisedWith, initChecks, initContent, initWith, initReply, openedWith, openChecks, openReply, inStage2, mutualChecks, mutualReply, pendingWith, pairFirstChecks, pairFirstReply, withSlot, filledWith, pairFinalChecks, pairInto, pairFinalReply, unpairChecks, unpairReply, ruleOf}
 use Rattle.rules.specs.Rows.{rowOf}
 use Rattle.rules.specs.Steps.{isInitialised}
-use Rattle.laws_commands.proofs.Checks.{suited, part-length, part-most}
-use Rattle.laws_commands.proofs.Parts.{after-init, before-init, pairing-sound, keys-sound, channel-blank, pairing-kept, channel-kept, unverified-sound, closed-sound, pins-shaped, pairing-shaped, channel-shaped, closed-fit, forgotten-fit}
+use Rattle.laws_commands.proofs.Checks.{never, open-two, suited, part-length, part-most}
+use Rattle.laws_commands.proofs.Parts.{after-init, before-init, pairing-sound, keys-sound, channel-blank, pairing-kept, channel-kept, or-right, pairing-shaped, channel-shaped, closed-fit, forgotten-fit}
 use Rattle.laws_commands.proofs.Changed.{keys-set, pending-rules, filled-rules, freed-rules, blank-pending, blank-pairing-rules, blank-keys-rules}
 use Rattle.laws_commands.proofs.Erasure.{cond-same}
-use Rattle.laws_commands.specs.Lawful.{Fit, eraseReply, Filled, Lawful}
+use Rattle.laws_commands.specs.Lawful.{Fit, eraseReply, Verifies, Filled, Lawful}
 use Rattle.laws_commands.proofs.Texts.{bare, nothing, two-parts, part-bytes}
 
 abbrev Short : Reply → Type 0
@@ -73,16 +73,14 @@ selected-short c h = by-test (λ (x : List ℕ). length x ≤ 221) (isZero (c .i
 pub select-lawful : Lawful ins.Select command.Select
 unfolding ruleOf selectReply selectChecks
 select-lawful = record {
-  keeps = λ g c d s f r v u. record {
-    sound = unverified-sound (closed c) (closed-sound c (f .sound));
-    shaped = λ w. pins-shaped (closed c) (channel-shaped c (f .shaped w) _) (unverified (c .pins)) (f .shaped w .pin) (f .shaped w .puk);
-  };
+  keeps = λ g c d s f r v u. closed-fit g c f;
   short = λ c d s h. selected-short c h;
   unread = λ c d s t e. refl;
   unflagged = λ c d s t f. absurd (false≢true f);
   checksblind = λ p q c d. refl;
   replyblind = λ p q b c d s. refl;
-  plain = λ e. refl;
+  compares = λ x e. never x e;
+  verifies = λ b c d s e o v t. absurd (omega (arith, t));
   over = λ e. absurd (false≢true (sym e));
   fresh = λ e c f k d s t. absurd (false≢true (sym f ∙ t));
 }
@@ -105,7 +103,8 @@ module _ (g c : Card) (f : Fit g c) (n : isInitialised c ≡ false) where
             pairing = pairing-sound (k .pairing) (blank-pairing-rules (c .pairing) (part 18 32 x) (r .pairing));
             keys = keys-sound (c .keys) (blank-keys-rules (c .keys) (r .keys));
             channel = channel-blank c (f .sound);
-            stage = rw (blank-pending (c .pairing) (r .pairing));
+            pending = rw (blank-pending (c .pairing) (r .pairing));
+            verified = refl;
           });
         });
         shaped = λ w. record {
@@ -154,6 +153,27 @@ init-with-fills c f k none = not-yet c f
 init-with-fills c f k (some x) =
     by-test FilledReply (isContent x) (λ e t. record { pin = refl; puk = refl; key = k }) (λ e. not-yet c f)
 
+-- a card before INIT has its channel closed, and INIT leaves it so
+module _ (right : Bool) (c : Card) (e : isSound c ≡ true) (n : isInitialised c ≡ false) where
+  abbrev InitVerifies : Reply → Type 0
+  InitVerifies = Verifies none right c
+
+  shut : c .channel .stage ≡ 0
+  shut = eqb-true (c .channel .stage) 0
+      (both (isZero (c .channel .stage)) (sessionZero (c .channel)) (blank-rules c (before-init c e n .blank) .channel) .0)
+
+  still : {A : Type 0} → c .channel .stage ≡ 2 → A
+  still t = absurd (omega (arith, shut))
+
+  content-verifies : (o : Option (List ℕ)) → InitVerifies (initWith c o)
+  unfolding initWith
+  content-verifies none = λ t. still t
+  content-verifies (some x) = by-test InitVerifies (isContent x) (λ y t. still t) (λ y t. still t)
+
+  init-verifies : (d s : List ℕ) → InitVerifies (initReply c d s)
+  unfolding initReply
+  init-verifies d s = by-test InitVerifies (saysYes s) (λ y. content-verifies (initContent (initKey s) d)) (λ y t. still t)
+
 pub init-lawful : Lawful ins.Init command.Init
 unfolding ruleOf initReply initChecks
 init-lawful = record {
@@ -163,7 +183,8 @@ init-lawful = record {
   unflagged = λ c d s t f e g. rw (e, g);
   checksblind = λ p q c d. refl;
   replyblind = λ p q b c d s. cond-same eraseReply (saysYes s) (init-with-blind p q c (initContent (initKey s) d)) refl;
-  plain = λ e. refl;
+  compares = λ x e. never x e;
+  verifies = λ b c d s e o v. init-verifies b c e (negated (isInitialised c) o) d s;
   over = λ e. absurd (false≢true (sym e));
   fresh = λ e c f k d s.
       by-test FilledReply (saysYes s) (λ t. init-with-fills c f k (initContent (initKey s) d)) (λ t. not-yet c f);
@@ -172,7 +193,7 @@ init-lawful = record {
 -- ---- the others, on an initialised card
 -- a pending pairing only in stage 0, so none in another stage
 stage-alone : (c : Card) → After c → (c .channel .stage ≡ 0 → ⊥) → c .pairing .pending ≡ 0
-stage-alone c a n = by-flag (isZero (c .pairing .pending)) refl (parts-rules c (a .parts) .stage)
+stage-alone c a n = by-flag (isZero (c .pairing .pending)) refl (parts-rules c (a .parts) .pending)
   where
     by-flag : (b : Bool) → isZero (c .pairing .pending) ≡ b → (b || isZero (c .channel .stage)) ≡ true → c .pairing .pending ≡ 0
     by-flag true e t = eqb-true (c .pairing .pending) 0 e
@@ -188,11 +209,11 @@ module _ (g c : Card) (f : Fit g c) (i : isInitialised c ≡ true) where
   abbrev Fits : Reply → Type 0
   Fits r = Fit g (r .card)
 
-  open-fit : (s : List ℕ) → c .pairing .pending ≡ 0 → Fits (openReply c s)
+  open-fit : (s : List ℕ) → c .pairing .pending ≡ 0 → c .pins .verified ≡ 0 → Fits (openReply c s)
   unfolding openReply
-  open-fit s z = by-test Fits (saysYes s)
+  open-fit s z y = by-test Fits (saysYes s)
       (λ e. record {
-        sound = channel-kept c after′ (openedWith s) refl (rw z);
+        sound = channel-kept c after′ (openedWith s) refl (rw z) (rw y);
         shaped = λ w. channel-shaped c (f .shaped w) (openedWith s);
       })
       (λ e. f)
@@ -202,7 +223,8 @@ module _ (g c : Card) (f : Fit g c) (i : isInitialised c ≡ true) where
   mutual-fit d s v =
       let h = eqb-true (c .channel .stage) 1 (v .0) in
       record {
-        sound = channel-kept c after′ (inStage2 (c .channel)) refl (rw (stage-alone c after′ (λ z. omega arith)));
+        sound = channel-kept c after′ (inStage2 (c .channel)) refl (rw (stage-alone c after′ (λ z. omega arith)))
+            (or-right (isZero (c .pins .verified)) true refl);
         shaped = λ w. channel-shaped c (f .shaped w) (inStage2 (c .channel));
       }
 
@@ -244,7 +266,7 @@ module _ (g c : Card) (f : Fit g c) (i : isInitialised c ≡ true) where
   unpair-fit k =
       let p = withSlot (c .pairing) k freeSlot in
       record {
-        sound = pairing-kept c after′ p (freed-rules (c .pairing) (parts′ .pairing) k) (parts′ .stage);
+        sound = pairing-kept c after′ p (freed-rules (c .pairing) (parts′ .pairing) k) (parts′ .pending);
         shaped = λ w.
             pairing-shaped c (f .shaped w) p (f .shaped w .secret) (rw length-set (f .shaped w .slots))
             (keys-set (c .pairing .slots) k freeSlot (f .shaped w .keys) refl) (f .shaped w .expected);
@@ -254,14 +276,16 @@ module _ (g c : Card) (f : Fit g c) (i : isInitialised c ≡ true) where
 pub open-lawful : (k : ℕ) → Lawful ins.Open (command.Open k)
 unfolding ruleOf openReply openChecks
 open-lawful k = record {
-  keeps = λ g c d s f r v u. open-fit g (closed c) (closed-fit g c f) (r .offer) s (r .pending (λ e. omega arith));
+  keeps = λ g c d s f r v u. open-fit g (closed c) (closed-fit g c f) (r .offer) s (r .pending (λ e. omega arith)) refl;
   short = λ c d s h. by-test Short (saysYes s)
       (λ e. two-parts (openSalt s) (openIv s) 32 16 (part-most 65 32 s) (part-most 97 16 s) (omega arith)) (λ e. nothing);
   unread = λ c d s t e. absurd (omega arith);
   unflagged = λ c d s t f e g. rw (e, g);
   checksblind = λ p q c d. refl;
   replyblind = λ p q b c d s. cond-same eraseReply (saysYes s) refl refl;
-  plain = λ e. refl;
+  compares = λ x e. never x e;
+  verifies = λ b c d s e o v. by-test (Verifies none b c) (saysYes s) (λ y t. absurd (omega (arith, t)))
+      (λ y t. (open-two (c .channel .stage) t, refl));
   over = λ e. absurd (false≢true (sym e));
   fresh = λ e. absurd (false≢true e);
 }
@@ -280,7 +304,8 @@ mutual-lawful = record {
   unflagged = λ c d s t f. absurd (false≢true f);
   checksblind = λ p q c d. refl;
   replyblind = λ p q b c d s. refl;
-  plain = λ e. absurd (false≢true e);
+  compares = λ x e. never x e;
+  verifies = λ b c d s e o v t. (λ z. omega (arith, eqb-true (c .channel .stage) 1 (v .0)), refl);
   over = λ _. record {
     channel = λ c d s h v. absurd (not-again (c .channel .stage) d h v);
     texts = λ c d s t p h. record { status = omega arith; response = part-bytes 0 32 s h };
@@ -300,7 +325,8 @@ pair-first-lawful = record {
   unflagged = λ c d s t f. absurd (false≢true f);
   checksblind = λ p q c d. refl;
   replyblind = λ p q b c d s. refl;
-  plain = λ e. refl;
+  compares = λ x e. never x e;
+  verifies = λ b c d s e o v t. (open-two (c .channel .stage) t, refl);
   over = λ e. absurd (false≢true (sym e));
   fresh = λ e. absurd (false≢true e);
 }
@@ -315,6 +341,11 @@ unfolding pairInto
 into-blind p q c s (free.At i) = refl
 into-blind p q c s free.Full = refl
 
+into-verifies : (right : Bool) (c : Card) (s : List ℕ) (o : Free) → Verifies none right c (pairInto c s o)
+unfolding pairInto
+into-verifies right c s (free.At i) t = (open-two (c .channel .stage) t, refl)
+into-verifies right c s free.Full t = (open-two (c .channel .stage) t, refl)
+
 pub pair-final-lawful : Lawful ins.Pair command.PairFinal
 unfolding ruleOf pairFinalReply pairFinalChecks
 pair-final-lawful = record {
@@ -324,7 +355,8 @@ pair-final-lawful = record {
   unflagged = λ c d s t f. absurd (false≢true f);
   checksblind = λ p q c d. refl;
   replyblind = λ p q b c d s. into-blind p q c s (firstFree (c .pairing .slots));
-  plain = λ e. refl;
+  compares = λ x e. never x e;
+  verifies = λ b c d s e o v. into-verifies b c s (firstFree (c .pairing .slots));
   over = λ e. absurd (false≢true (sym e));
   fresh = λ e. absurd (false≢true e);
 }
@@ -339,7 +371,8 @@ unpair-lawful k = record {
   unflagged = λ c d s t f. absurd (false≢true f);
   checksblind = λ p q c d. refl;
   replyblind = λ p q b c d s. refl;
-  plain = λ e. absurd (false≢true e);
+  compares = λ x e. never x e;
+  verifies = λ b c d s e o v t. (open-two (c .channel .stage) t, refl);
   over = λ _. record {
     channel = λ c d s h v. refl;
     texts = λ c d s t p h. bare success (omega arith);

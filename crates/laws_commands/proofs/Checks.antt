@@ -3,6 +3,7 @@
 use mathlib.Core.Path.{_≡_, refl, sym}
 use mathlib.Core.Bool.{Bool, true, false, _&&_, _||_, false≢true}
 use mathlib.Core.List.{List, [], _∷_}
+use mathlib.Core.Option.{none, some}
 use Prim.Native.Nat.{ℕ, _+_, _≤_, _<_}
 use native.Mathlib.Omega.{arith}
 use lib.Dec.{eqb}
@@ -33,6 +34,13 @@ module _ (P : Verdict → Type 0) (s : Supply) where
 pub held : (s : Supply) (l : List Check) → Hold l → verdict s l ≡ Reads s
 held s [] h = refl
 held s (k ∷ more) h = rw (h .0) (held s more (h .1))
+
+-- ---- comparisons: a rule without one, and a channel that is in stage 2
+pub never : {A B : Type 0} (x : A) → none ≡ some x → B
+never x e = absurd (let z : _≡_ {A = ℕ} 0 1 = cc in omega arith)
+
+pub open-two : (n : ℕ) → n ≡ 2 → n ≡ 0 → ⊥
+open-two n e z = omega arith
 
 -- ---- supplies: the length where one is read
 pub suited : (k : Supply) (s : List ℕ) → eqb (k .kind) 0 ≡ false → suits k s ≡ true → length s ≡ k .bytes

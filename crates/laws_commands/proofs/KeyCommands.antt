@@ -24,11 +24,11 @@ use Rattle.rules.specs.Supplies.{loadSupply, suits, saysYes, loadUid, signKey, 
 use Rattle.rules.specs.Commands.{isVerified, isSet, kindOf, keyWith, loadChecks, loadReply, withCurrent, deriveChecks, deriveReply, removeChecks, removeReply, withPinless, pinlessChecks, pinlessReply, signChecks, signReply, ruleOf}
 use Rattle.rules.specs.Rows.{rowOf}
 use Rattle.rules.specs.Steps.{isInitialised}
-use Rattle.laws_commands.proofs.Checks.{suited, part-length, part-most}
+use Rattle.laws_commands.proofs.Checks.{never, open-two, suited, part-length, part-most}
 use Rattle.laws_commands.proofs.Parts.{after-init, keys-kept, keys-shaped}
 use Rattle.laws_commands.proofs.Changed.{loaded-rules, removed-rules, derived-rules, pinless-rules, path-of-bytes}
 use Rattle.laws_commands.proofs.Erasure.{cond-same}
-use Rattle.laws_commands.specs.Lawful.{Fit, eraseReply, Plain, Lawful}
+use Rattle.laws_commands.specs.Lawful.{Fit, eraseReply, Verifies, Plain, Lawful}
 use Rattle.laws_commands.proofs.Texts.{bare, nothing, signature-bytes, part-bytes}
 
 -- the current path of 40 zeros
@@ -103,7 +103,9 @@ load-lawful form = record {
   unflagged = λ c d s t f e g. rw (e, g);
   checksblind = λ p q c d. refl;
   replyblind = λ p q b c d s. cond-same eraseReply (saysYes s) refl refl;
-  plain = λ e. absurd (false≢true e);
+  compares = λ x e. never x e;
+  verifies = λ b c d s e o v. by-test (Verifies none b c) (saysYes s) (λ y t. (open-two (c .channel .stage) t, refl))
+      (λ y t. (open-two (c .channel .stage) t, refl));
   over = λ _. record {
     channel = λ c d s h v. by-test (SameChannel c) (saysYes s) (λ e. refl) (λ e. refl);
     texts = λ c d s t p h.
@@ -124,7 +126,9 @@ derive-lawful = record {
   unflagged = λ c d s t f e g. rw (e, g);
   checksblind = λ p q c d. refl;
   replyblind = λ p q b c d s. cond-same eraseReply (saysYes s) refl refl;
-  plain = λ e. absurd (false≢true e);
+  compares = λ x e. never x e;
+  verifies = λ b c d s e o v. by-test (Verifies none b c) (saysYes s) (λ y t. (open-two (c .channel .stage) t, refl))
+      (λ y t. (open-two (c .channel .stage) t, refl));
   over = λ _. record {
     channel = λ c d s h v. by-test (SameChannel c) (saysYes s) (λ e. refl) (λ e. refl);
     texts = λ c d s t p h. by-test Plain (saysYes s) (λ e. bare success (omega arith)) (λ e. bare _ (omega arith));
@@ -145,7 +149,8 @@ remove-lawful = record {
   unflagged = λ c d s t f. absurd (false≢true f);
   checksblind = λ p q c d. refl;
   replyblind = λ p q b c d s. refl;
-  plain = λ e. absurd (false≢true e);
+  compares = λ x e. never x e;
+  verifies = λ b c d s e o v t. (open-two (c .channel .stage) t, refl);
   over = λ _. record {
     channel = λ c d s h v. refl;
     texts = λ c d s t p h. bare success (omega arith);
@@ -165,7 +170,8 @@ pinless-lawful = record {
   unflagged = λ c d s t f. absurd (false≢true f);
   checksblind = λ p q c d. refl;
   replyblind = λ p q b c d s. refl;
-  plain = λ e. absurd (false≢true e);
+  compares = λ x e. never x e;
+  verifies = λ b c d s e o v t. (open-two (c .channel .stage) t, refl);
   over = λ _. record {
     channel = λ c d s h v. refl;
     texts = λ c d s t p h. bare success (omega arith);
@@ -186,7 +192,8 @@ sign-lawful = record {
   unflagged = λ c d s t f. absurd (false≢true f);
   checksblind = λ p q c d. refl;
   replyblind = λ p q b c d s. refl;
-  plain = λ e. absurd (false≢true e);
+  compares = λ x e. never x e;
+  verifies = λ b c d s e o v t. (open-two (c .channel .stage) t, refl);
   over = λ _. record {
     channel = λ c d s h v. refl;
     texts = λ c d s t p h. record {

@@ -5,8 +5,9 @@ use mathlib.Core.Bool.{Bool, true, false, _&&_, _||_}
 use mathlib.Core.Logic.{_⊎_, ⊎-elim}
 use Prim.Native.Nat.{_-_}
 use native.Mathlib.Omega.{arith}
+use lib.Dec.{leb, eqb}
 use lib.ListN.{length}
-use borrow.Author.Tests.{eqb-true, eqb-false, not-true, not-false}
+use borrow.Author.Tests.{leb-true, eqb-true, eqb-false, not-true, not-false}
 use Rattle.card.specs.declared.Pins.{Pins}
 use Rattle.card.specs.declared.Pairing.{Pairing}
 use Rattle.card.specs.declared.Path.{Path}
@@ -60,8 +61,8 @@ channel-blank c e = ⊎-elim
 
 -- ---- an initialised card with one part in the place of its own
 module _ (c : Card) (a : After c) where
-  pub pins-kept : (p : Pins) → PinsRules p → isSound (withPins c p) ≡ true
-  pins-kept p h =
+  pub pins-kept : (p : Pins) → PinsRules p → (isZero (p .verified) || eqb (c .channel .stage) 2) ≡ true → isSound (withPins c p) ≡ true
+  pins-kept p h v =
       let r = parts-rules c (a .parts) in
       sound-after (withPins c p) (record {
         flag = a .flag;
@@ -70,7 +71,8 @@ module _ (c : Card) (a : After c) where
           pairing = r .pairing;
           keys = r .keys;
           channel = r .channel;
-          stage = r .stage;
+          pending = r .pending;
+          verified = v;
         });
       })
 
@@ -85,7 +87,8 @@ module _ (c : Card) (a : After c) where
           pairing = pairing-sound p h;
           keys = r .keys;
           channel = r .channel;
-          stage = t;
+          pending = t;
+          verified = r .verified;
         });
       })
 
@@ -99,13 +102,14 @@ module _ (c : Card) (a : After c) where
           pairing = r .pairing;
           keys = keys-sound k h;
           channel = r .channel;
-          stage = r .stage;
+          pending = r .pending;
+          verified = r .verified;
         });
       })
 
   pub channel-kept : (k : Channel) → channelSound k ≡ true → (isZero (c .pairing .pending) || isZero (k .stage)) ≡ true
-      → isSound (withChannel c k) ≡ true
-  channel-kept k h t =
+      → (isZero (c .pins .verified) || eqb (k .stage) 2) ≡ true → isSound (withChannel c k) ≡ true
+  channel-kept k h t v =
       let r = parts-rules c (a .parts) in
       sound-after (withChannel c k) (record {
         flag = a .flag;
@@ -114,9 +118,16 @@ module _ (c : Card) (a : After c) where
           pairing = r .pairing;
           keys = r .keys;
           channel = h;
-          stage = t;
+          pending = t;
+          verified = v;
         });
       })
+
+-- a sound card in a stage that is 2 or more is in stage 2
+pub stage-two : (c : Card) → isSound c ≡ true → leb 2 (c .channel .stage) ≡ true → c .channel .stage ≡ 2
+stage-two c e l =
+    let most = leb-true (c .channel .stage) 2 (both (leb (c .channel .stage) 2) _ (channel-blank c e) .0) in
+    omega (arith, leb-true 2 (c .channel .stage) l)
 
 -- a test that may be left out
 pub or-right : (a b : Bool) → b ≡ true → (a || b) ≡ true
@@ -127,18 +138,48 @@ pub or-map : (a b d : Bool) → (b ≡ true → d ≡ true) → (a || b) ≡ tru
 or-map true b d f e = refl
 or-map false b d f e = f e
 
--- ---- the card with its channel closed
-pub closed-sound : (c : Card) → isSound c ≡ true → isSound (closed c) ≡ true
-unfolding allOf
-closed-sound c e = ⊎-elim
+-- ---- the card with the PIN not verified
+unverified-rules : (p : Pins) → pinsSound p ≡ true → PinsRules (unverified p)
+unverified-rules p e =
+    let r = pins-rules p e in
+    record { flag = refl; pin = r .pin; puk = r .puk; pintries = r .pintries; puktries = r .puktries; verified = refl }
+
+unverified-blank : (p : Pins) → pinsBlank p ≡ true → pinsBlank (unverified p) ≡ true
+unverified-blank p e =
+    let h = both ((allZero (p .pin) && allZero (p .puk)) && (isZero (p .«pin_tries») && isZero (p .«puk_tries»))) (isZero (p .verified)) e in
+    simp (h .0)
+
+unverified-sound : (c : Card) → isSound c ≡ true → isSound (withPins c (unverified (c .pins))) ≡ true
+unverified-sound c e = ⊎-elim
     (λ b.
     let r = blank-rules c (b .blank) in
-    sound-before (closed c) (record {
+    sound-before (withPins c (unverified (c .pins))) (record {
       flag = b .flag;
-      blank = parts-blank (closed c) (record { pins = r .pins; pairing = r .pairing; keys = r .keys; channel = refl });
+      blank = parts-blank (withPins c (unverified (c .pins))) (record {
+        pins = unverified-blank (c .pins) (r .pins);
+        pairing = r .pairing;
+        keys = r .keys;
+        channel = r .channel;
+      });
     }))
-    (λ a. channel-kept c a closedOf refl (or-right (isZero (c .pairing .pending)) true refl))
+    (λ a. pins-kept c a (unverified (c .pins)) (unverified-rules (c .pins) (parts-rules c (a .parts) .pins)) refl)
     (sound-cases c e)
+
+-- ---- the card with its channel closed: first the PIN is not verified, then the channel is closed
+closing-sound : (c : Card) → isSound c ≡ true → c .pins .verified ≡ 0 → isSound (withChannel c closedOf) ≡ true
+unfolding allOf
+closing-sound c e v = ⊎-elim
+    (λ b.
+    let r = blank-rules c (b .blank) in
+    sound-before (withChannel c closedOf) (record {
+      flag = b .flag;
+      blank = parts-blank (withChannel c closedOf) (record { pins = r .pins; pairing = r .pairing; keys = r .keys; channel = refl });
+    }))
+    (λ a. channel-kept c a closedOf refl (or-right (isZero (c .pairing .pending)) true refl) (rw v))
+    (sound-cases c e)
+
+pub closed-sound : (c : Card) → isSound c ≡ true → isSound (closed c) ≡ true
+closed-sound c e = closing-sound (withPins c (unverified (c .pins))) (unverified-sound c e) refl
 
 -- ---- the card without a pending pairing
 forgotten-rules : (p : Pairing) → pairingSound p ≡ true → PairingRules (notPending p)
@@ -167,33 +208,6 @@ forgotten-sound c e = ⊎-elim
       });
     }))
     (λ a. pairing-kept c a (notPending (c .pairing)) (forgotten-rules (c .pairing) (parts-rules c (a .parts) .pairing)) refl)
-    (sound-cases c e)
-
--- ---- the card with the PIN not verified
-unverified-rules : (p : Pins) → pinsSound p ≡ true → PinsRules (unverified p)
-unverified-rules p e =
-    let r = pins-rules p e in
-    record { flag = refl; pin = r .pin; puk = r .puk; pintries = r .pintries; puktries = r .puktries; verified = refl }
-
-unverified-blank : (p : Pins) → pinsBlank p ≡ true → pinsBlank (unverified p) ≡ true
-unverified-blank p e =
-    let h = both ((allZero (p .pin) && allZero (p .puk)) && (isZero (p .«pin_tries») && isZero (p .«puk_tries»))) (isZero (p .verified)) e in
-    simp (h .0)
-
-pub unverified-sound : (c : Card) → isSound c ≡ true → isSound (withPins c (unverified (c .pins))) ≡ true
-unverified-sound c e = ⊎-elim
-    (λ b.
-    let r = blank-rules c (b .blank) in
-    sound-before (withPins c (unverified (c .pins))) (record {
-      flag = b .flag;
-      blank = parts-blank (withPins c (unverified (c .pins))) (record {
-        pins = unverified-blank (c .pins) (r .pins);
-        pairing = r .pairing;
-        keys = r .keys;
-        channel = r .channel;
-      });
-    }))
-    (λ a. pins-kept c a (unverified (c .pins)) (unverified-rules (c .pins) (parts-rules c (a .parts) .pins)))
     (sound-cases c e)
 
 -- ---- the shape, with one part in the place of the card's own
@@ -260,11 +274,11 @@ module _ (c : Card) (h : Shaped c) where
     pinless = h .pinless;
   }
 
-  pub closed-shaped : Shaped (closed c)
-  closed-shaped = channel-shaped closedOf
-
   pub forgotten-shaped : Shaped (forgotten c)
   forgotten-shaped = pairing-shaped (notPending (c .pairing)) (h .secret) (h .slots) (h .keys) refl
+
+pub closed-shaped : (c : Card) → Shaped c → Shaped (closed c)
+closed-shaped c h = pins-shaped (withChannel c closedOf) (channel-shaped c h closedOf) (unverified (c .pins)) (h .pin) (h .puk)
 
 pub closed-fit : (g c : Card) → Fit g c → Fit g (closed c)
 closed-fit g c f = record { sound = closed-sound c (f .sound); shaped = λ w. closed-shaped c (f .shaped w) }

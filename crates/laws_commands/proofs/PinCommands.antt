@@ -3,11 +3,12 @@
 use mathlib.Core.Path.{_≡_, refl}
 use mathlib.Core.Bool.{Bool, true, false, false≢true}
 use mathlib.Core.List.{List, []}
+use mathlib.Core.Option.{none, some}
 use Prim.Native.Nat.{ℕ, _≤_}
 use native.Mathlib.Omega.{arith}
-use lib.Dec.{eqb}
+use lib.Dec.{leb, eqb}
 use lib.ListN.{length, drop, length-take, length-drop}
-use borrow.Author.Tests.{eqb-true}
+use borrow.Author.Tests.{eqb-true, eq-eqb}
 use Rattle.octets.specs.Bytes.{Bytes}
 use Rattle.octets.proofs.Lists.{bytes-take}
 use Rattle.template_rules.proofs.HeadFacts.{by-test}
@@ -29,9 +30,10 @@ use Rattle.rules.specs.Rules.{pin, puk, rightBy}
 use Rattle.rules.specs.Commands.{hasKey, statusReply, pinRight, pinWrong, verifyChecks, verifyReply, withPin, withPuk, withPairingSecret, changeChecks, changeReply, isUnblocking, pukRight, pukWrong, unblockChecks, unblockReply, ruleOf}
 use Rattle.rules.specs.Rows.{rowOf}
 use Rattle.rules.specs.Steps.{isInitialised}
-use Rattle.laws_commands.proofs.Parts.{after-init, pins-kept, pins-shaped, pairing-kept, pairing-shaped}
+use Rattle.laws_commands.proofs.Checks.{never, open-two}
+use Rattle.laws_commands.proofs.Parts.{after-init, stage-two, pins-kept, pins-shaped, pairing-kept, pairing-shaped}
 use Rattle.laws_commands.proofs.Changed.{pin-right, pin-wrong, puk-right, puk-wrong, pin-changed, puk-changed, secret-rules}
-use Rattle.laws_commands.specs.Lawful.{Fit, eraseReply, Tries, Plain, Lawful}
+use Rattle.laws_commands.specs.Lawful.{Fit, eraseReply, Verifies, Tries, Plain, Lawful}
 use Rattle.laws_commands.proofs.Texts.{bare, nothing, status-bytes}
 
 abbrev Short : Reply → Type 0
@@ -76,6 +78,11 @@ module _ (c : Card) where
   status-plain status.Path t p =
       record { status = omega arith; response = bytes-take (c .keys .current .len) (c .keys .current .bytes) p }
 
+  status-verifies : (right : Bool) (which : StatusKind) → Verifies none right c (statusReply c which)
+  unfolding statusReply
+  status-verifies right status.Application t = (open-two (c .channel .stage) t, refl)
+  status-verifies right status.Path t = (open-two (c .channel .stage) t, refl)
+
   status-path : (which : StatusKind) → Bytes (c .keys .current .bytes) → PathBytes (statusReply c which)
   unfolding statusReply
   status-path status.Application p = p
@@ -90,7 +97,8 @@ status-lawful which = record {
   unflagged = λ c d s t f. absurd (false≢true f);
   checksblind = λ p q c d. refl;
   replyblind = λ p q b c d s. status-blind c p q which;
-  plain = λ e. absurd (false≢true e);
+  compares = λ x e. never x e;
+  verifies = λ b c d s e o v. status-verifies c b which;
   over = λ _. record {
     channel = λ c d s h v. status-channel c which;
     texts = λ c d s t p h. status-plain c which t p;
@@ -111,15 +119,15 @@ module _ (g c : Card) (f : Fit g c) (i : isInitialised c ≡ true) where
   abbrev Fits : Reply → Type 0
   Fits r = Fit g (r .card)
 
-  verify-fit : (right : Bool) → Fits (verifyReply right c)
+  verify-fit : leb 2 (c .channel .stage) ≡ true → (right : Bool) → Fits (verifyReply right c)
   unfolding verifyReply
-  verify-fit right = by-test Fits right
+  verify-fit l right = by-test Fits right
       (λ e. record {
-        sound = pins-kept c after′ (pinRight (c .pins)) (pin-right (c .pins) (parts′ .pins));
+        sound = pins-kept c after′ (pinRight (c .pins)) (pin-right (c .pins) (parts′ .pins)) (eq-eqb (c .channel .stage) 2 (stage-two c (f .sound) l));
         shaped = λ w. pins-shaped c (f .shaped w) (pinRight (c .pins)) (f .shaped w .pin) (f .shaped w .puk);
       })
       (λ e. record {
-        sound = pins-kept c after′ (pinWrong (c .pins)) (pin-wrong (c .pins) (parts′ .pins));
+        sound = pins-kept c after′ (pinWrong (c .pins)) (pin-wrong (c .pins) (parts′ .pins)) refl;
         shaped = λ w. pins-shaped c (f .shaped w) (pinWrong (c .pins)) (f .shaped w .pin) (f .shaped w .puk);
       })
 
@@ -128,36 +136,38 @@ module _ (g c : Card) (f : Fit g c) (i : isInitialised c ≡ true) where
   change-fit secret.Pin d v =
       let t = both (eqb (length d) 6) (allOf isDigit d) (v .1 .0) in
       record {
-        sound = pins-kept c after′ (withPin (c .pins) d) (pin-changed (c .pins) (parts′ .pins) d (t .1));
+        sound = pins-kept c after′ (withPin (c .pins) d) (pin-changed (c .pins) (parts′ .pins) d (t .1)) (parts′ .verified);
         shaped = λ w. pins-shaped c (f .shaped w) (withPin (c .pins) d) (eqb-true (length d) 6 (t .0)) (f .shaped w .puk);
       }
   change-fit secret.Puk d v =
       let t = both (eqb (length d) 12) (allOf isDigit d) (v .1 .0) in
       record {
-        sound = pins-kept c after′ (withPuk (c .pins) d) (puk-changed (c .pins) (parts′ .pins) d (t .1));
+        sound = pins-kept c after′ (withPuk (c .pins) d) (puk-changed (c .pins) (parts′ .pins) d (t .1)) (parts′ .verified);
         shaped = λ w. pins-shaped c (f .shaped w) (withPuk (c .pins) d) (f .shaped w .pin) (eqb-true (length d) 12 (t .0));
       }
   change-fit secret.Pairing d v =
       let p = withPairingSecret (c .pairing) d in
       record {
-        sound = pairing-kept c after′ p (secret-rules (c .pairing) (parts′ .pairing) d) (parts′ .stage);
+        sound = pairing-kept c after′ p (secret-rules (c .pairing) (parts′ .pairing) d) (parts′ .pending);
         shaped = λ w.
             pairing-shaped c (f .shaped w) p (eqb-true (length d) 32 (v .1 .0)) (f .shaped w .slots) (f .shaped w .keys)
             (f .shaped w .expected);
       }
 
-  unblock-fit : (d : List ℕ) → Hold (unblockChecks (c .pins) d) → (right : Bool) → Fits (unblockReply right c (drop 12 d))
+  unblock-fit : leb 2 (c .channel .stage) ≡ true → (d : List ℕ) → Hold (unblockChecks (c .pins) d) → (right : Bool)
+      → Fits (unblockReply right c (drop 12 d))
   unfolding unblockReply unblockChecks
-  unblock-fit d v right =
+  unblock-fit x d v right =
       let h = both (eqb (length d) 18) (allOf isDigit (drop 12 d)) (v .1 .1 .0) in
       let l = eqb-true (length d) 18 (h .0) in
       by-test Fits right
       (λ e. record {
-        sound = pins-kept c after′ (pukRight (c .pins) (drop 12 d)) (puk-right (c .pins) (parts′ .pins) (drop 12 d) (h .1));
+        sound = pins-kept c after′ (pukRight (c .pins) (drop 12 d)) (puk-right (c .pins) (parts′ .pins) (drop 12 d) (h .1))
+            (eq-eqb (c .channel .stage) 2 (stage-two c (f .sound) x));
         shaped = λ w. pins-shaped c (f .shaped w) (pukRight (c .pins) (drop 12 d)) (simp length-drop (omega arith)) (f .shaped w .puk);
       })
       (λ e. record {
-        sound = pins-kept c after′ (pukWrong (c .pins)) (puk-wrong (c .pins) (parts′ .pins));
+        sound = pins-kept c after′ (pukWrong (c .pins)) (puk-wrong (c .pins) (parts′ .pins)) (parts′ .verified);
         shaped = λ w. pins-shaped c (f .shaped w) (pukWrong (c .pins)) (f .shaped w .pin) (f .shaped w .puk);
       })
 
@@ -167,16 +177,22 @@ unfolding verifyReply
 verify-blind p q true c = refl
 verify-blind p q false c = refl
 
+verify-verifies : (right : Bool) (c : Card) → Verifies (some pin) right c (verifyReply right c)
+unfolding verifyReply
+verify-verifies true c t = (open-two (c .channel .stage) t, refl)
+verify-verifies false c t = (open-two (c .channel .stage) t, refl)
+
 pub verify-lawful : Lawful ins.Verify command.Verify
 unfolding ruleOf verifyReply verifyChecks
 verify-lawful = record {
-  keeps = λ g c d s f r v u. verify-fit g c f (r .offer) (rightBy pin (c .pins) d);
+  keeps = λ g c d s f r v u. verify-fit g c f (r .offer) (r .stage refl) (rightBy pin (c .pins) d);
   short = λ c d s h. by-test Short (rightBy pin (c .pins) d) (λ e. nothing) (λ e. nothing);
   unread = λ c d s t e. refl;
   unflagged = λ c d s t f. absurd (false≢true f);
   checksblind = λ p q c d. refl;
   replyblind = λ p q b c d s. verify-blind p q b c;
-  plain = λ e. absurd (false≢true e);
+  compares = λ x e. refl;
+  verifies = λ b c d s e o v. verify-verifies b c;
   over = λ _. record {
     channel = λ c d s h v. by-test (SameChannel c) (rightBy pin (c .pins) d) (λ e. refl) (λ e. refl);
     texts = λ c d s t p h.
@@ -213,6 +229,12 @@ module _ (c : Card) (d : List ℕ) where
   change-plain secret.Puk = bare success (omega arith)
   change-plain secret.Pairing = bare success (omega arith)
 
+  change-verifies : (right : Bool) (which : SecretKind) → Verifies none right c (changeReply c which d)
+  unfolding changeReply
+  change-verifies right secret.Pin t = (open-two (c .channel .stage) t, refl)
+  change-verifies right secret.Puk t = (open-two (c .channel .stage) t, refl)
+  change-verifies right secret.Pairing t = (open-two (c .channel .stage) t, refl)
+
   change-path : (which : SecretKind) → Bytes (c .keys .current .bytes) → PathBytes (changeReply c which d)
   unfolding changeReply
   change-path secret.Pin p = p
@@ -228,7 +250,8 @@ change-lawful which = record {
   unflagged = λ c d s t f. absurd (false≢true f);
   checksblind = λ p q c d. refl;
   replyblind = λ p q b c d s. change-blind c d p q which;
-  plain = λ e. absurd (false≢true e);
+  compares = λ x e. never x e;
+  verifies = λ b c d s e o v. change-verifies c d b which;
   over = λ _. record {
     channel = λ c d s h v. change-channel c d which;
     texts = λ c d s t p h. change-plain c d which;
@@ -245,16 +268,22 @@ unfolding unblockReply
 unblock-blind p q true c d = refl
 unblock-blind p q false c d = refl
 
+unblock-verifies : (right : Bool) (c : Card) (d : List ℕ) → Verifies (some puk) right c (unblockReply right c d)
+unfolding unblockReply
+unblock-verifies true c d t = (open-two (c .channel .stage) t, refl)
+unblock-verifies false c d t = (open-two (c .channel .stage) t, refl)
+
 pub unblock-lawful : Lawful ins.Unblock command.Unblock
 unfolding ruleOf unblockReply unblockChecks
 unblock-lawful = record {
-  keeps = λ g c d s f r v u. unblock-fit g c f (r .offer) d v (rightBy puk (c .pins) d);
+  keeps = λ g c d s f r v u. unblock-fit g c f (r .offer) (r .stage refl) d v (rightBy puk (c .pins) d);
   short = λ c d s h. by-test Short (rightBy puk (c .pins) d) (λ e. nothing) (λ e. nothing);
   unread = λ c d s t e. refl;
   unflagged = λ c d s t f. absurd (false≢true f);
   checksblind = λ p q c d. refl;
   replyblind = λ p q b c d s. unblock-blind p q b c (drop 12 d);
-  plain = λ e. absurd (false≢true e);
+  compares = λ x e. refl;
+  verifies = λ b c d s e o v. unblock-verifies b c (drop 12 d);
   over = λ _. record {
     channel = λ c d s h v. by-test (SameChannel c) (rightBy puk (c .pins) d) (λ e. refl) (λ e. refl);
     texts = λ c d s t p h.

@@ -18,10 +18,12 @@ use Rattle.rules.specs.declared.Named.the-variants as named
 use Rattle.rules.specs.declared.Command.{Command}
 use Rattle.rules.specs.Words.{Check, Hold, Reply}
 use Rattle.rules.specs.Supplies.{suits, flagOf}
-use Rattle.rules.specs.Commands.{ruleOf}
+use Rattle.rules.specs.Rules.{Secret}
+use Rattle.rules.specs.Commands.{isVerified, ruleOf}
 use Rattle.rules.specs.Rows.{rowOf, offered, isPlain}
 use Rattle.rules.specs.Channel.{Outgoing}
 use Rattle.rules.specs.Steps.{nameOf, isInitialised, inStage, begun, failed, checksOf, supplyOf, replyOf}
+use Rattle.laws_commands.specs.Verified.{verifiedIf}
 
 -- ---- a card that is sound, and has its shape where the card g has it
 pub record Fit (g c : Card) : Type 0 where
@@ -44,6 +46,11 @@ eraseReply r = record { status = r .status; response = r .response; card = erase
 
 abbrev pub eraseOut : Outgoing → Outgoing
 eraseOut t = record { bytes = t .bytes; card = erase (t .card) }
+
+-- ---- verification after a reply that leaves the channel in stage 2
+abbrev pub Verifies : Option Secret → Bool → Card → Reply → Type 0
+Verifies o right c r = r .card .channel .stage ≡ 2
+    → (c .channel .stage ≡ 0 → ⊥) × (isVerified (r .card .pins) ≡ verifiedIf o right (isVerified (c .pins)))
 
 -- ---- the status word of each check is below a number
 abbrev pub Below : ℕ → List Check → Type 0
@@ -93,8 +100,11 @@ pub record Lawful (i : Instruction) (k : Command) : Type 0 where
   pub checksblind : (p q : List ℕ) (c : Card) (d : List ℕ) → checksOf k c d ≡ checksOf k (withSecrets p q c) d
   pub replyblind : (p q : List ℕ) (right : Bool) (c : Card) (d s : List ℕ)
       → eraseReply (ruleOf k .reply right c d s) ≡ eraseReply (ruleOf k .reply right (withSecrets p q c) d s)
-  -- a plain command compares nothing
-  pub plain : isPlain i ≡ true → ruleOf k .compares ≡ none
+  -- a command that compares needs stage 2
+  pub compares : (x : Secret) → ruleOf k .compares ≡ some x → rowOf i .stage ≡ 2
+  -- where it leaves the channel in stage 2, the channel was open, and the PIN is verified as the comparison left it, or as it was
+  pub verifies : (right : Bool) (c : Card) (d s : List ℕ) → isSound c ≡ true → offered (rowOf i .offer) (isInitialised c) ≡ true
+      → Hold (checksOf k c d) → Verifies (ruleOf k .compares) right c (ruleOf k .reply right c d s)
   pub over : isPlain i ≡ false → Over k
   -- on a card before INIT, without a key
   pub fresh : offered (rowOf i .offer) false ≡ true → (c : Card) → isInitialised c ≡ false → c .keys .kind ≡ 0 → (d s : List ℕ)

@@ -71,7 +71,9 @@ mac-sound c mac e n = ⊎-elim
     (λ b.
     let h = both (isZero (c .channel .stage)) (sessionZero (c .channel)) (blank-rules c (b .blank) .channel) in
     absurd (n (eqb-true (c .channel .stage) 0 (h .0))))
-    (λ a. channel-kept c a (withMac c mac .channel) (within (parts-rules c (a .parts) .channel)) (parts-rules c (a .parts) .stage))
+    (λ a.
+    let r = parts-rules c (a .parts) in
+    channel-kept c a (withMac c mac .channel) (within (r .channel)) (r .pending) (r .verified))
     (sound-cases c e)
   where
     within : channelSound (c .channel) ≡ true → channelSound (withMac c mac .channel) ≡ true
@@ -100,7 +102,7 @@ module _ (g : Card) where
   Fine d = (s : List ℕ) → suits (d .supply) s ≡ true → Leaves (d .answer s)
 
   -- the card after step 4
-  opened-fit : (cmd : List ℕ) (c : Card) → Fit g c → (x : At cmd c) → Fit g (x .opened .card)
+  pub opened-fit : (cmd : List ℕ) (c : Card) → Fit g c → (x : At cmd c) → Fit g (x .opened .card)
   opened-fit cmd c f x = by-opened (λ (o : Opened). Fit g (o .card)) (x .instruction) cmd c (x .field) (λ p. f)
       (λ p t d e. mac-fit c (take 16 (x .field)) f (open-stage p t)) (x .opened) (x .opens)
     where

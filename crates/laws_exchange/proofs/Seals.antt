@@ -21,7 +21,7 @@ use Rattle.card.specs.State.{zeros, withPairing, closed, forgotten}
 use Rattle.card.specs.Slots.{isZero, allZero}
 use Rattle.card.specs.Sound.{isSound, sessionZero}
 use Rattle.card.specs.Shape.{Shaped}
-use Rattle.card.proofs.Tests.{both, zero-list}
+use Rattle.card.proofs.Tests.{the-first, both, zero-list}
 use Rattle.card.proofs.Rules.{After, PartsRules, pairing-rules, parts-rules, blank-rules, sound-cases}
 use Rattle.rules.specs.Steps.{begins, forgetting, step1, dataOf}
 use Rattle.laws_commands.proofs.Arrival.{data-filled}
@@ -99,11 +99,7 @@ step1-itself c cmd e h n stays =
     rules = parts-rules c (is-after c e n .parts)
 
     none : isZero (c .pairing .pending) ≡ true
-    none = or-left (isZero (c .pairing .pending)) (isZero (c .channel .stage)) (ne-eqb (c .channel .stage) 0 n) (rules .stage)
-      where
-        or-left : (a b : Bool) → b ≡ false → (a || b) ≡ true → a ≡ true
-        or-left true b z t = refl
-        or-left false b z t = absurd (false≢true (sym z ∙ t))
+    none = the-first (isZero (c .pairing .pending)) (isZero (c .channel .stage)) (ne-eqb (c .channel .stage) 0 n) (rules .pending)
 
     zero : allZero (c .pairing .expected) ≡ true
     zero = ap (λ (b : Bool). not b || allZero (c .pairing .expected)) (sym none) ∙ pairing-rules (c .pairing) (rules .pairing) .unused

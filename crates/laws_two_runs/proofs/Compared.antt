@@ -28,16 +28,13 @@ use Rattle.rules.specs.Engine.{answered, answerOut}
 use Rattle.rules.specs.Comparison.{Comparison, compared, comparedBy, comparedAt6, comparedPast, comparison}
 use Rattle.laws_commands.specs.Lawful.{Lawful}
 use Rattle.laws_commands.proofs.Arrival.{At, arrivedAt}
-use Rattle.laws_commands.proofs.Checks.{by-verdict, held}
+use Rattle.laws_commands.proofs.Checks.{never, by-verdict, held}
 use Rattle.laws_commands.proofs.Table.{lawful, commandOf, only-compares}
 use Rattle.laws_two_runs.specs.Runs.{Call, answer, comparisonAt, Agree}
 use Rattle.laws_two_runs.proofs.Erasure.{step1-pins}
-use Rattle.laws_two_runs.proofs.Order.{by-arrival}
+use Rattle.laws_two_runs.proofs.Order.{by-arrival, right-unverified}
 use Rattle.laws_two_runs.proofs.Calls.{StepSame, call-same}
 use Rattle.laws_two_runs.proofs.Over.{opened-over, card-over}
-
-never : {A B : Type 0} (x : A) → none ≡ some x → B
-never x e = absurd (let z : _≡_ {A = ℕ} 0 1 = cc in omega arith)
 
 -- ---- where none is made
 pub none-made : (c d : Card) (k : Call) → isSound c ≡ true → isSound d ≡ true → Agree c d → comparisonAt c k ≡ none → StepSame c d k
@@ -66,7 +63,7 @@ by-secret pin a = refl
 by-secret puk a = refl
 
 -- a comparison that is made is the one of the command's rule, where its checks hold
-record At6 (p : Pins) (a : Arrived) (x : Comparison) : Type 0 where
+pub record At6 (p : Pins) (a : Arrived) (x : Comparison) : Type 0 where
   pub right : x .right ≡ rightBy (x .of) p (a .data′)
   pub compares : ruleOf (a .command) .compares ≡ some (x .of)
   pub checked : Hold (checksOf (a .command) (a .card) (a .data′))
@@ -79,7 +76,7 @@ module _ (p : Pins) (a : Arrived) (x : Comparison) where
       let same : _≡_ {A = Comparison} (record { of = s; right = rightBy s p (a .data′) }) x = cc in
       subst (At6 p a) same (record { right = refl; compares = i; checked = h })
 
-  at6 : comparedAt6 p a ≡ some x → At6 p a x
+  pub at6 : comparedAt6 p a ≡ some x → At6 p a x
   at6 = by-verdict (λ (v : Verdict). comparedBy p a v ≡ some x → At6 p a x) (supplyOf (a .command)) (checksOf (a .command) (a .card) (a .data′))
       (λ h e. compared-is (ruleOf (a .command) .compares) refl h e) (λ w e. never x e)
 
@@ -95,13 +92,9 @@ pub record Compared (c : Card) (cmd : List ℕ) (x : Comparison) : Type 0 where
   pub decides : decide c cmd ≡ record { supply = noSupply; data′ = data′; answer = λ _. told }
 
 module _ (c : Card) (cmd : List ℕ) (x : Comparison) where
-  -- no plain command compares
+  -- a command that compares needs stage 2, and so is not plain
   over-channel : (i : Instruction) (k : Command) → Lawful i k → ruleOf k .compares ≡ some (x .of) → isPlain i ≡ false
-  over-channel i k l e = go (isPlain i) refl
-    where
-      go : (b : Bool) → isPlain i ≡ b → b ≡ false
-      go true p = never (x .of) (sym (l .plain p) ∙ e)
-      go false p = refl
+  over-channel i k l e = rw (l .compares (x .of) e)
 
   made-at : (y : At cmd (step1 cmd c)) (k : Command) → rowOf (y .instruction) .lists (p1Of cmd) (p2Of cmd) ≡ some k
       → arrival c cmd ≡ goes (arrivedAt (y .instruction) cmd (y .opened) k)
@@ -114,7 +107,11 @@ module _ (c : Card) (cmd : List ℕ) (x : Comparison) where
       let l : Lawful (y .instruction) k = lawful (y .instruction) (p1Of cmd) (p2Of cmd) k listed in
       let over : isPlain (y .instruction) ≡ false = over-channel (y .instruction) k l (h .compares) in
       let opened : Card = withMac (step1 cmd c) (take 16 (y .field)) in
-      let pins : step1 cmd c .pins ≡ c .pins = step1-pins cmd c in
+      let right : rightBy (x .of) (step1 cmd c .pins) (y .opened .data′) ≡ x .right =
+      sym (right-unverified (x .of) (step1 cmd c .pins) (y .opened .data′))
+      ∙ ap (λ (p : Pins). rightBy (x .of) p (y .opened .data′)) (step1-pins cmd c)
+      ∙ right-unverified (x .of) (c .pins) (y .opened .data′)
+      ∙ sym (h .right) in
       record {
         field = y .field;
         data′ = y .opened .data′;
@@ -128,7 +125,7 @@ module _ (c : Card) (cmd : List ℕ) (x : Comparison) where
             ∙ step6-replies a (h .checked)
             ∙ ap (replying a) (only-compares k (x .of) (h .compares))
             ∙ by-secret (x .of) a
-            ∙ ap (deciding (a .data′)) (rw (over, card-over c cmd y over, pins, ← h .right));
+            ∙ ap (deciding (a .data′)) (rw (over, card-over c cmd y over, right));
       }
 
   pub one-made : comparison c cmd ≡ some x → Compared c cmd x

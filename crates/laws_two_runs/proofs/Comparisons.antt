@@ -1,7 +1,7 @@
 -- What RULES 6.3 says of comparisons is what the rulebook's `comparison` gives: VERIFY and UNBLOCK are the two commands whose rules compare,
 -- and their checks are those that RULES names.
 -- Assumes nothing.
-use mathlib.Core.Path.{_≡_, refl, ap, _∙_, subst}
+use mathlib.Core.Path.{_≡_, refl, sym, ap, _∙_, subst}
 use mathlib.Core.Bool.{Bool, true, false}
 use mathlib.Core.List.{List}
 use mathlib.Core.Option.{Option, none, some}
@@ -21,15 +21,15 @@ use Rattle.rules.specs.Steps.{Step, goes, stops, Arrived, arrival, checksOf, su
 use Rattle.rules.specs.Comparison.{compared, comparedBy, comparedAt6, comparison}
 use Rattle.laws_commands.proofs.Table.{only-compares}
 use Rattle.laws_two_runs.specs.Comparisons.{pinComparison, pukComparison, Comparisons}
-use Rattle.laws_two_runs.proofs.Order.{by-arrival, pins-at}
+use Rattle.laws_two_runs.proofs.Order.{by-arrival, SamePins, pins-at, same-compared}
 
 -- ---- PIN, PUK and tries at step 6 are those of the card that the call was given
-abbrev Pinned : Pins → Step Arrived → Type 0
-Pinned p (goes a) = a .card .pins ≡ p
-Pinned p (stops t) = Unit {0}
+abbrev Pinned : Card → Step Arrived → Type 0
+Pinned c (goes a) = SamePins c (a .card)
+Pinned c (stops t) = Unit {0}
 
-pub arrived-pins : (c : Card) (cmd : List ℕ) (a : Arrived) → arrival c cmd ≡ goes a → a .card .pins ≡ c .pins
-arrived-pins c cmd a e = subst (Pinned (c .pins)) e (by-arrival (Pinned (c .pins)) c cmd (λ t. tt) (λ x k _. pins-at c cmd x))
+arrived-pins : (c : Card) (cmd : List ℕ) (a : Arrived) → arrival c cmd ≡ goes a → SamePins c (a .card)
+arrived-pins c cmd a e = subst (Pinned c) e (by-arrival (Pinned c) c cmd (λ t. tt) (λ x k _. pins-at c cmd x))
 
 -- ---- at step 6
 module _ (a : Arrived) where
@@ -77,6 +77,10 @@ module _ (c : Card) (cmd : List ℕ) where
   unfolding comparison
   compared-at a e = rw e
 
+  -- with PIN and PUK of the card there
+  at-card : (a : Arrived) → arrival c cmd ≡ goes a → comparison c cmd ≡ comparedAt6 (a .card .pins) a
+  at-card a e = compared-at a e ∙ same-compared (c .pins) (a .card .pins) (goes a) (sym (arrived-pins c cmd a e))
+
   -- a command whose rule compares nothing makes no comparison
   pub none-compared : (a : Arrived) → arrival c cmd ≡ goes a → ruleOf (a .command) .compares ≡ none → comparison c cmd ≡ none
   none-compared a e n = compared-at a e ∙ none-at6 a (c .pins) n
@@ -91,9 +95,10 @@ module _ (c : Card) (cmd : List ℕ) where
       go (some puk) h = absurd (u (only-compares (a .command) puk h))
 
   pub comparisons : Comparisons c cmd
+  unfolding pinComparison pukComparison
   comparisons = record {
     stopped = stopped;
-    verify = λ a e k. compared-at a e ∙ rw (← arrived-pins c cmd a e) (verify-at6 a k);
-    unblock = λ a e k. compared-at a e ∙ rw (← arrived-pins c cmd a e) (unblock-at6 a k);
+    verify = λ a e k. at-card a e ∙ verify-at6 a k ∙ ap (λ (p : Pins). pinComparison p (a .data′)) (arrived-pins c cmd a e);
+    unblock = λ a e k. at-card a e ∙ unblock-at6 a k ∙ ap (λ (p : Pins). pukComparison p (a .data′)) (arrived-pins c cmd a e);
     others = others;
   }

@@ -6,7 +6,7 @@ use mathlib.Core.List.{List}
 use Prim.Native.Nat.{ℕ}
 use lib.Dec.{eqb}
 use Rattle.card.specs.declared.Card.{Card}
-use Rattle.card.specs.State.{withSecrets, closed, forgotten}
+use Rattle.card.specs.State.{withSecrets, closed, forgotten, unverified}
 use Rattle.rules.specs.Steps.{begins, dropping, forgetting, step1}
 use Rattle.laws_commands.specs.Lawful.{erase}
 use Rattle.laws_commands.proofs.Erasure.{cond-map}
@@ -35,8 +35,9 @@ agree-swap c d a = ap (withSecrets (d .pins .pin) (d .pins .puk)) (agree-erase c
 
 -- ---- step 1 looks at neither
 module _ (cmd : List ℕ) (c : Card) where
-  pub step1-pins : step1 cmd c .pins ≡ c .pins
-  step1-pins = step1-keeps (λ (x : Card). x .pins ≡ c .pins) (λ _ e. e) (λ _ e. e) cmd c refl
+  -- and leaves PIN, PUK and tries as they are
+  pub step1-pins : unverified (step1 cmd c .pins) ≡ unverified (c .pins)
+  step1-pins = step1-keeps (λ (x : Card). unverified (x .pins) ≡ unverified (c .pins)) (λ _ e. e) (λ _ e. e) cmd c refl
 
   pub step1-swap : (p q : List ℕ) → step1 cmd (withSecrets p q c) ≡ withSecrets p q (step1 cmd c)
   unfolding step1

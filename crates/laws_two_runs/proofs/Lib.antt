@@ -5,6 +5,7 @@ pub mod TwoRuns
 pub mod Comparisons
 pub mod Over
 pub mod Compared
+pub mod Verification
 pub mod Sealed
 pub mod Meets
 pub mod WrongEntries

@@ -2,7 +2,7 @@
 -- read, and the answers are the same where the comparison, if one is made, comes out alike: no step looks at PIN and PUK, and no rule does but
 -- for how the comparison came out.
 -- Assumes nothing.
-use mathlib.Core.Path.{_≡_, refl, ap, _∙_}
+use mathlib.Core.Path.{_≡_, refl, sym, ap, _∙_}
 use mathlib.Core.Bool.{Bool, true, false, _&&_, not, cond}
 use mathlib.Core.List.{List}
 use mathlib.Core.Option.{Option, none, some}
@@ -11,7 +11,7 @@ use lib.Dec.{eqb}
 use lib.ListN.{take}
 use Rattle.card.specs.declared.Pins.{Pins}
 use Rattle.card.specs.declared.Card.{Card}
-use Rattle.card.specs.State.{withSecrets}
+use Rattle.card.specs.State.{withSecrets, unverified}
 use Rattle.rules.specs.declared.Instruction.{Instruction}
 use Rattle.rules.specs.declared.Named.{Named}
 use Rattle.rules.specs.declared.Named.the-variants as named
@@ -21,7 +21,7 @@ use Rattle.rules.specs.declared.Command.{Command}
 use Rattle.rules.specs.declared.Verdict.{Verdict}
 use Rattle.rules.specs.declared.Verdict.the-variants.{Reads, Fails}
 use Rattle.rules.specs.Words.{wrongParameters, conditionsNotMet, verdict, Reply, fails}
-use Rattle.rules.specs.Rules.{Secret, outcomeOf}
+use Rattle.rules.specs.Rules.{Secret, pin, puk, rightBy, outcomeOf}
 use Rattle.rules.specs.Rows.{rowOf, isPlain}
 use Rattle.rules.specs.Commands.{ruleOf}
 use Rattle.rules.specs.Channel.{withMac, Outgoing, plainly, sealed, tell}
@@ -46,10 +46,34 @@ module _ (P : Step Arrived → Type 0) (c : Card) (cmd : List ℕ) where
       by-pastStep1 P cmd (step1 cmd c) (λ w. stop _) (stop _) (λ x. by-step5 P (x .instruction) cmd (x .opened) (stop _) (go x))
 
 -- the PIN, the PUK and the tries there are those of the card that the call was given
-pub pins-at : (c : Card) (cmd : List ℕ) (x : At cmd (step1 cmd c)) → cardAt (x .instruction) (x .opened) .pins ≡ c .pins
-pins-at c cmd x = begun-keeps (λ (k : Card). k .pins ≡ c .pins) (λ _ e. e) (λ _ e. e) (rowOf (x .instruction) .loss) (x .opened .card)
-    (by-opened (λ (o : Opened). o .card .pins ≡ c .pins) (x .instruction) cmd (step1 cmd c) (x .field)
+abbrev pub SamePins : Card → Card → Type 0
+SamePins c k = unverified (k .pins) ≡ unverified (c .pins)
+
+pub pins-at : (c : Card) (cmd : List ℕ) (x : At cmd (step1 cmd c)) → SamePins c (cardAt (x .instruction) (x .opened))
+pins-at c cmd x = begun-keeps (SamePins c) (λ _ e. e) (λ _ e. e) (rowOf (x .instruction) .loss) (x .opened .card)
+    (by-opened (λ (o : Opened). SamePins c (o .card)) (x .instruction) cmd (step1 cmd c) (x .field)
     (λ _. step1-pins cmd c) (λ _ _ _ _. step1-pins cmd c) (x .opened) (x .opens))
+
+-- a comparison does not look at whether the PIN is verified
+pub right-unverified : (s : Secret) (p : Pins) (d : List ℕ) → rightBy s (unverified p) d ≡ rightBy s p d
+right-unverified pin p d = refl
+right-unverified puk p d = refl
+
+compared-unverified : (o : Option Secret) (p : Pins) (d : List ℕ) → compared o (unverified p) d ≡ compared o p d
+compared-unverified none p d = refl
+compared-unverified (some s) p d = ap (λ (b : Bool). some (record { of = s; right = b })) (right-unverified s p d)
+
+by-unverified : (p : Pins) (a : Arrived) (v : Verdict) → comparedBy (unverified p) a v ≡ comparedBy p a v
+by-unverified p a (Reads s) = compared-unverified (ruleOf (a .command) .compares) p (a .data′)
+by-unverified p a (Fails w) = refl
+
+past-unverified : (p : Pins) (x : Step Arrived) → comparedPast (unverified p) x ≡ comparedPast p x
+past-unverified p (goes a) = by-unverified p a (verdict (supplyOf (a .command)) (checksOf (a .command) (a .card) (a .data′)))
+past-unverified p (stops t) = refl
+
+-- so that cards with the same PIN and PUK compare alike
+pub same-compared : (p p′ : Pins) (x : Step Arrived) → unverified p ≡ unverified p′ → comparedPast p x ≡ comparedPast p′ x
+same-compared p p′ x e = sym (past-unverified p x) ∙ ap (λ (q : Pins). comparedPast q x) e ∙ past-unverified p′ x
 
 -- ---- two decisions: the supply and its data are the same; so are the answers, but for PIN and PUK of the next card, where L holds
 pub record Same (L : Type 0) (x y : Decision) : Type 0 where
@@ -71,6 +95,9 @@ module _ (p q : List ℕ) where
   -- ---- another PIN and PUK, in what steps 1 to 5 come to
   abbrev pub swap : Card → Card
   swap = withSecrets p q
+
+  abbrev secrets : Pins → Pins
+  secrets n = record { pin = p; puk = q; «pin_tries» = n .«pin_tries»; «puk_tries» = n .«puk_tries»; verified = n .verified }
 
   abbrev swapReply : Reply → Reply
   swapReply r = record { status = r .status; response = r .response; card = swap (r .card) }
@@ -186,8 +213,13 @@ module _ (p q : List ℕ) where
     steps-both : BothPast (c .pins) (swap c .pins) (arrival c cmd)
     steps-both = by-arrival (BothPast (c .pins) (swap c .pins)) c cmd
         (λ t. (record { supply = refl; data′ = refl; answer = λ _ _. refl }, refl))
-        (λ x k e. rw (← pins-at c cmd x)
-        (step6-both (arrivedAt (x .instruction) cmd (x .opened) k) (x .instruction) (lawful (x .instruction) (p1Of cmd) (p2Of cmd) k e)))
+        (λ x k e.
+        let a : Arrived = arrivedAt (x .instruction) cmd (x .opened) k in
+        rw (
+          ← same-compared (a .card .pins) (c .pins) (goes a) (pins-at c cmd x),
+          ← same-compared (swap (a .card) .pins) (swap c .pins) (goes (swapAt a)) (ap secrets (pins-at c cmd x)),
+        )
+        (step6-both a (x .instruction) (lawful (x .instruction) (p1Of cmd) (p2Of cmd) k e)))
 
     pub decide-same : Same (OutAlike (comparison c cmd) (comparison (swap c) cmd)) (decide c cmd) (decide (swap c) cmd)
     unfolding decide comparison

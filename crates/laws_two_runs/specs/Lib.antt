@@ -1,2 +1,3 @@
 pub mod Comparisons
 pub mod Runs
+pub mod Verification

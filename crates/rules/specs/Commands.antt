@@ -19,7 +19,7 @@ use Rattle.card.specs.declared.Path.{Path}
 use Rattle.card.specs.declared.Keys.{Keys}
 use Rattle.card.specs.declared.Channel.{Channel}
 use Rattle.card.specs.declared.Card.{Card}
-use Rattle.card.specs.State.{pinTries, pukTries, freeSlot, noKeys, emptyPath, withInitialised, withPins, withPairing, withKeys, withChannel, closed, forgotten, unverified, notPending, pathBytes, pathOf, keyUid}
+use Rattle.card.specs.State.{pinTries, pukTries, freeSlot, noKeys, emptyPath, withInitialised, withPins, withPairing, withKeys, withChannel, closed, forgotten, notPending, pathBytes, pathOf, keyUid}
 use Rattle.card.specs.Slots.{allOf, someOf, isZero, isFree}
 use Rattle.card.specs.Sound.{isDigit}
 use Rattle.card_slots.specs.declared.Free.{Free}
@@ -62,7 +62,7 @@ isPath s = leb (length s) 40 && eqb (length s % 4) 0
 abbrev pub isSet : Path → Bool
 isSet p = not (isZero (p .len))
 
--- ---- SELECT 00 A4 (RULES 6.4): closes the channel, drops verification
+-- ---- SELECT 00 A4 (RULES 6.4): closes the channel
 abbrev pub applicationId : List ℕ
 applicationId =
     0x53 ∷ 0x74 ∷ 0x61 ∷ 0x74 ∷ 0x75 ∷ 0x73 ∷ 0x57 ∷ 0x61 ∷ 0x6C ∷ 0x6C ∷ 0x65 ∷ 0x74 ∷ 0x41 ∷ 0x70 ∷ 0x70 ∷ []
@@ -83,7 +83,7 @@ selected initialised id slots k =
 
 unfoldable pub selectReply : Card → Reply
 selectReply c =
-    succeeds (withPins (closed c) (unverified (c .pins))) (selected (c .initialised) (c .identity) (c .pairing .slots) (c .keys))
+    succeeds (closed c) (selected (c .initialised) (c .identity) (c .pairing .slots) (c .keys))
 
 -- ---- INIT FE (RULES 6.5): the length byte 41, a point starting 04, an IV of 16 bytes and a ciphertext of 64
 abbrev pub isInitData : List ℕ → Bool

@@ -4,6 +4,8 @@ ghost use mathlib.Core.Path.{_≡_};
 ghost use Rattle.card.specs.Sound.{isSound, partsSound, partsBlank};
 ghost use Rattle.sound.specs.Reset.{resetAnswer};
 use card::Card;
+use card::STAGE_AUTHENTICATED;
+use card::STAGE_CLOSED;
 use refusals::REFUSAL_NONE;
 use refusals::REFUSAL_UNSOUND;
 
@@ -26,8 +28,10 @@ fn parts_sound(card: Card) -> bool
     let c = sound_keys::keys_sound(keys);
     let d = sound_channel::channel_sound(channel);
     let none = pairing.pending == 0;
-    let closed = channel.stage == 0;
-    a & b & c & d & (none | closed)
+    let closed = channel.stage == STAGE_CLOSED;
+    let unverified = pins.verified == 0;
+    let authenticated = channel.stage == STAGE_AUTHENTICATED;
+    a & b & c & d & (none | closed) & (unverified | authenticated)
 }
 
 // The parts of a pre-initialised card.

@@ -1,4 +1,4 @@
--- What was written, and the closed card without verification, are SELECT's reply.
+-- What was written, and the closed card, are SELECT's reply.
 -- Assumes nothing.
 use borrow.Author.Needs.{needs}
 use Rattle.command_select.proofs.ReplyFacts.{select-replied}
@@ -18,9 +18,9 @@ same-length : tie.Need-same-length
 same-length c = search needs
 
 returns : tie.Need-returns
-returns c = let b5 = c .before .before .before .before .before in
-    let b11 = b5 .before .before .before .before .before .before in
-    select-replied (b11 .args .card) _ (c .before .before .close .ensures) (b5 .put-selected .ensures) (c .replied .ensures)
+returns c = let b4 = c .before .before .before .before in
+    let b10 = b4 .before .before .before .before .before .before in
+    select-replied (b10 .args .card) _ (c .before .close .ensures) (b4 .put-selected .ensures) (c .replied .ensures)
 
 pub select-spec : {M : Type 1} → statement M
 select-spec =

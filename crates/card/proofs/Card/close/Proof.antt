@@ -1,4 +1,4 @@
--- The closed channel in the place of the card's own.
+-- The closed channel in the place of the card's own, and the PIN not verified.
 -- Assumes nothing.
 use borrow.Author.Needs.{needs}
 use Rattle.card.proofs.Card.close.Statement.{statement}

@@ -1,4 +1,4 @@
--- A card at power-up is what its definition says: PIN and pairing are replaced in two parts, and `close` closes the channel.
+-- A card at power-up is what its definition says: the pairing is replaced, and `close` closes the channel.
 -- Assumes nothing.
 use borrow.Author.Needs.{needs}
 use Rattle.card.proofs.Card.powered_up.Statement.{statement}
