@@ -26,6 +26,7 @@ use Rattle.laws_two_runs.specs.Runs.{Call, reset, nextAt}
 use Rattle.laws_two_runs.proofs.Calls.{reset-is}
 use Rattle.laws_two_runs.proofs.Reached.{inChannel, verified-reached}
 use Rattle.laws_two_runs.proofs.Verification.{verification}
+use Rattle.laws_two_runs.proofs.Closing.{open-loses, select-loses, unopened-loses}
 use Rattle.claims.specs.Verified.{Shut, Ends, openWith, selects, bareStatus, Verified}
 
 -- ---- a sound card
@@ -91,6 +92,9 @@ verified = record {
   powerup = shut-reset;
   read = shut-read;
   calls = verification;
+  everyopen = open-loses;
+  everyselect = select-loses;
+  everyfailure = unopened-loses;
   opens = opens;
   opensnot = opens-not;
   freeslot = free-slot;

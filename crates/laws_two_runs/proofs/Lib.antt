@@ -7,6 +7,7 @@ pub mod Over
 pub mod Compared
 pub mod Verification
 pub mod Sealed
+pub mod Closing
 pub mod Meets
 pub mod WrongEntries
 pub mod Reached

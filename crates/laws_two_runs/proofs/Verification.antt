@@ -48,7 +48,7 @@ use Rattle.laws_two_runs.proofs.TwoRuns.{next-sound}
 use Rattle.laws_two_runs.proofs.Compared.{At6, at6}
 
 -- ---- a sound card is verified in stage 2 alone
-not-verified : (c : Card) → isSound c ≡ true → eqb (c .channel .stage) 2 ≡ false → isVerified (c .pins) ≡ false
+pub not-verified : (c : Card) → isSound c ≡ true → eqb (c .channel .stage) 2 ≡ false → isVerified (c .pins) ≡ false
 not-verified c e z = ap not (the-first (isZero (c .pins .verified)) (eqb (c .channel .stage) 2) z (verified-stage c e))
 
 -- so that it is enough to know it there
@@ -87,11 +87,11 @@ module _ (c : Card) (cmd : List ℕ) (sound : isSound c ≡ true) where
   opened-fits : (x : At cmd (step1 cmd c)) → Fit c (x .opened .card)
   opened-fits = opened-fit c cmd (step1 cmd c) (step1-keeps (Fit c) (closed-fit c) (forgotten-fit c) cmd c (itself-fit c sound))
 
-  begun-sound : (x : At cmd (step1 cmd c)) → isSound (cardAt (x .instruction) (x .opened)) ≡ true
+  pub begun-sound : (x : At cmd (step1 cmd c)) → isSound (cardAt (x .instruction) (x .opened)) ≡ true
   begun-sound x =
       begun-keeps (Fit c) (closed-fit c) (forgotten-fit c) (rowOf (x .instruction) .loss) (x .opened .card) (opened-fits x) .sound
 
-  offer-kept : (x : At cmd (step1 cmd c))
+  pub offer-kept : (x : At cmd (step1 cmd c))
       → offered (rowOf (x .instruction) .offer) (isInitialised (cardAt (x .instruction) (x .opened))) ≡ true
   offer-kept x = begun-keeps (λ (y : Card). offered (rowOf (x .instruction) .offer) (isInitialised y) ≡ true) (λ y h. h) (λ y h. h)
       (rowOf (x .instruction) .loss) (x .opened .card) (ready cmd c x .offer)

@@ -17,6 +17,10 @@ use Rattle.laws_two_runs.specs.Runs.{Call, comparisonAt, nextAt}
 abbrev pub right : Secret → Option Comparison
 right s = some (record { of = s; right = true })
 
+-- the channel not in stage 2, and the PIN not verified
+abbrev pub Lost : Card → Type 0
+Lost c = (c .channel .stage ≡ 2 → ⊥) × (c .pins .verified ≡ 0)
+
 pub record Verification (c : Card) (k : Call) : Type 0 where
   -- of a sound card: after the call the PIN is verified exactly if the channel is in stage 2, and the comparison that the call made, or, where
   -- it made none, what was before, says so
