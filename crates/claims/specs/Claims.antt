@@ -14,7 +14,8 @@ use Rattle.claims.specs.Secrecy.{Secrecy}
 pub record Claims : Type 0 where
   -- demand 1 (RULES 11.1): refusals, exactly when, and what a refusal leaves
   pub refusals : Refusals
-  -- demand 2 (RULES 11.2): AES, CBC and padding; lengths of fields and DER integers; round trips, agreement of ASK and ANSWER, soundness, RESET twice; terminal and card together
+  -- demand 2 (RULES 11.2): AES, CBC and padding; lengths of fields and DER integers; round trips, agreement of ASK and ANSWER, soundness, RESET
+  -- twice; terminal and card together
   pub ciphers : Ciphers
   pub templates : Templates
   pub trips : Trips

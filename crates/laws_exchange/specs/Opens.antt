@@ -1,15 +1,16 @@
--- A command over the channel that comes to its own checks, and what its definition then answers (RULES 5.6).
+-- A command over the channel that comes to its own checks, and what its definition then answers (RULES 5.6); and what the rules answer to every
+-- command that opens (RULES 5.5, 5.6).
 -- Every length is in bytes.
 use Prim.Native.Nat.{ℕ}
 use mathlib.Core.Path.{_≡_}
 use mathlib.Core.Bool.{true}
 use mathlib.Core.List.{List}
-use mathlib.Core.Option.{some}
+use mathlib.Core.Option.{Option, none, some}
 use Rattle.card.specs.declared.Card.{Card}
 use Rattle.rules.specs.declared.Command.{Command}
 use Rattle.rules.specs.declared.Verdict.{Verdict}
 use Rattle.rules.specs.declared.Verdict.the-variants.{Reads, Fails}
-use Rattle.rules.specs.Words.{verdict, Reply, fails}
+use Rattle.rules.specs.Words.{wrongParameters, verdict, Reply, fails}
 use Rattle.rules.specs.Steps.{goes, dataOf, Arrived, arrival, checksOf, supplyOf, replyOf}
 
 -- the command, its data as received, and what steps 1 to 5 come to
@@ -27,3 +28,8 @@ outcomeBy k c d s (Fails w) = fails c w
 
 abbrev pub outcome : Command → Card → List ℕ → List ℕ → Reply
 outcome k c d s = outcomeBy k c d s (verdict (supplyOf k) (checksOf k c d))
+
+-- steps 5 and 6 of a command that opened in stage 2: 6A86 where its P1 and P2 name no command, else the outcome of the one that they name
+abbrev pub replyTo : Option Command → Card → List ℕ → List ℕ → Reply
+replyTo none c d s = fails c wrongParameters
+replyTo (some k) c d s = outcome k c d s
