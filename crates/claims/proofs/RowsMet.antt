@@ -37,7 +37,7 @@ use Rattle.laws_exchange.proofs.Seals.{gives, is-after}
 use Rattle.laws_exchange.proofs.Exchanges.{opens2, listed2, names}
 use Rattle.laws_two_runs.specs.Runs.{nextAt}
 use Rattle.laws_two_runs.proofs.Reached.{fresh, initCommand, initialisedCard, init-reaches, inChannel, session-keyed, stage2-reached, reached-sound}
-use Rattle.claims.specs.Rows.{Entry, after, Entries, Initialises}
+use Rattle.claims.specs.Rows.{Entry, after, RightThen, Initialises}
 use Rattle.claims.specs.RowsMet.{RowsMet}
 use Rattle.claims.proofs.InitSays.{init-initialises}
 
@@ -127,7 +127,7 @@ pin-bytes c r =
     (pins-rules (c .pins) (parts-rules c (is-after c (r .sound) (λ z. omega (arith, r .stage)) .parts) .pins) .pin)
 
 entries : (c : Card) (e : List ℕ) → isSound c ≡ true → Typed c → c .channel .stage ≡ 2 → c .pins .«pin_tries» ≡ 3 → Bytes e → length e ≤ 223
-    → (e ≡ c .pins .pin → ⊥) → Entries c
+    → (e ≡ c .pins .pin → ⊥) → RightThen c
 entries c e sound w in2 three bytes fits wrong =
     let r0 : Ready c = record { sound = sound; typed = w; stage = in2 } in
     let c1 = after c (entry c r0 e bytes fits) in
@@ -137,16 +137,14 @@ entries c e sound w in2 three bytes fits wrong =
     let c3 = after c2 (entry c2 r2 e bytes fits) in
     let r3 : Ready c3 = ready-after c2 r2 e bytes fits in
     record {
-      sound = sound;
-      stage = in2;
-      tries = three;
-      first = entry c r0 e bytes fits;
-      second = entry c1 r1 e bytes fits;
-      third = entry c2 r2 e bytes fits;
+      three = record {
+        one = record { sound = sound; stage = in2; tries = three; first = entry c r0 e bytes fits; wrong1 = wrong };
+        second = entry c1 r1 e bytes fits;
+        third = entry c2 r2 e bytes fits;
+        wrong2 = wrong;
+        wrong3 = wrong;
+      };
       fourth = entry c3 r3 (c .pins .pin) (pin-bytes c r0) (omega (arith, w .shaped .pin));
-      wrong1 = wrong;
-      wrong2 = wrong;
-      wrong3 = wrong;
       right = refl;
     }
 
