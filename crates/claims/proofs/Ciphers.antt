@@ -1,6 +1,6 @@
 -- What is stated of AES, of CBC and of padding: laws of the crates whose definitions they speak of.
 -- Assumes nothing.
-use mathlib.Core.Path.{_≡_, ap, _∙_}
+use mathlib.Core.Path.{ap, _∙_}
 use Rattle.aes_field.proofs.Doublings.{by-doublings}
 use Rattle.aes_field.proofs.Sbox.{sbox-length, inv-sbox-length, sbox-rule, inv-sbox-rule, inv-sbox-sbox, sbox-inv-sbox}
 use Rattle.aes_rules.specs.Aes.{aes256, invAes256}
