@@ -4,6 +4,7 @@ use Prim.Native.Nat.{ℕ, _≤_}
 use mathlib.Core.Path.{_≡_}
 use mathlib.Core.Bool.{true, false}
 use mathlib.Core.List.{List, [], _∷_, _++_}
+use mathlib.Core.Logic.{_↔_}
 use mathlib.Core.Option.{Option, none, some}
 use lib.ListN.{length, take, drop}
 use Rattle.octets.specs.Bytes.{Bytes}
@@ -23,7 +24,7 @@ use Rattle.rules.specs.Rows.{rowOf, isPlain}
 use Rattle.rules.specs.Channel.{sessionOf, withMac}
 use Rattle.rules.specs.Steps.{dataOf, claOf, insOf, p1Of, p2Of, nameOf, isInitialised, inStage, checksOf, supplyOf, replyOf}
 use Rattle.rules.specs.Engine.{AnswerOut, answerOut}
-use Rattle.laws_exchange.specs.Opens.{replyTo}
+use Rattle.laws_exchange.specs.Opens.{PastStep4, replyTo}
 
 -- what the types say of every card that code holds
 pub record Typed (c : Card) : Type 0 where
@@ -65,8 +66,7 @@ pub record SealOpens (s : Session) (t : Turn) (sent : Out) : Type 0 where
   pub opens : openField s (commandHead (t .header)) (drop 5 (sent .bytes)) ≡ some (t .data′)
   pub same : withIv s (take 16 (drop 5 (sent .bytes))) ≡ sent .session
 
--- ---- the header names an instruction over the channel on this card, in a stage that it goes in, and so what SEAL makes of it opens; P1 and P2
--- are any
+-- ---- the header names an instruction over the channel on this card, in a stage that it goes in; P1 and P2 are any
 pub record Names (c : Card) (header : List ℕ) : Type 0 where
   pub instruction : Instruction
   pub name : nameOf (isInitialised c) (claOf header) (insOf header) ≡ named.Known instruction
@@ -126,9 +126,12 @@ pub record ToStage2 (c : Card) (t : Turn) : Type 0 where
   pub typed : Typed (answeredBy c t .card)
 
 pub record Together : Type 0 where
-  -- SEAL's output opens, whatever the header
+  -- the field of SEAL's output opens, whatever the header; the command opens ..
   pub opens : (s : Session) (t : Turn) → Keyed s → SealOpens s t (sealedBy s t)
-  -- the headers that name an instruction in stage 2: class 80, the byte of any instruction over the channel, and any P1 and P2
+  -- ... on a card in stage 2 exactly where the header names an instruction over the channel
+  pub opensexactly : (c : Card) (t : Turn) → isSound c ≡ true → Typed c → c .channel .stage ≡ 2
+      → PastStep4 c (sealedBy (sessionOf (c .channel)) t .bytes) ↔ Names c (t .header)
+  -- such headers in stage 2: class 80, the byte of any instruction over the channel, and any P1 and P2
   pub named : (c : Card) (i : Instruction) (p1 p2 : ℕ) → isSound c ≡ true → c .channel .stage ≡ 2 → isPlain i ≡ false
       → (n : Names c (0x80 ∷ rowOf i .byte ∷ p1 ∷ p2 ∷ [])) × (listed c (0x80 ∷ rowOf i .byte ∷ p1 ∷ p2 ∷ []) n ≡ rowOf i .lists p1 p2)
   -- SEAL, ANSWER, UNSEAL: in stage 2 every command that opens, among them those whose P1 and P2 are not listed; and MUTUAL from stage 1 to its
