@@ -2,9 +2,9 @@
 -- bytes, by the size of its number: with m bytes after the first two it is 128 * 256 ^ m or more, while bytes that are not negative, k of them after the
 -- first, are below 128 * 256 ^ k.
 -- Assumes nothing.
-use mathlib.Core.Path.{_≡_, refl, sym, ap, _∙_, subst}
+use mathlib.Core.Path.{_≡_, sym, subst}
 use mathlib.Core.List.{List, [], _∷_}
-use Prim.Native.Nat.{ℕ, zero, suc, _+_, _-_, _*_, _^_, _≤_, _<_}
+use Prim.Native.Nat.{ℕ, zero, suc, _-_, _*_, _^_, _≤_, _<_}
 use native.Mathlib.Decide.{decLt}
 use native.Mathlib.Nat.{pow-succ', pow-le-pow-right, mul-le-mul-left, mul-le-mul-right}
 use native.Mathlib.Omega.{arith}
