@@ -7,6 +7,7 @@ use Rattle.claims.proofs.RowsMet.{rows-met}
 use Rattle.claims.proofs.WrongEngines.{wrong-engines}
 use Rattle.claims.proofs.Refusals.{refusals}
 use Rattle.claims.proofs.Ciphers.{ciphers}
+use Rattle.claims.proofs.Templates.{templates}
 use Rattle.claims.proofs.Trips.{trips}
 use Rattle.claims.proofs.Verified.{verified}
 use Rattle.claims.proofs.Secrecy.{secrecy}
@@ -15,6 +16,7 @@ pub claims : Claims
 claims = record {
   refusals = refusals;
   ciphers = ciphers;
+  templates = templates;
   trips = trips;
   together = together;
   verified = verified;

@@ -7,6 +7,7 @@ pub mod WrongEngines
 pub mod Genuine
 pub mod Refusals
 pub mod Ciphers
+pub mod Templates
 pub mod Trips
 pub mod Verified
 pub mod Secrecy

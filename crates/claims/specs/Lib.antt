@@ -3,6 +3,7 @@ pub mod RowsMet
 pub mod WrongEngines
 pub mod Refusals
 pub mod Ciphers
+pub mod Templates
 pub mod Trips
 pub mod Verified
 pub mod Secrecy

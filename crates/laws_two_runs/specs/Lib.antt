@@ -1,3 +1,4 @@
 pub mod Comparisons
+pub mod Compared
 pub mod Runs
 pub mod Verification
