@@ -1,6 +1,6 @@
 -- What the reader of Finding gives for a list that begins with a field, by the field: whole, in its value, too deep, too long, or none at all.
 -- Assumes nothing.
-use mathlib.Core.Path.{_≡_, refl, sym, ap, _∙_}
+use mathlib.Core.Path.{_≡_, refl, sym, ap, ap₂, _∙_}
 use mathlib.Core.Bool.{true, false, cond}
 use mathlib.Core.List.{List, [], _∷_, _++_, append-assoc}
 use Prim.Native.Nat.{ℕ, zero, suc, _+_, _≤_, _<_}
@@ -121,3 +121,35 @@ module _ (tag : ℕ) (v rest : List ℕ) (brief : length v < 256) where
   unfolding found s
   finds-deep t zero p = absurd (omega arith)
   finds-deep t (suc fuel) p = opened (found fuel) 0 ∙ rw t
+
+-- ---- a field is written in one way: equal bytes that begin with a field have the same tag, value and rest
+module _ (tag : ℕ) (v rest : List ℕ) (tag′ : ℕ) (v′ rest′ : List ℕ) (b : length v < 256) (b′ : length v′ < 256)
+  (e : field tag v ++ rest ≡ field tag′ v′ ++ rest′) where
+  same-head : Of (length (fieldHead tag (length v))) (length v) ≡ Of (length (fieldHead tag′ (length v′))) (length v′)
+  unfolding h s
+  same-head = sym (head-is tag v rest b) ∙ ap readHead e ∙ head-is tag′ v′ rest′ b′
+
+  same-length : length v ≡ length v′
+  same-length = cc same-head
+
+  same-start : length (fieldHead tag (length v)) ≡ length (fieldHead tag′ (length v′))
+  same-start = cc same-head
+
+  pub same-tag : tag ≡ tag′
+  same-tag = ap tagOf e
+
+  pub same-value : v ≡ v′
+  unfolding h s
+  same-value =
+      sym (value tag v rest b)
+      ∙ ap (λ (t : List ℕ). take (length v) (drop (length (fieldHead tag (length v))) t)) e
+      ∙ ap₂ (λ (m n : ℕ). take m (drop n (field tag′ v′ ++ rest′))) same-length same-start
+      ∙ value tag′ v′ rest′ b′
+
+  pub same-rest : rest ≡ rest′
+  unfolding h s
+  same-rest =
+      sym (behind tag v rest b)
+      ∙ ap (drop (length (fieldHead tag (length v)) + length v)) e
+      ∙ ap₂ (λ (m n : ℕ). drop (m + n) (field tag′ v′ ++ rest′)) same-start same-length
+      ∙ behind tag′ v′ rest′ b′

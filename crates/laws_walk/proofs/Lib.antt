@@ -1,3 +1,5 @@
 pub mod Finding
 pub mod Fields
 pub mod Reading
+pub mod TreeFacts
+pub mod Walking

@@ -49,10 +49,13 @@ Shallow d none = Unit {0}
 Shallow d (leaf tag content after) = Shallow d after
 Shallow d (template tag inner after) = (d ≤ deepest) × Shallow (suc d) inner × Shallow d after
 
--- s is the encoding of trees with n leaves; those at the top stand at depth 1
-pub record Holds (s : List ℕ) (n : ℕ) : Type 0 where
-  pub trees : Trees
+-- s is the encoding of these trees, which have n leaves and stand at the top, at depth 1
+pub record Encodes (trees : Trees) (s : List ℕ) (n : ℕ) : Type 0 where
   pub lawful : Lawful trees
   pub shallow : Shallow 1 trees
   pub encoded : encode trees ≡ s
   pub counted : leaves trees ≡ n
+
+-- s is the encoding of some trees with n leaves
+abbrev pub Holds : List ℕ → ℕ → Type 0
+Holds s n = (trees : Trees) × Encodes trees s n
