@@ -3,3 +3,4 @@ pub mod Fields
 pub mod Reading
 pub mod TreeFacts
 pub mod Walking
+pub mod Answers
