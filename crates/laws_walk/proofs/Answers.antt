@@ -46,8 +46,7 @@ encodes-application-info uid key free keyUid u k j =
     let small = application-bytes-le (length uid) (length key) (length keyUid) u k j in
     let same = five (field 0x8F uid) (field 0x80 key) (field 0x02 version) (field 0x02 (free ∷ [])) (field 0x8E keyUid) in
     lone 0xA4 (leaf 0x8F uid (leaf 0x80 key (leaf 0x02 version (leaf 0x02 (free ∷ []) (leaf 0x8E keyUid none)))))
-    (applicationFields uid key free keyUid) 5
-    (
+    (applicationFields uid key free keyUid) 5 (
       refl,
       omega (arith, ap length same, application-length uid key free keyUid, small),
       (refl, omega arith, (refl, omega arith, (refl, omega arith, (refl, omega arith, (refl, omega arith, tt))))),
@@ -70,16 +69,19 @@ encodes-signature key r s k p q =
     let inner = two (derInteger r) (derInteger s) in
     let same = two (field 0x80 key) (field 0x30 (encode (pairTrees r s))) ∙ ap (λ (x : List ℕ). field 0x80 key ++ field 0x30 x) inner in
     lone 0xA0 (leaf 0x80 key (template 0x30 (pairTrees r s) none))
-    (field 0x80 key ++ field 0x30 (pair r s)) 3
-    (
+    (field 0x80 key ++ field 0x30 (pair r s)) 3 (
       refl,
       omega (arith, ap length same, signature-inner key r s, small),
-      (refl, omega arith, (
+      (
         refl,
-        omega (arith, ap length inner, both),
-        (refl, omega (arith, der-length r .1), (refl, omega (arith, der-length s .1), tt)),
-        tt,
-      )),
+        omega arith,
+        (
+          refl,
+          omega (arith, ap length inner, both),
+          (refl, omega (arith, der-length r .1), (refl, omega (arith, der-length s .1), tt)),
+          tt,
+        ),
+      ),
       tt,
     )
     (omega arith, tt, tt) same refl

@@ -124,7 +124,7 @@ module _ (tag : ℕ) (v rest : List ℕ) (brief : length v < 256) where
 
 -- ---- a field is written in one way: equal bytes that begin with a field have the same tag, value and rest
 module _ (tag : ℕ) (v rest : List ℕ) (tag′ : ℕ) (v′ rest′ : List ℕ) (b : length v < 256) (b′ : length v′ < 256)
-  (e : field tag v ++ rest ≡ field tag′ v′ ++ rest′) where
+    (e : field tag v ++ rest ≡ field tag′ v′ ++ rest′) where
   same-head : Of (length (fieldHead tag (length v))) (length v) ≡ Of (length (fieldHead tag′ (length v′))) (length v′)
   unfolding h s
   same-head = sym (head-is tag v rest b) ∙ ap readHead e ∙ head-is tag′ v′ rest′ b′

@@ -78,7 +78,7 @@ forget-into (counts c) b r rest e = forget-past c b r ∙ ap (plus c) e
 forget-into (faults f k) b r rest e = refl
 
 module _ (again : ℕ → List ℕ → Found) (levels : ℕ) (s : List ℕ)
-  (same : (l : ℕ) (t : List ℕ) → suc (length t) ≤ length s → forget (again l t) ≡ sequenceOf l t) where
+    (same : (l : ℕ) (t : List ℕ) → suc (length t) ≤ length s → forget (again l t) ≡ sequenceOf l t) where
   forget-within : (l h : ℕ) (v : List ℕ) → suc (length v) ≤ length s → forget (within again l h v) ≡ valueOf l v
   unfolding valueOf
   forget-within zero h v p = refl

@@ -155,7 +155,7 @@ module _ (d : ℕ) (s : List ℕ) (h n : ℕ) (said : HeadSays s (Of h n)) (ends
 
 -- ---- the reader's answer says what it should
 module _ (again : ℕ → List ℕ → Found) (s : List ℕ) (some : 1 ≤ length s)
-  (ih : (d levels : ℕ) (t : List ℕ) → d + levels ≡ suc deepest → suc (length t) ≤ length s → Says d t (again levels t)) where
+    (ih : (d levels : ℕ) (t : List ℕ) → d + levels ≡ suc deepest → suc (length t) ≤ length s → Says d t (again levels t)) where
   -- a template, by what its value came to
   by-value : (d h n : ℕ) (said : HeadSays s (Of h n)) (ends : h + n ≤ length s) → isTemplate (tagOf s) ≡ true → d ≤ deepest
       → (u w : Found) → Says (suc d) (take n (drop h s)) u → Says d (drop (h + n) s) w → Says d s (into (under h u) (h + n) w)

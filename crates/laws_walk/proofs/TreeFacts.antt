@@ -66,8 +66,7 @@ encode-octets (leaf tag v ts) h =
     let f = left-bytes (field tag v) (encode ts) h in
     (f .0, right-bytes (fieldHead tag (length v)) v f, encode-octets ts (right-bytes (field tag v) (encode ts) h))
 encode-octets (template tag is ts) h =
-    let f = left-bytes (field tag (encode is)) (encode ts) h in
-    (
+    let f = left-bytes (field tag (encode is)) (encode ts) h in (
       f .0,
       encode-octets is (right-bytes (fieldHead tag (length (encode is))) (encode is) f),
       encode-octets ts (right-bytes (field tag (encode is)) (encode ts) h),

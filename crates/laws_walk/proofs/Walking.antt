@@ -68,13 +68,15 @@ fault-of s f e = go (answer s) (answer-says s) (answer-walks s ∙ e)
     go (counts m) x g = absurd (let z : _≡_ {A = ℕ} 0 1 = cc in omega arith)
     go (faults g k) x q = let same : g ≡ f = cc in (k, subst (λ (y : Fault). FirstFault s y k) same x)
 
--- ---- one of the two, and not both
-pub either : (s : List ℕ) → ((n : ℕ) × Holds s n) ⊎ ((f : Fault) × (k : ℕ) × FirstFault s f k)
-either s = go (walkOf s) refl
+-- ---- one of the three, and no two
+pub one-case : (s : List ℕ) → ((n : ℕ) × Holds s n) ⊎ (((k : ℕ) × FirstFault s Malformed k) ⊎ ((k : ℕ) × FirstFault s TooDeep k))
+one-case s = go (walkOf s) refl
   where
-    go : (w : Walked) → walkOf s ≡ w → ((n : ℕ) × Holds s n) ⊎ ((f : Fault) × (k : ℕ) × FirstFault s f k)
+    go : (w : Walked) → walkOf s ≡ w
+        → ((n : ℕ) × Holds s n) ⊎ (((k : ℕ) × FirstFault s Malformed k) ⊎ ((k : ℕ) × FirstFault s TooDeep k))
     go (Fields n) e = inl (n, holds-of s n e)
-    go (Refused f) e = let x = fault-of s f e in inr (f, x .0, x .1)
+    go (Refused Malformed) e = inr (inl (fault-of s Malformed e))
+    go (Refused TooDeep) e = inr (inr (fault-of s TooDeep e))
 
 pub not-both : (s : List ℕ) (n : ℕ) (f : Fault) (k : ℕ) → Holds s n → FirstFault s f k → ⊥
 not-both s n f k (ts, h) x =
@@ -100,8 +102,11 @@ fault-tag (head l h) e = absurd (let z : _≡_ {A = ℕ} 0 1 = cc in omega arith
 fault-tag (over tag n rest b l) e = absurd (let z : _≡_ {A = ℕ} 0 1 = cc in omega arith)
 fault-tag (deep tag v rest b t g) e = t
 fault-tag (inside {k = k} tag v rest b t g x) e =
-    rw (append-assoc (fieldHead tag (length v)) v rest, getD-append-add (fieldHead tag (length v)) (v ++ rest) k 0,
-    List·getD-append v rest 0 k (fault-place x)) (fault-tag x e)
+    rw (
+      append-assoc (fieldHead tag (length v)) v rest,
+      getD-append-add (fieldHead tag (length v)) (v ++ rest) k 0,
+      List·getD-append v rest 0 k (fault-place x),
+    ) (fault-tag x e)
 fault-tag (after {k = k} ts rest l sh x) e = rw (getD-append-add (encode ts) rest k 0) (fault-tag x e)
 
 -- ---- WALK, by the numbers of its refusals
@@ -110,8 +115,11 @@ counts-fields (Fields m) n e = ap (λ (r : WalkOut). Fields (r .count)) e
 counts-fields (Refused Malformed) n e = absurd (omega (arith, ap (λ (r : WalkOut). r .refusal) e))
 counts-fields (Refused TooDeep) n e = absurd (omega (arith, ap (λ (r : WalkOut). r .refusal) e))
 
+pub walk-encodes : {ts : Trees} {s : List ℕ} {n : ℕ} → Encodes ts s n → WALK s ≡ record { refusal = 0; count = n }
+walk-encodes {ts} {s} {n} x = ap report (walk-trees ts s n x)
+
 pub taken : (s : List ℕ) (n : ℕ) → WALK s ≡ record { refusal = 0; count = n } ↔ Holds s n
-taken s n = (λ e. holds-of s n (counts-fields (walkOf s) n e), λ h. ap report (walk-trees (h .0) s n (h .1)))
+taken s n = (λ e. holds-of s n (counts-fields (walkOf s) n e), λ h. walk-encodes (h .1))
 
 pub malformed : (s : List ℕ) → WALK s .refusal ≡ 4 ↔ ((k : ℕ) × FirstFault s Malformed k)
 malformed s = (λ e. fault-of s Malformed (go (walkOf s) e), λ x. ap (λ (w : Walked). report w .refusal) (walk-fault s Malformed (x .0) (x .1)))
