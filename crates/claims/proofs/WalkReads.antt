@@ -1,7 +1,7 @@
 -- WALK by what it reads: laws of crate `laws_walk`, and the examples, by the rules that make each.
 -- Assumes nothing.
 use mathlib.Core.Path.{refl}
-use mathlib.Core.List.{List, [], _∷_}
+use mathlib.Core.List.{[], _∷_}
 use native.Mathlib.Omega.{arith}
 use Rattle.laws_walk.specs.Trees.{none, leaf, template}
 use Rattle.laws_walk.specs.Faults.{over, deep, inside, after}
@@ -39,9 +39,9 @@ answers = record {
 examples : WalkExamples
 examples = record {
   pastparent =
-      after {d = 1} (leaf 0x80 (0xFF ∷ []) none) (0xA1 ∷ 0x03 ∷ 0x80 ∷ 0x05 ∷ 0x00 ∷ 0x80 ∷ 0x00 ∷ []) (refl, omega arith, tt) tt
-      (inside {d = 1} 0xA1 (0x80 ∷ 0x05 ∷ 0x00 ∷ []) (0x80 ∷ 0x00 ∷ []) (omega arith) refl (omega arith)
-      (over {d = 2} 0x80 5 (0x00 ∷ []) (omega arith) (omega arith)));
+      after {d = 1} (leaf 0x80 (0xFF ∷ []) none) (0xA1 ∷ 0x03 ∷ 0x80 ∷ 0x03 ∷ 0x00 ∷ 0x80 ∷ 0x00 ∷ []) (refl, omega arith, tt) tt
+      (inside {d = 1} 0xA1 (0x80 ∷ 0x03 ∷ 0x00 ∷ []) (0x80 ∷ 0x00 ∷ []) (omega arith) refl (omega arith)
+      (over {d = 2} 0x80 3 (0x00 ∷ []) (omega arith) (omega arith)));
   fifth =
       inside {d = 1} 0xA1 (0xA1 ∷ 0x06 ∷ 0xA1 ∷ 0x04 ∷ 0xA1 ∷ 0x02 ∷ 0xA1 ∷ 0x00 ∷ []) [] (omega arith) refl (omega arith)
       (inside {d = 2} 0xA1 (0xA1 ∷ 0x04 ∷ 0xA1 ∷ 0x02 ∷ 0xA1 ∷ 0x00 ∷ []) [] (omega arith) refl (omega arith)

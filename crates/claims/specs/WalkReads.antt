@@ -43,10 +43,10 @@ pub record WalkAnswers : Type 0 where
   pub signature : (key r s : List ℕ) → length key ≤ 65 → length r ≤ 32 → length s ≤ 32
       → Encodes (signatureTrees key r s) (signature key r s) 3
 
--- ---- examples. 80 01 FF, and A1 with 80 05 00, whose end passes that of A1: its tag stands 5 bytes from the start. Four templates, one in the other,
--- and in the last a fifth, or a field that is none
+-- ---- examples. 80 01 FF, then A1 with 80 03 00, then 80 00: the field inside A1 ends behind A1, though within the input, and its tag stands 5 bytes
+-- from the start. Four templates, one in the other, and in the last a fifth, or a field that is no template
 pub record WalkExamples : Type 0 where
-  pub pastparent : FirstFault (0x80 ∷ 0x01 ∷ 0xFF ∷ 0xA1 ∷ 0x03 ∷ 0x80 ∷ 0x05 ∷ 0x00 ∷ 0x80 ∷ 0x00 ∷ []) Malformed 5
+  pub pastparent : FirstFault (0x80 ∷ 0x01 ∷ 0xFF ∷ 0xA1 ∷ 0x03 ∷ 0x80 ∷ 0x03 ∷ 0x00 ∷ 0x80 ∷ 0x00 ∷ []) Malformed 5
   pub fifth : FirstFault (0xA1 ∷ 0x08 ∷ 0xA1 ∷ 0x06 ∷ 0xA1 ∷ 0x04 ∷ 0xA1 ∷ 0x02 ∷ 0xA1 ∷ 0x00 ∷ []) TooDeep 8
   pub leaffive : Holds (0xA1 ∷ 0x08 ∷ 0xA1 ∷ 0x06 ∷ 0xA1 ∷ 0x04 ∷ 0xA1 ∷ 0x02 ∷ 0x80 ∷ 0x00 ∷ []) 1
 

@@ -1,14 +1,14 @@
 -- Every template that a command answers, of values no longer than a card's, is the encoding of its trees; so WALK counts their leaves.
 -- Assumes nothing.
-use mathlib.Core.Path.{_≡_, refl, sym, ap, _∙_, subst}
+use mathlib.Core.Path.{_≡_, refl, ap, _∙_}
 use mathlib.Core.Bool.{Bool}
 use mathlib.Core.List.{List, [], _∷_, _++_, append-assoc, append-nil}
-use Prim.Native.Nat.{ℕ, _+_, _≤_, _<_}
+use Prim.Native.Nat.{ℕ, _≤_, _<_}
 use native.Mathlib.Nat.{add-zero}
 use native.Mathlib.Omega.{arith}
 use lib.ListN.{length}
 use Rattle.template_rules.specs.Template.{field}
-use Rattle.template_rules.specs.Der.{derContent, derInteger}
+use Rattle.template_rules.specs.Der.{derInteger}
 use Rattle.template_rules.proofs.DerFacts.{der-length}
 use Rattle.card.specs.State.{version}
 use Rattle.template_answers.specs.Answers.{preInitialised, applicationFields, applicationInfo, keyByte, status, pair, signature}

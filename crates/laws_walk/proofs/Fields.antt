@@ -15,7 +15,7 @@ use Rattle.template_rules.specs.Template.{readHead, tagOf, isTemplate, fieldHea
 use Rattle.template_rules.proofs.HeadFacts.{read-length, length-read}
 use Rattle.template_walk.specs.declared.Fault.{Fault}
 use Rattle.template_walk.specs.declared.Fault.the-variants.{Malformed, TooDeep}
-use Rattle.laws_walk.proofs.Finding.{Found, counts, faults, past, under, into, within, step, found}
+use Rattle.laws_walk.proofs.Finding.{Found, counts, faults, past, into, within, step, found}
 
 -- the reader gives w for s, whatever the number of steps that it may take, if that is enough
 abbrev pub Finds : ℕ → List ℕ → Found → Type 0

@@ -1,7 +1,7 @@
 -- The reader of Finding gives the leaves of trees exactly for their encoding, and a fault and its place exactly where the rules of specs/Faults
 -- have them. Trees that stand at depth d are read with as many levels left as d is short of one below the deepest.
 -- Assumes nothing.
-use mathlib.Core.Path.{_≡_, refl, sym, ap, _∙_, subst}
+use mathlib.Core.Path.{_≡_, refl, sym, ap, _∙_}
 use mathlib.Core.Bool.{true, false}
 use mathlib.Core.List.{List, [], _∷_, _++_, append-assoc, append-nil}
 use Prim.Native.Nat.{ℕ, zero, suc, _+_, _≤_, _<_}
@@ -16,7 +16,7 @@ use Rattle.template_rules.specs.declared.Head.the-variants.{Of, Unreadable}
 use Rattle.template_rules.specs.Template.{readHead, tagOf, isTemplate, fieldHead, field, HeadSays}
 use Rattle.template_rules.proofs.HeadFacts.{by-test, Within, head-within, head-says}
 use Rattle.template_walk.specs.declared.Fault.{Fault}
-use Rattle.template_walk.specs.declared.Fault.the-variants.{Malformed, TooDeep}
+use Rattle.template_walk.specs.declared.Fault.the-variants.{TooDeep}
 use Rattle.laws_walk.specs.Trees.{Trees, none, leaf, template, encode, leaves, Lawful, deepest, Shallow}
 use Rattle.laws_walk.specs.Faults.{FaultAt, head, over, deep, inside, after}
 use Rattle.laws_walk.proofs.Finding.{Found, counts, faults, past, under, into, within, step, found}
