@@ -6,6 +6,7 @@ use Rattle.claims.proofs.Rows.{rows}
 use Rattle.claims.proofs.RowsMet.{rows-met}
 use Rattle.claims.proofs.WrongEngines.{wrong-engines}
 use Rattle.claims.proofs.Refusals.{refusals}
+use Rattle.claims.proofs.WalkReads.{walk-reads}
 use Rattle.claims.proofs.Ciphers.{ciphers}
 use Rattle.claims.proofs.Templates.{templates}
 use Rattle.claims.proofs.Trips.{trips}
@@ -15,6 +16,7 @@ use Rattle.claims.proofs.Secrecy.{secrecy}
 pub claims : Claims
 claims = record {
   refusals = refusals;
+  walkreads = walk-reads;
   ciphers = ciphers;
   templates = templates;
   trips = trips;

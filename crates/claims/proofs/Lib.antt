@@ -6,6 +6,7 @@ pub mod RowsMet
 pub mod WrongEngines
 pub mod Genuine
 pub mod Refusals
+pub mod WalkReads
 pub mod Ciphers
 pub mod Templates
 pub mod Trips

@@ -1,11 +1,12 @@
 -- The claims, to be read first: what RULES 11 demands of the card, the terminal's end and the stored record, as one statement. Each field names a
--- statement of this crate (Rows, RowsMet, WrongEngines, Refusals, Ciphers, Templates, Trips, Verified, Secrecy) or of crate `laws_exchange`; those cite
--- nothing but definitions, and the code's contracts cite the same definitions. The proof is `claims` of proofs/Claims.
+-- statement of this crate (Rows, RowsMet, WrongEngines, Refusals, WalkReads, Ciphers, Templates, Trips, Verified, Secrecy) or of crate `laws_exchange`;
+-- those cite nothing but definitions, and the code's contracts cite the same definitions. The proof is `claims` of proofs/Claims.
 use Rattle.laws_exchange.specs.Exchange.{Together}
 use Rattle.claims.specs.Rows.{Rows}
 use Rattle.claims.specs.RowsMet.{RowsMet}
 use Rattle.claims.specs.WrongEngines.{WrongEngines}
 use Rattle.claims.specs.Refusals.{Refusals}
+use Rattle.claims.specs.WalkReads.{WalkReads}
 use Rattle.claims.specs.Ciphers.{Ciphers}
 use Rattle.claims.specs.Templates.{Templates}
 use Rattle.claims.specs.Trips.{Trips}
@@ -15,6 +16,8 @@ use Rattle.claims.specs.Secrecy.{Secrecy}
 pub record Claims : Type 0 where
   -- demand 1 (RULES 11.1): refusals, exactly when, and what a refusal leaves
   pub refusals : Refusals
+  -- WALK by what it reads (RULES 9.1 to 9.3, 9.5): what it takes, and exactly when it refuses
+  pub walkreads : WalkReads
   -- demand 2 (RULES 11.2): AES, CBC and padding; lengths of fields and DER integers; round trips, agreement of ASK and ANSWER, soundness, RESET
   -- twice; terminal and card together
   pub ciphers : Ciphers

@@ -2,6 +2,7 @@ pub mod Rows
 pub mod RowsMet
 pub mod WrongEngines
 pub mod Refusals
+pub mod WalkReads
 pub mod Ciphers
 pub mod Templates
 pub mod Trips
