@@ -16,7 +16,7 @@ use Rattle.claims.specs.Secrecy.{Secrecy}
 pub record Claims : Type 0 where
   -- demand 1 (RULES 11.1): refusals, exactly when, and what a refusal leaves
   pub refusals : Refusals
-  -- WALK by what it reads (RULES 9.1 to 9.3, 9.5): what it takes, and exactly when it refuses
+  -- WALK by what it reads (RULES 9.8): what it takes, and exactly when it refuses
   pub walkreads : WalkReads
   -- demand 2 (RULES 11.2): AES, CBC and padding; lengths of fields and DER integers; round trips, agreement of ASK and ANSWER, soundness, RESET
   -- twice; terminal and card together

@@ -1,4 +1,4 @@
--- Demands 1 and 2: WALK by what it reads (RULES 9.1 to 9.3, 9.5, 11.1): trees and their encoding, and the first fault from the left, as crate `laws_walk`
+-- Demands 1 and 2: WALK by what it reads (RULES 9.8, 11.1, 11.2): trees and their encoding, and the first fault from the left, as crate `laws_walk`
 -- has them. Every length and offset is in bytes; depth is counted in templates, a template at the top being at depth 1.
 use Prim.Native.Nat.{ℕ, _≤_, _<_}
 use mathlib.Core.Path.{_≡_}

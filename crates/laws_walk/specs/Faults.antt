@@ -1,4 +1,4 @@
--- The first fault from the left (RULES 9.3), and where the tag of its field stands: by rules that read nothing, only take the input apart.
+-- The first fault from the left (RULES 9.3, 9.8), and where the tag of its field stands: by rules that read nothing, only take the input apart.
 -- Every length and offset is a number of bytes; depth is counted in templates, a template at the top being at depth 1.
 use mathlib.Core.Path.{_≡_}
 use mathlib.Core.Bool.{true}

@@ -1,4 +1,4 @@
--- What WALK reads (RULES 9.1, 9.2): a list of trees of fields, written as bytes. A leaf is a field that is no template and has bytes as its content; a
+-- What WALK reads (RULES 9.8): a list of trees of fields, written as bytes. A leaf is a field that is no template and has bytes as its content; a
 -- template has a list of trees as its content.
 -- Every length is a number of bytes; depth is counted in templates, a template at the top being at depth 1.
 use mathlib.Core.Path.{_≡_}
