@@ -31,9 +31,10 @@ use Rattle.claims.specs.Verified.{Shut, Ends, openWith, selects, bareSta
 -- ---- a sound card
 sound-verified : (c : Card) → isSound c ≡ true → (c .pins .verified ≡ 0 → ⊥) → (c .channel .stage ≡ 2) × (c .pins .«pin_tries» ≡ 3)
 sound-verified c e n =
-    let not-zero = ne-eqb (c .pins .verified) 0 n in
-    (eqb-true (c .channel .stage) 2 (the-second _ (eqb (c .channel .stage) 2) not-zero (verified-stage c e)),
-    eqb-true (c .pins .«pin_tries») 3 (the-second _ (eqb (c .pins .«pin_tries») 3) not-zero (verified-tries c e)))
+    let not-zero = ne-eqb (c .pins .verified) 0 n in (
+      eqb-true (c .channel .stage) 2 (the-second _ (eqb (c .channel .stage) 2) not-zero (verified-stage c e)),
+      eqb-true (c .pins .«pin_tries») 3 (the-second _ (eqb (c .pins .«pin_tries») 3) not-zero (verified-tries c e)),
+    )
 
 -- ---- a card that is its own RESET
 shut-reset : (c : Card) → isSound c ≡ true → Shut (resetAnswer c .card)

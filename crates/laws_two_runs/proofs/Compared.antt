@@ -95,10 +95,10 @@ module _ (c : Card) (cmd : List ℕ) (x : Comparison) where
       let over : isPlain (y .instruction) ≡ false = over-channel (y .instruction) k l (h .compares) in
       let opened : Card = withMac (step1 cmd c) (take 16 (y .field)) in
       let right : rightBy (x .of) (step1 cmd c .pins) (y .opened .data′) ≡ x .right =
-          sym (right-unverified (x .of) (step1 cmd c .pins) (y .opened .data′))
-          ∙ ap (λ (p : Pins). rightBy (x .of) p (y .opened .data′)) (step1-pins cmd c)
-          ∙ right-unverified (x .of) (c .pins) (y .opened .data′)
-          ∙ sym (h .right) in
+      sym (right-unverified (x .of) (step1 cmd c .pins) (y .opened .data′))
+      ∙ ap (λ (p : Pins). rightBy (x .of) p (y .opened .data′)) (step1-pins cmd c)
+      ∙ right-unverified (x .of) (c .pins) (y .opened .data′)
+      ∙ sym (h .right) in
       record {
         field = y .field;
         data′ = y .opened .data′;

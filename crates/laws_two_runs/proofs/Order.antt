@@ -215,8 +215,10 @@ module _ (p q : List ℕ) where
         (λ t. (record { supply = refl; data′ = refl; answer = λ _ _. refl }, refl))
         (λ x k e.
         let a : Arrived = arrivedAt (x .instruction) cmd (x .opened) k in
-        rw (← same-compared (a .card .pins) (c .pins) (goes a) (pins-at c cmd x),
-        ← same-compared (swap (a .card) .pins) (swap c .pins) (goes (swapAt a)) (ap secrets (pins-at c cmd x)))
+        rw (
+          ← same-compared (a .card .pins) (c .pins) (goes a) (pins-at c cmd x),
+          ← same-compared (swap (a .card) .pins) (swap c .pins) (goes (swapAt a)) (ap secrets (pins-at c cmd x)),
+        )
         (step6-both a (x .instruction) (lawful (x .instruction) (p1Of cmd) (p2Of cmd) k e)))
 
     pub decide-same : Same (OutAlike (comparison c cmd) (comparison (swap c) cmd)) (decide c cmd) (decide (swap c) cmd)
