@@ -1,10 +1,10 @@
-pub mod Rows
-pub mod RowsMet
-pub mod WrongEngines
 pub mod Refusals
 pub mod Ciphers
 pub mod Templates
 pub mod Trips
 pub mod Verified
+pub mod Rows
+pub mod RowsMet
+pub mod WrongEngines
 pub mod Secrecy
 pub mod Claims
