@@ -2,15 +2,15 @@
 -- Assumes nothing.
 use Rattle.laws_exchange.proofs.Exchanges.{together}
 use Rattle.claims.specs.Claims.{Claims}
-use Rattle.claims.proofs.Rows.{rows}
-use Rattle.claims.proofs.RowsMet.{rows-met}
-use Rattle.claims.proofs.WrongEngines.{wrong-engines}
 use Rattle.claims.proofs.Refusals.{refusals}
 use Rattle.claims.proofs.WalkReads.{walk-reads}
 use Rattle.claims.proofs.Ciphers.{ciphers}
 use Rattle.claims.proofs.Templates.{templates}
 use Rattle.claims.proofs.Trips.{trips}
 use Rattle.claims.proofs.Verified.{verified}
+use Rattle.claims.proofs.Rows.{rows}
+use Rattle.claims.proofs.RowsMet.{rows-met}
+use Rattle.claims.proofs.WrongEngines.{wrong-engines}
 use Rattle.claims.proofs.Secrecy.{secrecy}
 
 pub claims : Claims
@@ -22,8 +22,8 @@ claims = record {
   trips = trips;
   together = together;
   verified = verified;
-  secrecy = secrecy;
   rows = rows;
   rowsmet = rows-met;
   wrongengines = wrong-engines;
+  secrecy = secrecy;
 }

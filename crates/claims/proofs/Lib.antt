@@ -4,6 +4,7 @@ pub mod InitSays
 pub mod Rows
 pub mod RowsMet
 pub mod WrongEngines
+pub mod Untouched
 pub mod Genuine
 pub mod Refusals
 pub mod WalkReads

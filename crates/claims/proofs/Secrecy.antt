@@ -21,6 +21,7 @@ use Rattle.rules.specs.Comparison.{Comparison}
 use Rattle.laws_two_runs.specs.Compared.{replyBy}
 use Rattle.laws_two_runs.specs.Runs.{Call, Agree}
 use Rattle.laws_two_runs.proofs.Erasure.{erase-agree, agree-swap}
+use Rattle.laws_two_runs.proofs.Shown.{shows}
 use Rattle.laws_two_runs.proofs.Comparisons.{comparisons}
 use Rattle.laws_two_runs.proofs.Compared.{none-made, one-made, one-answers}
 use Rattle.laws_two_runs.proofs.TwoRuns.{two-runs}
@@ -128,6 +129,7 @@ blind puk false p q c d = record { status = refl; response = refl; card = erase-
 pub secrecy : Secrecy
 secrecy = record {
   runs = two-runs;
+  shows = shows;
   agreement = agreement;
   comparisons = comparisons;
   nonemade = λ c d k sc sd a e. let s = none-made c d k sc sd a e in (s .seen, s .next);

@@ -1,5 +1,5 @@
--- Demand 3: the two runs (RULES 11.3), one claim about the list of calls; that its words are exact, those about comparisons (RULES 6.3) and those
--- about cards that agree; and that it is not empty. The definitions of calls, runs and premise are those of crate `laws_two_runs`, Runs, and those of
+-- Demand 3: the two runs (RULES 11.3), one claim about the list of calls; that its words are exact, those about what a run shows, those about
+-- comparisons (RULES 6.3) and those about cards that agree; and that it is not empty. The definitions of calls, runs and premise are those of crate `laws_two_runs`, Runs, and those of
 -- comparisons are the rulebook's, Comparison.
 use Prim.Native.Nat.{ℕ, _≤_}
 use mathlib.Core.Path.{_≡_}
@@ -18,6 +18,7 @@ use Rattle.rules.specs.Comparison.{Comparison, comparison}
 use Rattle.laws_two_runs.specs.Comparisons.{Comparisons}
 use Rattle.laws_two_runs.specs.Compared.{replyBy, Compared}
 use Rattle.laws_two_runs.specs.Runs.{Call, comparisonAt, seenAt, nextAt, endOf, Agree, Premise, SameRuns}
+use Rattle.laws_two_runs.specs.Shown.{Shown}
 
 -- ---- two replies that say the same and leave cards that agree
 pub record SameReply (r s : Reply) : Type 0 where
@@ -57,6 +58,8 @@ pub record Meets (comparisons : List (Option Comparison)) : Type 0 where
 pub record Secrecy : Type 0 where
   -- the claim
   pub runs : (calls : List Call) (c d : Card) → Premise c d calls → SameRuns c d calls
+  -- what a run shows at a call is what the contracts of ASK, ANSWER and RESET say, and all of that but PIN and PUK of the card in it
+  pub shows : Shown
   -- cards agree exactly if one is the other with another PIN and PUK
   pub agreement : (c d : Card) → Agree c d ↔ ((p : List ℕ) × ((q : List ℕ) × (withSecrets p q c ≡ d)))
   -- which commands make a comparison, and when it comes out right
