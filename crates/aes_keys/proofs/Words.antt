@@ -9,7 +9,7 @@ use borrow.Author.Tests.{eq-eqb, ne-eqb}
 use lib.ListN.{length, take, drop, getD, length-take, length-drop}
 use lib.Seq.{getD-take, getD-drop}
 use Rattle.octets.specs.Bytes.{xorBytes}
-use Rattle.octets.proofs.Lists.{written, _&_}
+use Rattle.octets.proofs.Lists.{tabulated, _&_}
 use Rattle.aes_rules.specs.Schedule.{rotWord, subWord, rcon, changed, wordAt, nextWord}
 
 -- ---- wordAt
@@ -20,7 +20,7 @@ pub four-bytes : (w : List ℕ) (m : ℕ) → m + 4 ≤ length w
     → _≡_ {A = List ℕ} (getD w m 0 ∷ getD w (m + 1) 0 ∷ getD w (m + 2) 0 ∷ getD w (m + 3) 0 ∷ []) (wordAt w m)
 four-bytes w m h =
     sym
-    (written 4 (wordAt w m) long
+    (tabulated 4 (wordAt w m) long
     ∙ ((byte-of w m 0 (omega arith) ∙ ap (λ (n : ℕ). getD w n 0) (add-zero m)) & byte-of w m 1 (omega arith) & byte-of w m 2 (omega arith) & byte-of w m 3 (omega arith) & refl))
   where
     long : length (wordAt w m) ≡ 4

@@ -6,6 +6,7 @@ use Prim.Native.Nat.{ℕ, _+_, _-_, _≤_, _<_}
 use native.Mathlib.Omega.{arith}
 use lib.ListN.{length, take, drop, getD, set, take-append-drop, length-set}
 use lib.Seq.{take-set-le, drop-set-lt, take-all, take-take, length-take-le}
+use Rattle.octets.specs.Bytes.{written}
 use Rattle.octets.proofs.Filling.{front-more}
 use Rattle.aes_padding.specs.Padding.{paddedBytes, pad}
 use Rattle.aes_padding.proofs.Laws.{length-pad, take-pad, mark-at, zeros-behind, padded-larger}
@@ -42,10 +43,11 @@ module _ (s : List ℕ) (n : ℕ) (room : paddedBytes n ≤ length s) where
         long = length-set buf i 0 ∙ w .long;
       }
 
-  pub written-all : (buf : List ℕ) → Written s n buf (paddedBytes n) → buf ≡ pad (take n s) ++ drop (paddedBytes n) s
+  pub written-all : (buf : List ℕ) → Written s n buf (paddedBytes n) → buf ≡ written (pad (take n s)) s
   written-all buf w =
       sym (take-append-drop (paddedBytes n) buf)
       ∙ ap₂ (λ (a b : List ℕ). a ++ b) (w .front ∙ take-all (paddedBytes n) (pad (take n s)) (omega (arith, length-padded))) (w .behind)
+      ∙ ap (λ (k : ℕ). pad (take n s) ++ drop k s) (sym length-padded)
 
   -- the list with its mark already written serves for the list as it was
   module _ (v : ℕ) where

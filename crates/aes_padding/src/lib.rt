@@ -2,9 +2,9 @@
 // Every length is in bytes.
 // Proved: unpadding gives back what was padded, and takes nothing else.
 ghost use mathlib.Core.Path.{_≡_};
-ghost use mathlib.Core.List.{_++_};
 ghost use Prim.Native.Nat.{_≤_};
-ghost use lib.ListN.{length, take, drop};
+ghost use lib.ListN.{length, take};
+ghost use Rattle.octets.specs.Bytes.{written};
 ghost use Rattle.aes_padding.specs.Padding.{paddedBytes, pad, unpad, answer};
 use octets::BLOCK_BYTES;
 
@@ -29,7 +29,7 @@ pub fn padded_bytes(data_bytes: usize) -> usize
 pub fn pad_in_place(buf: &mut [u8], data_bytes: usize) -> usize
     requires { ⌜ paddedBytes «data_bytes» ≤ length (now buf) ⌝ }
     ensures { λ r. ⌜ r ≡ paddedBytes «data_bytes» ⌝ }
-    ensures { λ _. ⌜ now (buf .exit) ≡ pad (take «data_bytes» (now (buf .entry))) ++ drop (paddedBytes «data_bytes») (now (buf .entry)) ⌝ }
+    ensures { λ _. ⌜ now (buf .exit) ≡ written (pad (take «data_bytes» (now (buf .entry)))) (now (buf .entry)) ⌝ }
 {
     let end = data_bytes + (BLOCK_BYTES - data_bytes % BLOCK_BYTES);
     buf[data_bytes] = PADDING_MARK;

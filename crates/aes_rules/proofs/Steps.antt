@@ -7,7 +7,7 @@ use Prim.Native.Nat.{ℕ, _+_, _-_, _*_, _/_, _%_, _<_}
 use native.Mathlib.Omega.{arith}
 use lib.ListN.{length, getD, length-map}
 use Rattle.octets.specs.Bytes.{Bytes, Block, tabulate}
-use Rattle.octets.proofs.Lists.{_&_, length-tabulate, getD-tabulate, tabulate-ext, written, bytes-at, bytes-tabulate, bytes-map, xor-block, xor-bytes-undo}
+use Rattle.octets.proofs.Lists.{_&_, length-tabulate, getD-tabulate, tabulate-ext, tabulated, bytes-at, bytes-tabulate, bytes-map, xor-block, xor-bytes-undo}
 use Rattle.aes_field.specs.Field.{subByte, invSubByte}
 use Rattle.aes_field.proofs.Sbox.{sub-byte-byte, inv-sub-byte-byte, inv-sub-byte-sub-byte, sub-byte-inv-sub-byte}
 use Rattle.aes_rules.specs.Cipher.{at, state, subBytes, shiftRows, columns, mixRow, mixColumns, addRoundKey}
@@ -28,7 +28,7 @@ state-is : (f : ℕ → ℕ → ℕ) (s : List ℕ) → Block s → ((r c : ℕ)
 state-is f s h e =
     tabulate-ext 16 (λ i. f (i % 4) (i / 4)) (λ i. getD s i 0)
     (λ i l. e (i % 4) (i / 4) (omega arith) (omega arith) ∙ ap (λ (k : ℕ). getD s k 0) {x = i % 4 + 4 * (i / 4)} {y = i} (omega arith))
-    ∙ sym (written 16 s (h .long))
+    ∙ sym (tabulated 16 s (h .long))
 
 -- ---- SubBytes
 map-undone : (f g : ℕ → ℕ) → ((x : ℕ) → x < 256 → g (f x) ≡ x) → (s : List ℕ) → Bytes s → map g (map f s) ≡ s
@@ -63,11 +63,11 @@ inv-shift-rows-block s h = state-block (λ r c. at s r ((c + 4 - r) % 4)) (λ r 
 
 pub inv-shift-rows-shift-rows : (s : List ℕ) → Block s → invShiftRows (shiftRows s) ≡ s
 unfolding shiftRows invShiftRows
-inv-shift-rows-shift-rows s h = sym (written 16 s (h .long))
+inv-shift-rows-shift-rows s h = sym (tabulated 16 s (h .long))
 
 pub shift-rows-inv-shift-rows : (s : List ℕ) → Block s → shiftRows (invShiftRows s) ≡ s
 unfolding shiftRows invShiftRows
-shift-rows-inv-shift-rows s h = sym (written 16 s (h .long))
+shift-rows-inv-shift-rows s h = sym (tabulated 16 s (h .long))
 
 -- ---- MixColumns
 module _ (m : ℕ → ℕ → ℕ → ℕ → ℕ) (byte : (a b c d : ℕ) → a < 256 → b < 256 → c < 256 → d < 256 → m a b c d < 256) where

@@ -6,7 +6,7 @@ use Prim.Native.Nat.{ℕ, _+_, _≤_, _<_}
 use native.Mathlib.Omega.{arith}
 use lib.ListN.{length, take, drop, length-append}
 use lib.Seq.{drop-drop}
-use Rattle.octets.specs.Bytes.{overwrite}
+use Rattle.octets.specs.Bytes.{overwrite, written}
 use Rattle.octets.proofs.Lists.{overwrite-next, overwritten, overwrite-behind, drop-overwrite-behind}
 use Rattle.aes_padding.specs.Padding.{paddedBytes}
 use Rattle.aes_padding.proofs.Laws.{padded-larger, padded-next}
@@ -75,7 +75,9 @@ module _ (s : Session) (B B₁ B₂ B₃ B₄ d status head mac : List ℕ) (n p
         left =
             e₄
             ∙ ap (λ (b : List ℕ). overwrite b (16 + p) plainSuccess)
-            (field .left ∙ ap₂ (λ (x y : List ℕ). (mac ++ ciphertext s x) ++ y) part behind)
+            (field .left
+            ∙ ap (λ (x : List ℕ). written (mac ++ ciphertext s x) B₂) part
+            ∙ ap (λ (y : List ℕ). (mac ++ c) ++ y) (ap (λ (k : ℕ). drop k B₂) (front ∙ ap (λ (k : ℕ). 16 + k) ep) ∙ behind))
             ∙ overwrite-behind (mac ++ c) (drop (16 + paddedBytes n) B) plainSuccess (16 + p) front
             ∙ ap₂ (λ (x y : List ℕ). x ++ y) response-is
             (drop-drop 2 (16 + paddedBytes n) B ∙ ap (λ (k : ℕ). drop k B) (ap (λ (k : ℕ). 16 + k + 2) (sym ep) ∙ length-response));

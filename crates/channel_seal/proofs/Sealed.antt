@@ -6,7 +6,7 @@ use Prim.Native.Nat.{ℕ, _+_, _-_, _≤_}
 use native.Mathlib.Omega.{arith}
 use lib.ListN.{length, take, drop, length-append, length-take, length-drop, drop-of-length-le}
 use lib.Seq.{take-at, drop-at, take-all, drop-drop, length-take-le}
-use Rattle.octets.specs.Bytes.{overwrite}
+use Rattle.octets.specs.Bytes.{overwrite, written}
 use Rattle.aes_padding.specs.Padding.{paddedBytes, pad}
 use Rattle.aes_padding.proofs.Laws.{length-pad, padded-larger}
 
@@ -21,7 +21,7 @@ tail-put a xs y =
 
 -- B is the buffer as it was, p the padded length, y₁ its tail after padding, y₂ the part after encryption
 module _ (B : List ℕ) (n p : ℕ) (ep : p ≡ paddedBytes n) (room : 16 + paddedBytes n ≤ length B) (y₁ : List ℕ)
-    (e₁ : y₁ ≡ pad (take n (take (length B - 16) (drop 16 B))) ++ drop (paddedBytes n) (take (length B - 16) (drop 16 B))) where
+    (e₁ : y₁ ≡ written (pad (take n (take (length B - 16) (drop 16 B)))) (take (length B - 16) (drop 16 B))) where
   abbrev B₁ : List ℕ
   B₁ = take 16 B ++ (y₁ ++ drop (length B - 16) (drop 16 B))
 
@@ -36,7 +36,9 @@ module _ (B : List ℕ) (n p : ℕ) (ep : p ≡ paddedBytes n) (room : 16 + padd
 
   B₁-is : B₁ ≡ take 16 B ++ (padded ++ drop (paddedBytes n) (drop 16 B))
   B₁-is =
-      tail-put 16 B y₁ ∙ ap (λ (r : List ℕ). take 16 B ++ r) (e₁ ∙ ap (λ (t : List ℕ). pad (take n t) ++ drop (paddedBytes n) t) (tail-is 16 B))
+      tail-put 16 B y₁
+      ∙ ap (λ (r : List ℕ). take 16 B ++ r)
+      (e₁ ∙ ap (λ (t : List ℕ). written (pad (take n t)) t) (tail-is 16 B) ∙ ap (λ (k : ℕ). padded ++ drop k (drop 16 B)) long)
 
   B₁-tail : drop 16 B₁ ≡ padded ++ drop (paddedBytes n) (drop 16 B)
   B₁-tail = ap (drop 16) B₁-is ∙ drop-at (take 16 B) (padded ++ drop (paddedBytes n) (drop 16 B)) 16 sixteen
@@ -68,8 +70,12 @@ module _ (B : List ℕ) (n p : ℕ) (ep : p ≡ paddedBytes n) (room : 16 + padd
         ap₂ (λ (m : ℕ) (t : List ℕ). take m t) count B₂-tail ∙ take-at y₂ (drop (paddedBytes n) (drop 16 B)) (paddedBytes n) (l₂ ∙ lent-whole)
 
     -- and in the end there are the MAC, the ciphertext, and what was after them
-    pub sealed : (mac : List ℕ) → length mac ≡ 16 → overwrite B₂ 0 mac ≡ (mac ++ y₂) ++ drop (16 + paddedBytes n) B
+    pub sealed : (mac : List ℕ) → length mac ≡ 16 → overwrite B₂ 0 mac ≡ written (mac ++ y₂) B
     sealed mac l =
         ap (λ (m : ℕ). mac ++ drop (0 + m) B₂) l
         ∙ ap (λ (r : List ℕ). mac ++ r) (B₂-tail ∙ ap (λ (r : List ℕ). y₂ ++ r) (drop-drop (paddedBytes n) 16 B))
         ∙ sym (append-assoc mac y₂ (drop (16 + paddedBytes n) B))
+        ∙ ap (λ (k : ℕ). (mac ++ y₂) ++ drop k B) (sym whole)
+      where
+        whole : length (mac ++ y₂) ≡ 16 + paddedBytes n
+        whole = omega (arith, length-append mac y₂, l, l₂, lent-whole)

@@ -5,6 +5,7 @@ use mathlib.Core.Option.{Option, some}
 use mathlib.Core.Path.{_≡_}
 use lib.ListN.{length, take, drop}
 use Rattle.refusals.specs.Refusals.{dataMost}
+use Rattle.octets.specs.Bytes.{written}
 use Rattle.aes_padding.specs.Padding.{paddedBytes}
 use Rattle.channel_rules.specs.declared.Session.{Session}
 use Rattle.channel_rules.specs.declared.Opening.{Opening}
@@ -16,7 +17,7 @@ use Rattle.channel_seal.specs.declared.Response.{Response}
 -- directly after it, and the bytes after the field are kept
 pub record FieldSealed (s : Session) (head : List ℕ) (n : ℕ) (before mac after : List ℕ) : Type 0 where
   pub told : mac ≡ macOf s head (ciphertext s (take n (drop 16 before)))
-  pub left : after ≡ (mac ++ ciphertext s (take n (drop 16 before))) ++ drop (16 + paddedBytes n) before
+  pub left : after ≡ written (mac ++ ciphertext s (take n (drop 16 before))) before
   pub long : length (ciphertext s (take n (drop 16 before))) ≡ paddedBytes n
 
 -- an opening gives the length of the opened data, at most 223 bytes, which are at the start of `plain`; or that there is none. `says` has
@@ -31,4 +32,4 @@ pub record Opens (data′ : Option (List ℕ)) (r : Opening) (plain : List ℕ) 
 pub record ResponseSealed (s : Session) (plain : List ℕ) (before : List ℕ) (r : Response) (after : List ℕ) : Type 0 where
   pub count : r .count ≡ length (sealedResponse s plain)
   pub session : r .session ≡ withIv s (fieldMac s responseHead plain)
-  pub left : after ≡ sealedResponse s plain ++ drop (length (sealedResponse s plain)) before
+  pub left : after ≡ written (sealedResponse s plain) before

@@ -8,7 +8,7 @@ use native.Mathlib.Omega.{arith}
 use lib.ListN.{length, take, drop, length-append, length-drop}
 use lib.Seq.{take-at, drop-at, drop-drop, length-take-le}
 use Rattle.refusals.specs.Refusals.{noRefusal, sealRoom, dataMost}
-use Rattle.octets.specs.Bytes.{overwrite}
+use Rattle.octets.specs.Bytes.{overwrite, written}
 use Rattle.octets.proofs.Lists.{overwritten, length-overwrite, drop-overwrite-behind}
 use Rattle.aes_padding.specs.Padding.{paddedBytes}
 use Rattle.aes_padding.proofs.Laws.{padded-larger}
@@ -62,7 +62,13 @@ module _ (s : Session) (B B₁ Y B₃ header d head mac : List ℕ) (p : ℕ) (r
 
   -- the field, and what follows it
   Y-is : Y ≡ (mac ++ ciphertext s d) ++ drop (21 + paddedBytes (length d)) B
-  Y-is = field .left ∙ ap₂ (λ (x y : List ℕ). (mac ++ ciphertext s x) ++ y) part behind
+  Y-is =
+      field .left
+      ∙ ap (λ (x : List ℕ). written (mac ++ ciphertext s x) (take (length B₁ - 5) (drop 5 B₁))) part
+      ∙ ap (λ (y : List ℕ). (mac ++ ciphertext s d) ++ y) (ap (λ (k : ℕ). drop k (take (length B₁ - 5) (drop 5 B₁))) long ∙ behind)
+    where
+      long : length (mac ++ ciphertext s d) ≡ 16 + paddedBytes (length d)
+      long = omega (arith, length-append mac (ciphertext s d), lm, length-c, ep)
 
   five : length front ≡ 5
   five = omega (arith, length-append header ((16 + p) ∷ []))
@@ -78,8 +84,8 @@ module _ (s : Session) (B B₁ Y B₃ header d head mac : List ℕ) (p : ℕ) (r
   length-command =
       sym (ap length (sym command-is) ∙ omega (arith, length-append front (mac ++ ciphertext s d), length-append mac (ciphertext s d), five, length-c))
 
-  written : B₃ ≡ sealedCommand s header d ++ drop (length (sealedCommand s header d)) B
-  written =
+  buffer-is : B₃ ≡ written (sealedCommand s header d) B
+  buffer-is =
       e₃
       ∙ ap (λ (k : ℕ). front ++ drop (0 + k) (take 5 B₁ ++ (Y ++ drop (length B₁ - 5) (drop 5 B₁)))) five
       ∙ ap (λ (b : List ℕ). front ++ drop 5 b) (tail-put 5 B₁ Y)
@@ -97,5 +103,5 @@ module _ (s : Session) (B B₁ Y B₃ header d head mac : List ℕ) (p : ℕ) (r
         refusal = er ∙ sym (ap (λ (x : Out). x .refusal) e);
         count = ec ∙ length-command ∙ sym (ap (λ (x : Out). length (x .bytes)) e);
         session = es ∙ ap (withIv s) mac-is ∙ sym (ap (λ (x : Out). x .session) e);
-        left = written ∙ sym (ap (λ (x : Out). x .bytes ++ drop (length (x .bytes)) B) e);
+        left = buffer-is ∙ sym (ap (λ (x : Out). written (x .bytes) B) e);
       }

@@ -9,8 +9,8 @@ use native.Mathlib.Omega.{arith}
 use borrow.Author.Tests.{lt-ltb, le-ltb}
 use lib.ListN.{length, take, drop, length-drop}
 use Rattle.refusals.specs.Refusals.{noRefusal, notGenuine}
-use Rattle.octets.specs.Bytes.{overwrite, sameBytes}
-use Rattle.octets.proofs.Lists.{same-lengths}
+use Rattle.octets.specs.Bytes.{overwrite, written, sameBytes}
+use Rattle.octets.proofs.Lists.{overwrite-start, same-lengths}
 use Rattle.channel_rules.specs.declared.Session.{Session}
 use Rattle.channel_rules.specs.declared.Opening.{Opening}
 use Rattle.channel_rules.specs.Message.{withIv}
@@ -41,14 +41,11 @@ module _ (s : Session) (field : List ℕ) (o : Option (List ℕ)) where
         refusal = er ∙ sym (ap (λ (x : Out). x .refusal) e);
         count = ec ∙ sym (h .long) ∙ sym (ap (λ (x : Out). length (x .bytes)) e);
         session = es ∙ ap (withIv s) eb ∙ sym (ap (λ (x : Out). x .session) e);
-        left = ea ∙ ap (overwrite before 0) plain-is ∙ ap (λ (k : ℕ). h .plain ++ drop k before) none-before ∙ sym (ap (λ (x : Out). x .bytes ++ drop (length (x .bytes)) before) e);
+        left = ea ∙ ap (overwrite before 0) plain-is ∙ overwrite-start before (h .plain) ∙ sym (ap (λ (x : Out). written (x .bytes) before) e);
       }
     where
       plain-is : take m scratch ≡ h .plain
       plain-is = ap (λ (k : ℕ). take k scratch) (em ∙ sym (h .long)) ∙ sym (p .left (h .plain) (h .is))
-
-      none-before : 0 + length (h .plain) ≡ length (h .plain)
-      none-before = omega arith
 
 -- a response of fewer than two bytes does not end in 9000
 pub too-short : (response : List ℕ) → length response < 2 → sameBytes (drop (length response - 2) response) plainSuccess ≡ false

@@ -9,7 +9,7 @@ use Prim.Native.Nat.{ℕ, _-_, _≤_, _<_}
 use borrow.Author.Tests.{lt-ltb, le-ltb}
 use lib.Dec.{ltb}
 use lib.ListN.{length, take, drop}
-use Rattle.octets.specs.Bytes.{sameBytes}
+use Rattle.octets.specs.Bytes.{written, sameBytes}
 use Rattle.refusals.specs.Refusals.{noRefusal, noRoom, dataLong, notGenuine, sealRoom, unsealRoom, dataMost}
 use Rattle.channel_rules.specs.declared.Session.{Session}
 use Rattle.channel_rules.specs.Message.{withIv, commandHead, responseHead, fieldMac, openField}
@@ -24,7 +24,7 @@ did-refuse o s n r before e er ec es =
       refusal = er ∙ sym (ap (λ (x : Out). x .refusal) e);
       count = ec ∙ sym (ap (λ (x : Out). length (x .bytes)) e);
       session = es ∙ sym (ap (λ (x : Out). x .session) e);
-      left = sym (ap (λ (x : Out). x .bytes ++ drop (length (x .bytes)) before) e);
+      left = sym (ap (λ (x : Out). written (x .bytes) before) e);
     }
 
 -- ---- SEAL

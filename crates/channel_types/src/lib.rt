@@ -2,39 +2,22 @@
 // Every length is in bytes.
 // Proved: every session that code holds has keys of 32 bytes and an IV of 16 bytes, by its type alone.
 ghost use mathlib.Core.Path.{_≡_};
-ghost use Prim.Native.Nat.{_<_};
 ghost use Rattle.octets.specs.Bytes.{Block};
 ghost use Rattle.aes_rules.specs.Aes.{Key};
 ghost use Rattle.channel_rules.specs.Message.{Keyed};
 use channel_rules::Session;
 
 // Each function gives its argument back, or counts its bytes. Its contract is what the type says of it.
-fn byte(b: u8) -> u8
-    ensures { λ _. ⌜ b < 256 ⌝ }
-{
-    b
-}
-
-fn key(k: [u8; 32]) -> usize
+pub fn key(k: [u8; 32]) -> usize
     ensures { λ _. ⌜ Key k ⌝ }
 {
-    let mut i = 0;
-    while i < 32 {
-        byte(k[i]);
-        i += 1;
-    }
-    i
+    octets_types::slice(&k)
 }
 
-fn block(b: [u8; 16]) -> usize
+pub fn block(b: [u8; 16]) -> usize
     ensures { λ _. ⌜ Block b ⌝ }
 {
-    let mut i = 0;
-    while i < 16 {
-        byte(b[i]);
-        i += 1;
-    }
-    i
+    octets_types::slice(&b)
 }
 
 // The session as it is.

@@ -2,7 +2,7 @@
 -- Assumes nothing.
 use mathlib.Core.Path.{_≡_, refl, sym, ap, _∙_, subst}
 use mathlib.Core.Bool.{Bool, true, false, cond}
-use mathlib.Core.List.{List, []}
+use mathlib.Core.List.{List}
 use mathlib.Core.Logic.{_⊎_, inl, inr, ⊎-elim}
 use mathlib.Core.Option.{Option, none, some}
 use Prim.Native.Nat.{ℕ, _-_, _%_, _≤_}
@@ -26,6 +26,7 @@ use Rattle.channel_rules.proofs.Trips.{unseal-seals}
 use Rattle.channel_rules.proofs.Accepted.{unseal-sound}
 use Rattle.template_rules.proofs.HeadFacts.{by-test}
 use Rattle.claims.specs.Refusals.{Genuine, UnsealRefuses}
+use Rattle.claims.proofs.Untouched.{unseal-nothing}
 
 -- ---- what opens is bytes
 opened-bytes : (s : Session) → Keyed s → (head : ℕ → List ℕ) (f d : List ℕ) → Bytes f → openField s head f ≡ some d → Bytes d
@@ -46,17 +47,16 @@ opened-bytes s k head f d hf e =
 -- ---- after the test of the room: taken, and then the field opens to two bytes or more; or 7
 record Judged (s : Session) (opening : Option (List ℕ)) (o : Out) : Type 0 where
   pub numbers : (o .refusal ≡ 0) ⊎ (o .refusal ≡ 7)
-  pub nothing : (o .refusal ≡ 0 → ⊥) → (o .session ≡ s) × (o .bytes ≡ [])
   pub opens : o .refusal ≡ 0 → (opening ≡ some (o .bytes)) × (2 ≤ length (o .bytes))
 
 judged-7 : (s : Session) (o : Option (List ℕ)) → Judged s o (refused s 7)
-judged-7 s o = record { numbers = inr refl; nothing = λ n. (refl, refl); opens = λ e. absurd (omega arith) }
+judged-7 s o = record { numbers = inr refl; opens = λ e. absurd (omega arith) }
 
 judged : (s : Session) (field : List ℕ) (b : Bool) (o : Option (List ℕ)) → Judged s o (cond b (unsealed s field o) (refused s 7))
 judged s field false o = judged-7 s o
 judged s field true none = judged-7 s none
 judged s field true (some p) = by-test (Judged s (some p)) (ltb (length p) 2) (λ e. judged-7 s (some p))
-    (λ e. record { numbers = inl refl; nothing = λ n. absurd (n refl); opens = λ z. (refl, ltb-false (length p) 2 e) })
+    (λ e. record { numbers = inl refl; opens = λ z. (refl, ltb-false (length p) 2 e) })
 
 module _ (s : Session) (response : List ℕ) (room : ℕ) where
   abbrev field : List ℕ
@@ -109,7 +109,7 @@ module _ (s : Session) (response : List ℕ) (room : ℕ) where
             taken = λ k b. (λ h. absurd (omega arith), λ h. absurd (omega (arith, h .0)));
             forged = λ k b. (λ h. absurd (omega arith), λ h. absurd (omega (arith, h .0)));
             others = inr (inl z);
-            nothing = λ n. (ap (λ (o : Out). o .session) (refused-is e), ap (λ (o : Out). o .bytes) (refused-is e));
+            nothing = unseal-nothing s response;
           }
       go false e =
           let z : unsealOut s response room .refusal ≡ inner .refusal = ap (λ (o : Out). o .refusal) (inner-is e) in
@@ -122,7 +122,7 @@ module _ (s : Session) (response : List ℕ) (room : ℕ) where
             taken = λ k b. (λ h. (large, genuine k b e h), λ h. zero);
             forged = λ k b. (λ h. absurd (omega arith), λ h. absurd (h .1 (genuine k b e zero)));
             others = inl zero;
-            nothing = λ n. absurd (n zero);
+            nothing = unseal-nothing s response;
           })
           (λ t.
           let seven : unsealOut s response room .refusal ≡ 7 = z ∙ t in
@@ -131,8 +131,6 @@ module _ (s : Session) (response : List ℕ) (room : ℕ) where
             taken = λ k b. (λ h. absurd (omega arith), λ h. taken k (h .0) (h .1));
             forged = λ k b. (λ h. (large, λ g. absurd (omega (arith, taken k large g))), λ h. seven);
             others = inr (inr seven);
-            nothing = λ n.
-                let h = is .nothing (λ y. n (z ∙ y)) in
-                (ap (λ (o : Out). o .session) (inner-is e) ∙ h .0, ap (λ (o : Out). o .bytes) (inner-is e) ∙ h .1);
+            nothing = unseal-nothing s response;
           })
           (is .numbers)

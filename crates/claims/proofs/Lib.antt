@@ -4,9 +4,12 @@ pub mod InitSays
 pub mod Rows
 pub mod RowsMet
 pub mod WrongEngines
+pub mod Untouched
 pub mod Genuine
 pub mod Refusals
+pub mod WalkReads
 pub mod Ciphers
+pub mod Templates
 pub mod Trips
 pub mod Verified
 pub mod Secrecy

@@ -30,7 +30,7 @@ use Rattle.laws_engine.proofs.Sound.{answer-sound}
 use Rattle.laws_exchange.specs.Opens.{outcome}
 use Rattle.laws_exchange.proofs.Answers.{arrived-in2, result-channel, answer-stage2}
 use Rattle.laws_two_runs.proofs.Sealed.{step1-stage2}
-use Rattle.claims.specs.Rows.{Sent, Gives, Entry, entered, after, Entries}
+use Rattle.claims.specs.Rows.{Sent, Gives, Entry, entered, after, OneWrong, ThreeWrong, spent, RightThen}
 
 -- ---- any command over the channel
 -- in stage 2 step 1 closes no channel; what it keeps, the card at step 6 has
@@ -144,25 +144,28 @@ module _ (c : Card) (pin : List ℕ) (v : Entry c) where
       (verify-spent here (entered c v) (v .sent .supply) (ap (λ (p : Pins). p .«pin_tries») (pins-here (l .stage)) ∙ l .tries))))
 
 -- ---- the chain
-module _ (c : Card) (e : Entries c) where
-  abbrev pin : List ℕ
-  pin = c .pins .pin
-
-  one : Gives c (e .first .sent) (0x63 ∷ 0xC2 ∷ []) × Left (after c (e .first)) pin 2
-  one = wrong-entry c pin (e .first) 2 (record { sound = e .sound; stage = e .stage; pin = refl; tries = e .tries }) (e .wrong1)
-
-  two : Gives (after c (e .first)) (e .second .sent) (0x63 ∷ 0xC1 ∷ []) × Left (after (after c (e .first)) (e .second)) pin 1
-  two = wrong-entry (after c (e .first)) pin (e .second) 1 (one .1) (e .wrong2)
-
-  three : Gives (after (after c (e .first)) (e .second)) (e .third .sent) (0x63 ∷ 0xC0 ∷ [])
-      × Left (after (after (after c (e .first)) (e .second)) (e .third)) pin 0
-  three = wrong-entry (after (after c (e .first)) (e .second)) pin (e .third) 0 (two .1) (e .wrong3)
+module _ (c : Card) (e : OneWrong c) where
+  one-left : Gives c (e .first .sent) (0x63 ∷ 0xC2 ∷ []) × Left (after c (e .first)) (c .pins .pin) 2
+  one-left = wrong-entry c (c .pins .pin) (e .first) 2 (record { sound = e .sound; stage = e .stage; pin = refl; tries = e .tries }) (e .wrong1)
 
   pub first-wrong : Gives c (e .first .sent) (0x63 ∷ 0xC2 ∷ [])
-  first-wrong = one .0
+  first-wrong = one-left .0
 
-  pub third-wrong : Gives (after (after c (e .first)) (e .second)) (e .third .sent) (0x63 ∷ 0xC0 ∷ [])
-  third-wrong = three .0
+module _ (c : Card) (e : ThreeWrong c) where
+  abbrev card1 : Card
+  card1 = after c (e .one .first)
 
-  pub right-then : Gives (after (after (after c (e .first)) (e .second)) (e .third)) (e .fourth .sent) (0x63 ∷ 0xC0 ∷ [])
-  right-then = spent-entry (after (after (after c (e .first)) (e .second)) (e .third)) pin (e .fourth) (three .1)
+  abbrev card2 : Card
+  card2 = after card1 (e .second)
+
+  two-left : Gives card1 (e .second .sent) (0x63 ∷ 0xC1 ∷ []) × Left card2 (c .pins .pin) 1
+  two-left = wrong-entry card1 (c .pins .pin) (e .second) 1 (one-left c (e .one) .1) (e .wrong2)
+
+  none-left : Gives card2 (e .third .sent) (0x63 ∷ 0xC0 ∷ []) × Left (spent c e) (c .pins .pin) 0
+  none-left = wrong-entry card2 (c .pins .pin) (e .third) 0 (two-left .1) (e .wrong3)
+
+  pub third-wrong : Gives card2 (e .third .sent) (0x63 ∷ 0xC0 ∷ [])
+  third-wrong = none-left .0
+
+pub right-then : (c : Card) (e : RightThen c) → Gives (spent c (e .three)) (e .fourth .sent) (0x63 ∷ 0xC0 ∷ [])
+right-then c e = spent-entry (spent c (e .three)) (c .pins .pin) (e .fourth) (none-left c (e .three) .1)

@@ -23,10 +23,11 @@ use Rattle.card.specs.Sizes.{slotBytes, slotCount}
 use Rattle.sound.specs.declared.Answer.{Answer}
 use Rattle.sound.specs.Reset.{resetAnswer}
 use Rattle.record_rules.specs.Parse.{fit, content, slotsFrom, cardOf}
-use Rattle.record_rules.specs.Answers.{writeRefusal, writeBytes, readAnswer}
+use Rattle.record_rules.specs.Answers.{writeRefusal, readAnswer}
 use Rattle.record_rules.proofs.ReadFacts.{read-cases, read-refuses}
-use Rattle.laws_engine.proofs.Refusals.{ask-refused, ask-unsound, ask-room, ask-numbers, answer-refused, answer-unsound, answer-room, answer-supply, answer-numbers}
+use Rattle.laws_engine.proofs.Refusals.{ask-unsound, ask-room, ask-numbers, answer-unsound, answer-room, answer-supply, answer-numbers}
 use Rattle.claims.specs.Refusals.{ResetRefuses, WriteRefuses, IsRecord, ReadRefuses, SealRefuses, WalkRefuses, Refusals}
+use Rattle.claims.proofs.Untouched.{ask-nothing, answer-nothing, write-nothing, seal-nothing}
 use Rattle.claims.proofs.Genuine.{unseal-refuses}
 
 never : {b : Bool} {A : Type 0} → b ≡ true → b ≡ false → A
@@ -57,7 +58,7 @@ reset-refuses c = go (isSound c) refl
 
 -- ---- WRITE
 write-refuses : (c : Card) (room : ℕ) → WriteRefuses c room
-unfolding writeRefusal writeBytes
+unfolding writeRefusal
 write-refuses c room = go (isSound c) (ltb room writeRoom) refl refl
   where
     go : (a b : Bool) → isSound c ≡ a → ltb room writeRoom ≡ b → WriteRefuses c room
@@ -67,7 +68,7 @@ write-refuses c room = go (isSound c) (ltb room writeRoom) refl refl
           unsound = (λ h. absurd (omega arith), λ h. never e h);
           small = (λ h. (e, ltb-true room writeRoom t), λ h. z);
           others = omega arith;
-          nothing = λ n. rw (e, t);
+          nothing = write-nothing c;
         }
     go true false e t =
         let z : writeRefusal c room ≡ 0 = rw (e, t) in
@@ -75,7 +76,7 @@ write-refuses c room = go (isSound c) (ltb room writeRoom) refl refl
           unsound = (λ h. absurd (omega arith), λ h. never e h);
           small = (λ h. absurd (omega arith), λ h. absurd (omega (arith, ltb-false room writeRoom t, h .1)));
           others = omega arith;
-          nothing = λ n. absurd (n z);
+          nothing = write-nothing c;
         }
     go false b e t =
         let z : writeRefusal c room ≡ 1 = rw e in
@@ -83,7 +84,7 @@ write-refuses c room = go (isSound c) (ltb room writeRoom) refl refl
           unsound = (λ h. e, λ h. z);
           small = (λ h. absurd (omega arith), λ h. never (h .0) e);
           others = omega arith;
-          nothing = λ n. rw e;
+          nothing = write-nothing c;
         }
 
 -- ---- READ
@@ -119,7 +120,7 @@ read-refusal s = ⊎-elim
       taken = (λ h. is, λ h. z);
       refused = (λ h. absurd (omega arith), λ n. absurd (n is));
       others = inl z;
-      nothing = λ h. absurd (omega arith);
+      nothing = λ n. absurd (n z);
     })
     (λ e.
     let z : readAnswer s .refusal ≡ 8 = ap (λ (a : Answer). a .refusal) e in
@@ -145,7 +146,7 @@ seal-refuses s header d room = go (ltb room 261) (ltb 223 (length d)) refl refl
           small = (λ h. small, λ h. z);
           long = (λ h. absurd (omega arith), λ h. absurd (omega (arith, h .0)));
           taken = (λ h. absurd (omega arith), λ h. absurd (omega (arith, h .0)));
-          nothing = λ n. (rw e, rw e);
+          nothing = seal-nothing s header d;
         }
     go false true e t =
         let z : sealOut s header d room .refusal ≡ 6 = rw (e, t) in
@@ -155,7 +156,7 @@ seal-refuses s header d room = go (ltb room 261) (ltb 223 (length d)) refl refl
           small = (λ h. absurd (omega arith), λ h. absurd (omega arith));
           long = (λ h. (large, long), λ h. z);
           taken = (λ h. absurd (omega arith), λ h. absurd (omega (arith, h .1)));
-          nothing = λ n. (rw (e, t), rw (e, t));
+          nothing = seal-nothing s header d;
         }
     go false false e t =
         let z : sealOut s header d room .refusal ≡ 0 = rw (e, t) in
@@ -165,7 +166,7 @@ seal-refuses s header d room = go (ltb room 261) (ltb 223 (length d)) refl refl
           small = (λ h. absurd (omega arith), λ h. absurd (omega arith));
           long = (λ h. absurd (omega arith), λ h. absurd (omega (arith, h .1)));
           taken = (λ h. (large, short), λ h. z);
-          nothing = λ n. absurd (n z);
+          nothing = seal-nothing s header d;
         }
 
 -- ---- WALK
@@ -187,14 +188,14 @@ refusals = record {
     unsound = ask-unsound c cmd room;
     small = ask-room c cmd room;
     others = ask-numbers c cmd room;
-    nothing = ask-refused c cmd room;
+    nothing = ask-nothing c cmd;
   };
   answer = λ c cmd s room. record {
     unsound = answer-unsound c cmd s room;
     small = answer-room c cmd s room;
     supplied = answer-supply c cmd s room;
     others = answer-numbers c cmd s room;
-    nothing = answer-refused c cmd s room;
+    nothing = answer-nothing c cmd s;
   };
   reset = reset-refuses;
   write = write-refuses;

@@ -31,12 +31,13 @@ use Rattle.rules.specs.Steps.{isInitialised}
 use Rattle.rules.specs.Engine.{answerOut}
 use Rattle.laws_commands.proofs.Changed.{keys-set}
 use Rattle.laws_engine.proofs.Sound.{answer-sound}
-use Rattle.laws_exchange.specs.Exchange.{Typed, Turn, answeredBy, unsealedBy, Names, InStage2}
+use Rattle.laws_exchange.specs.Opens.{outcome}
+use Rattle.laws_exchange.specs.Exchange.{Typed, Turn, answeredBy, unsealedBy, Names, opened, InStage2}
 use Rattle.laws_exchange.proofs.Seals.{gives, is-after}
-use Rattle.laws_exchange.proofs.Exchanges.{opens2, in-stage2, names}
+use Rattle.laws_exchange.proofs.Exchanges.{opens2, listed2, names}
 use Rattle.laws_two_runs.specs.Runs.{nextAt}
 use Rattle.laws_two_runs.proofs.Reached.{fresh, initCommand, initialisedCard, init-reaches, inChannel, session-keyed, stage2-reached, reached-sound}
-use Rattle.claims.specs.Rows.{Entry, after, Entries, Initialises}
+use Rattle.claims.specs.Rows.{Entry, after, RightThen, Initialises}
 use Rattle.claims.specs.RowsMet.{RowsMet}
 use Rattle.claims.proofs.InitSays.{init-initialises}
 
@@ -79,7 +80,7 @@ record Ready (c : Card) : Type 0 where
 
 module _ (c : Card) (r : Ready c) (e : List ℕ) (bytes : Bytes e) (fits : length e ≤ 223) where
   abbrev verifies : Names c (0x80 ∷ rowOf ins.Verify .byte ∷ 0 ∷ 0 ∷ [])
-  verifies = names c ins.Verify command.Verify 0 0 (r .sound) (r .stage) verify-sealed verify-listed
+  verifies = names c ins.Verify 0 0 (r .sound) (r .stage) verify-sealed
 
   abbrev turn : Turn
   turn = turnOf (rowOf ins.Verify .byte) e verify-bytes bytes fits
@@ -91,7 +92,7 @@ module _ (c : Card) (r : Ready c) (e : List ℕ) (bytes : Bytes e) (fits : lengt
       supply = [];
       room = 258;
       enough = omega arith;
-      opens = opens2 c turn verifies (r .sound) (r .typed) (r .stage);
+      opens = opens2 c turn verifies (r .sound) (r .typed) (r .stage) command.Verify verify-listed;
     };
     verify = refl;
   }
@@ -100,9 +101,9 @@ module _ (c : Card) (r : Ready c) (e : List ℕ) (bytes : Bytes e) (fits : lengt
   answered-same =
       sym (ap (λ (o : Out). answerOut c (o .bytes) [] 258 .card) (gives (sessionOf (c .channel)) turn (r .typed .keyed)))
 
-  done : InStage2 c turn verifies
+  done : InStage2 c turn (outcome command.Verify (opened c turn) e [])
   unfolding ruleOf suits
-  done = in-stage2 c turn verifies (r .sound) (r .typed) (r .stage) (λ v. refl)
+  done = listed2 c turn verifies (r .sound) (r .typed) (r .stage) command.Verify verify-listed (λ v. refl)
 
   ready-after : Ready (after c entry)
   ready-after = record {
@@ -126,7 +127,7 @@ pin-bytes c r =
     (pins-rules (c .pins) (parts-rules c (is-after c (r .sound) (λ z. omega (arith, r .stage)) .parts) .pins) .pin)
 
 entries : (c : Card) (e : List ℕ) → isSound c ≡ true → Typed c → c .channel .stage ≡ 2 → c .pins .«pin_tries» ≡ 3 → Bytes e → length e ≤ 223
-    → (e ≡ c .pins .pin → ⊥) → Entries c
+    → (e ≡ c .pins .pin → ⊥) → RightThen c
 entries c e sound w in2 three bytes fits wrong =
     let r0 : Ready c = record { sound = sound; typed = w; stage = in2 } in
     let c1 = after c (entry c r0 e bytes fits) in
@@ -136,16 +137,14 @@ entries c e sound w in2 three bytes fits wrong =
     let c3 = after c2 (entry c2 r2 e bytes fits) in
     let r3 : Ready c3 = ready-after c2 r2 e bytes fits in
     record {
-      sound = sound;
-      stage = in2;
-      tries = three;
-      first = entry c r0 e bytes fits;
-      second = entry c1 r1 e bytes fits;
-      third = entry c2 r2 e bytes fits;
+      three = record {
+        one = record { sound = sound; stage = in2; tries = three; first = entry c r0 e bytes fits; wrong1 = wrong };
+        second = entry c1 r1 e bytes fits;
+        third = entry c2 r2 e bytes fits;
+        wrong2 = wrong;
+        wrong3 = wrong;
+      };
       fourth = entry c3 r3 (c .pins .pin) (pin-bytes c r0) (omega (arith, w .shaped .pin));
-      wrong1 = wrong;
-      wrong2 = wrong;
-      wrong3 = wrong;
       right = refl;
     }
 
@@ -164,11 +163,11 @@ initialises = record {
   done = ap isInitialised init-is;
 }
 
-abbrev opened : Card
-opened = inChannel 2 (stage2-reached .iv) 0 noKeys
+abbrev statusCard : Card
+statusCard = inChannel 2 (stage2-reached .iv) 0 noKeys
 
-opened-typed : Typed opened
-opened-typed = record {
+status-typed : Typed statusCard
+status-typed = record {
   shaped = record {
     uid = refl;
     «public_key» = refl;
@@ -189,13 +188,12 @@ opened-typed = record {
 abbrev statusTurn : Turn
 statusTurn = turnOf 0xF2 [] (header-bytes 0xF2 refl) tt (omega arith)
 
-reads : unsealedBy opened statusTurn .bytes
+reads : unsealedBy statusCard statusTurn .bytes
     ≡ 0xA3 ∷ 0x09 ∷ 0x02 ∷ 0x01 ∷ 0x03 ∷ 0x02 ∷ 0x01 ∷ 0x05 ∷ 0x01 ∷ 0x01 ∷ 0x00 ∷ 0x90 ∷ 0x00 ∷ []
 unfolding ruleOf suits statusReply
 reads =
-    in-stage2 opened statusTurn
-    (names opened ins.Status (command.Status status.Application) 0 0 (reached-sound (stage2-reached .iv) .0) refl refl refl)
-    (reached-sound (stage2-reached .iv) .0) opened-typed refl (λ v. refl) .turn .plain
+    listed2 statusCard statusTurn (names statusCard ins.Status 0 0 (reached-sound (stage2-reached .iv) .0) refl refl)
+    (reached-sound (stage2-reached .iv) .0) status-typed refl (command.Status status.Application) refl (λ v. refl) .turn .plain
 
 pub rows-met : RowsMet
 rows-met = record {

@@ -1,8 +1,10 @@
--- Demand 3: the theorem of crate `laws_two_runs`, and cards and lists of calls that show that it is not empty.
+-- Demand 3: the theorem of crate `laws_two_runs`, what it says of comparisons and of cards that agree, and cards and lists of calls that show that it
+-- is not empty.
 -- Assumes nothing.
-use mathlib.Core.Path.{_≡_, refl, ap, ap₂, _∙_}
-use mathlib.Core.Bool.{true, false}
+use mathlib.Core.Path.{_≡_, refl, ap, ap₂, _∙_, subst}
+use mathlib.Core.Bool.{Bool, true, false}
 use mathlib.Core.List.{List, [], _∷_}
+use mathlib.Core.Logic.{_↔_}
 use mathlib.Core.Option.{Option, some}
 use Prim.Native.Nat.{ℕ}
 use native.Mathlib.Omega.{arith}
@@ -13,17 +15,22 @@ use Rattle.card.specs.declared.Card.{Card}
 use Rattle.card.specs.State.{zeros, noKeys, withPins, withSecrets}
 use Rattle.card.specs.Slots.{allOf, someOf}
 use Rattle.card.specs.Sound.{isSound}
-use Rattle.rules.specs.Commands.{keyWith}
-use Rattle.rules.specs.Rules.{pin, puk}
+use Rattle.rules.specs.Commands.{verifyReply, unblockReply, keyWith}
+use Rattle.rules.specs.Rules.{Secret, pin, puk}
 use Rattle.rules.specs.Comparison.{Comparison}
-use Rattle.laws_two_runs.specs.Runs.{Call}
+use Rattle.laws_two_runs.specs.Compared.{replyBy}
+use Rattle.laws_two_runs.specs.Runs.{Call, Agree}
+use Rattle.laws_two_runs.proofs.Erasure.{erase-agree, agree-swap}
+use Rattle.laws_two_runs.proofs.Shown.{shows}
+use Rattle.laws_two_runs.proofs.Comparisons.{comparisons}
+use Rattle.laws_two_runs.proofs.Compared.{none-made, one-made, one-answers}
 use Rattle.laws_two_runs.proofs.TwoRuns.{two-runs}
 use Rattle.laws_two_runs.proofs.Sealed.{InStage2}
 use Rattle.laws_two_runs.proofs.Meets.{secrets-meet, Met, by, unblock-meets}
 use Rattle.laws_two_runs.proofs.WrongEntries.{verifyCall, verifyCalls, AllCompare}
 use Rattle.laws_two_runs.proofs.Reached.{Reachable, initialisedCard, initialised-sound, initialised-reached, stage1-reached, inChannel, session-keyed, stage2-reached, kind1-reached, kind2-reached, reached-sound}
 use Rattle.laws_two_runs.proofs.Examples.{digits, card000000, card111111, cardOtherPuk, wrong-entry, right-entry, threeTimes, three-wrong}
-use Rattle.claims.specs.Secrecy.{Reaches, comparisonsOf, Meets, Secrecy}
+use Rattle.claims.specs.Secrecy.{SameReply, Reaches, comparisonsOf, Meets, Secrecy}
 
 -- ---- what is reached from FRESH
 reaches : (c : Card) (n k : ℕ) → Reachable c → isSound c ≡ true → c .initialised ≡ 1 → c .channel .stage ≡ n → c .keys .kind ≡ k
@@ -105,9 +112,30 @@ right-puk = one-call blocked (withSecrets (digits 6 0x31) (digits 12 0x30) block
     (bytes-replicate 18 0x30 (omega arith)) (omega arith) (omega arith) refl refl refl true refl refl)
     (other-pin (blocked .pins) (withSecrets (digits 6 0x31) (digits 12 0x30) blocked .pins) refl refl)
 
+-- ---- cards that agree, and the replies by how a comparison came out
+agreement : (c d : Card) → Agree c d ↔ ((p : List ℕ) × ((q : List ℕ) × (withSecrets p q c ≡ d)))
+agreement c d = (
+  λ a. (d .pins .pin, (d .pins .puk, agree-swap c d a)),
+  λ h. subst (λ (x : Card). Agree c x) (h .1 .1) (erase-agree c (withSecrets (h .0) (h .1 .0) c) refl),
+)
+
+blind : (of : Secret) (right : Bool) (p q : List ℕ) (c : Card) (d : List ℕ) → SameReply (replyBy of right c d) (replyBy of right (withSecrets p q c) d)
+unfolding verifyReply unblockReply
+blind pin true p q c d = record { status = refl; response = refl; card = erase-agree _ _ refl }
+blind pin false p q c d = record { status = refl; response = refl; card = erase-agree _ _ refl }
+blind puk true p q c d = record { status = refl; response = refl; card = erase-agree _ _ refl }
+blind puk false p q c d = record { status = refl; response = refl; card = erase-agree _ _ refl }
+
 pub secrecy : Secrecy
 secrecy = record {
   runs = two-runs;
+  shows = shows;
+  agreement = agreement;
+  comparisons = comparisons;
+  nonemade = λ c d k sc sd a e. let s = none-made c d k sc sd a e in (s .seen, s .next);
+  onemade = one-made;
+  onetold = one-answers;
+  blind = blind;
   digits = secrets-meet;
   stage0 = reaches initialisedCard 0 0 initialised-reached initialised-sound refl refl refl;
   stage1 = reaches (inChannel 1 (zeros 16) 0 noKeys) 1 0 stage1-reached stage1-sound refl refl refl;

@@ -13,12 +13,8 @@ use Rattle.channel_rules.specs.Message.{Keyed, withIv, responseHead, ciphertext
 use Rattle.channel_rules.specs.Terminal.{Out, sealedResponse, unsealOut}
 use Rattle.channel_rules.proofs.Trips.{short, lr-counts, unseal-seals}
 use Rattle.channel_rules.proofs.OtherHeads.{no-room, other-not-genuine}
-use Rattle.template_walk.specs.declared.Fault.the-variants as fault
-use Rattle.template_walk.specs.declared.Walked.{Walked}
-use Rattle.template_walk.specs.declared.Walked.the-variants as walked
-use Rattle.template_walk.specs.Walk.{walkOf, WalkOut, report, WALK}
+use Rattle.template_walk.specs.Walk.{walkOf, report, WALK}
 use Rattle.template_walk.proofs.Joining.{walk-sum}
-use Rattle.template_answers.proofs.Walks.{walk-pre-initialised, walk-application-info, walk-status, walk-signature}
 use Rattle.card.specs.declared.Card.{Card}
 use Rattle.card.specs.State.{resetOf}
 use Rattle.card.specs.Sound.{isSound}
@@ -30,6 +26,8 @@ use Rattle.record_rules.specs.Answers.{writeRefusal}
 use Rattle.record_rules.proofs.ReadFacts.{read-write, write-read, read-sound, record-length}
 use Rattle.laws_engine.proofs.Sound.{answer-sound}
 use Rattle.laws_engine.proofs.Rooms.{answer-most, ask-most}
+use Rattle.laws_walk.proofs.Walking.{counts-fields, walk-encodes}
+use Rattle.laws_walk.proofs.Answers.{encodes-pre-initialised, encodes-application-info, encodes-status, encodes-signature}
 use Rattle.laws_engine.proofs.Agreement.{kind-is, ask-data, ask-empty, unread-taken, unread-same, read-refused, read-taken}
 use Rattle.claims.specs.Trips.{oldHead, oldResponse, zeroSession, Trips}
 use Rattle.claims.proofs.Refusals.{refusals}
@@ -87,14 +85,9 @@ written-sound c room h = go (isSound c) refl
     go false e = absurd (omega (arith, refusals .write c room .unsound .1 e))
 
 -- ---- WALK
-counted : (w : Walked) (n : ℕ) → report w ≡ record { refusal = 0; count = n } → w ≡ walked.Fields n
-counted (walked.Fields m) n e = ap (λ (r : WalkOut). walked.Fields (r .count)) e
-counted (walked.Refused fault.Malformed) n e = absurd (omega (arith, ap (λ (r : WalkOut). r .refusal) e))
-counted (walked.Refused fault.TooDeep) n e = absurd (omega (arith, ap (λ (r : WalkOut). r .refusal) e))
-
 joined : (s t : List ℕ) (m n : ℕ) → WALK s ≡ record { refusal = 0; count = m } → WALK t ≡ record { refusal = 0; count = n }
     → WALK (s ++ t) ≡ record { refusal = 0; count = m + n }
-joined s t m n e f = ap report (walk-sum s t m n (counted (walkOf s) m e) (counted (walkOf t) n f))
+joined s t m n e f = ap report (walk-sum s t m n (counts-fields (walkOf s) m e) (counts-fields (walkOf t) n f))
 
 pub trips : Trips
 trips = record {
@@ -114,10 +107,10 @@ trips = record {
   };
   walks = record {
     joined = joined;
-    preinitialised = λ key k. ap report (walk-pre-initialised key k);
-    application = λ uid key free keyUid u k x. ap report (walk-application-info uid key free keyUid u k x);
-    status = λ pin puk key. ap report (walk-status pin puk key);
-    signature = λ key r s k m n. ap report (walk-signature key r s k m n);
+    preinitialised = λ key k. walk-encodes (encodes-pre-initialised key k);
+    application = λ uid key free keyUid u k x. walk-encodes (encodes-application-info uid key free keyUid u k x);
+    status = λ pin puk key. walk-encodes (encodes-status pin puk key);
+    signature = λ key r s k m n. walk-encodes (encodes-signature key r s k m n);
   };
   agree = λ c cmd asks answers e a b. record {
     kind = kind-is c cmd asks e a;

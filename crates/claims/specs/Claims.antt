@@ -1,28 +1,34 @@
--- The claims, to be read first: what RULES 11 demands of the card, the terminal's end and the stored record, as one statement. Each field names a
--- statement of this crate (Rows, RowsMet, WrongEngines, Refusals, Ciphers, Trips, Verified, Secrecy) or of crate `laws_exchange`; those cite nothing but
--- definitions, and the code's contracts cite the same definitions. The proof is `claims` of proofs/Claims.
+-- The claims, to be read first: what RULES 11 demands of the card, the terminal's end and the stored record, as one statement, in the order of the
+-- three demands. Each field names a statement of this crate, in the file of its name, or of crate `laws_exchange`; those cite nothing but
+-- definitions and contracts, and the code's contracts cite the same definitions. The proof is `claims` of proofs/Claims.
 use Rattle.laws_exchange.specs.Exchange.{Together}
+use Rattle.claims.specs.Refusals.{Refusals}
+use Rattle.claims.specs.WalkReads.{WalkReads}
+use Rattle.claims.specs.Ciphers.{Ciphers}
+use Rattle.claims.specs.Templates.{Templates}
+use Rattle.claims.specs.Trips.{Trips}
+use Rattle.claims.specs.Verified.{Verified}
 use Rattle.claims.specs.Rows.{Rows}
 use Rattle.claims.specs.RowsMet.{RowsMet}
 use Rattle.claims.specs.WrongEngines.{WrongEngines}
-use Rattle.claims.specs.Refusals.{Refusals}
-use Rattle.claims.specs.Ciphers.{Ciphers}
-use Rattle.claims.specs.Trips.{Trips}
-use Rattle.claims.specs.Verified.{Verified}
 use Rattle.claims.specs.Secrecy.{Secrecy}
 
 pub record Claims : Type 0 where
   -- demand 1 (RULES 11.1): refusals, exactly when, and what a refusal leaves
   pub refusals : Refusals
-  -- demand 2 (RULES 11.2): AES and CBC; round trips, agreement of ASK and ANSWER, soundness, RESET twice; terminal and card together
+  -- WALK by what it reads (RULES 9.8): what it takes, and exactly when it refuses
+  pub walkreads : WalkReads
+  -- demand 2 (RULES 11.2): AES, CBC and padding; lengths of fields and DER integers; round trips, agreement of ASK and ANSWER, soundness, RESET
+  -- twice; terminal and card together
   pub ciphers : Ciphers
+  pub templates : Templates
   pub trips : Trips
   pub together : Together
   -- verification ends with the channel (RULES 6.2)
   pub verified : Verified
-  -- demand 3 (RULES 11.3): the two runs
-  pub secrecy : Secrecy
   -- the rows to settle and that what they suppose is met (RULES 11.4); and the wrong engines that the rules shut out (RULES 11.5)
   pub rows : Rows
   pub rowsmet : RowsMet
   pub wrongengines : WrongEngines
+  -- demand 3 (RULES 11.3): the two runs
+  pub secrecy : Secrecy

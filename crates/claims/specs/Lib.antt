@@ -1,9 +1,11 @@
+pub mod Refusals
+pub mod WalkReads
+pub mod Ciphers
+pub mod Templates
+pub mod Trips
+pub mod Verified
 pub mod Rows
 pub mod RowsMet
 pub mod WrongEngines
-pub mod Refusals
-pub mod Ciphers
-pub mod Trips
-pub mod Verified
 pub mod Secrecy
 pub mod Claims

@@ -1,16 +1,19 @@
--- Demand 1 (RULES 11.1): which refusal each operation gives and exactly when (of WALK: which; when is its definition, RULES 9.3), and that a
--- refusal hands back what it was given, of READ FRESH of zeros, and writes nothing (RULES 3.2). What an operation gives beside refusals is its
--- definition. Every length and room is in bytes.
+-- Demand 1 (RULES 11.1): which refusal each operation gives and exactly when (of WALK: which; when is in WalkReads); and what a refusal
+-- leaves (RULES 3.2), `nothing`: for every report, and every buffer before and after, that the contract of the code allows, the card or the session
+-- after is the one before, of READ FRESH of zeros, the buffer after is the buffer before, and the count and the kind are 0. What an operation
+-- gives beside refusals is its definition. Every length and room is in bytes.
 use Prim.Native.Nat.{ℕ, _≤_, _<_}
 use mathlib.Core.Path.{_≡_}
 use mathlib.Core.Bool.{true, false}
-use mathlib.Core.List.{List, []}
+use mathlib.Core.List.{List}
 use mathlib.Core.Logic.{_↔_, _⊎_}
 use lib.ListN.{length}
 use Rattle.octets.specs.Bytes.{Bytes}
 use Rattle.channel_rules.specs.declared.Session.{Session}
 use Rattle.channel_rules.specs.Message.{Keyed}
 use Rattle.channel_rules.specs.Terminal.{sealOut, sealedResponse, unsealOut}
+use Rattle.channel_terminal.specs.declared.Outcome.{Outcome}
+use Rattle.channel_terminal.specs.Did.{Did}
 use Rattle.template_walk.specs.Walk.{WALK}
 use Rattle.card.specs.declared.Card.{Card}
 use Rattle.card.specs.State.{zeros, freshOf}
@@ -19,17 +22,23 @@ use Rattle.card.specs.Shape.{Shaped}
 use Rattle.sound.specs.Reset.{resetAnswer}
 use Rattle.record_rules.specs.Fields.{recordOf}
 use Rattle.record_rules.specs.Lengths.{writeRoom}
-use Rattle.record_rules.specs.Answers.{writeRefusal, writeBytes, readAnswer}
+use Rattle.record_rules.specs.Answers.{writeRefusal, readAnswer}
+use Rattle.record_write.specs.declared.Written.{Written}
+use Rattle.record_write.specs.Wrote.{WroteRecord}
+use Rattle.rules.specs.declared.Asked.{Asked}
+use Rattle.rules.specs.declared.Answered.{Answered}
 use Rattle.rules.specs.Supplies.{suits}
 use Rattle.rules.specs.Steps.{decide}
 use Rattle.rules.specs.Engine.{askOut, answerOut}
+use Rattle.rules.specs.Reports.{AskDid, AnswerDid}
 
 -- ---- ASK: 1, 2
 pub record AskRefuses (c : Card) (cmd : List ℕ) (room : ℕ) : Type 0 where
   pub unsound : askOut c cmd room .refusal ≡ 1 ↔ isSound c ≡ false
   pub small : askOut c cmd room .refusal ≡ 2 ↔ (isSound c ≡ true) × (room < 255)
   pub others : askOut c cmd room .refusal ≤ 2
-  pub nothing : (askOut c cmd room .refusal ≡ 0 → ⊥) → (askOut c cmd room .kind ≡ 0) × (askOut c cmd room .bytes ≡ [])
+  pub nothing : (before after : List ℕ) (r : Asked) → AskDid (askOut c cmd (length before)) r before after → (r .refusal ≡ 0 → ⊥)
+      → (r .kind ≡ 0) × (r .count ≡ 0) × (after ≡ before)
 
 -- ---- ANSWER: 1, 2, 3
 pub record AnswerRefuses (c : Card) (cmd supply : List ℕ) (room : ℕ) : Type 0 where
@@ -38,8 +47,8 @@ pub record AnswerRefuses (c : Card) (cmd supply : List ℕ) (room : ℕ) : Type 
   pub supplied : answerOut c cmd supply room .refusal ≡ 3
       ↔ (isSound c ≡ true) × (258 ≤ room) × (suits (decide c cmd .supply) supply ≡ false)
   pub others : answerOut c cmd supply room .refusal ≤ 3
-  pub nothing : (answerOut c cmd supply room .refusal ≡ 0 → ⊥)
-      → (answerOut c cmd supply room .card ≡ c) × (answerOut c cmd supply room .bytes ≡ [])
+  pub nothing : (before after : List ℕ) (r : Answered) → AnswerDid (answerOut c cmd supply (length before)) r before after
+      → (r .refusal ≡ 0 → ⊥) → (r .card ≡ c) × (r .count ≡ 0) × (after ≡ before)
 
 -- ---- RESET: 1
 pub record ResetRefuses (c : Card) : Type 0 where
@@ -53,7 +62,8 @@ pub record WriteRefuses (c : Card) (room : ℕ) : Type 0 where
   pub unsound : writeRefusal c room ≡ 1 ↔ isSound c ≡ false
   pub small : writeRefusal c room ≡ 2 ↔ (isSound c ≡ true) × (room < writeRoom)
   pub others : writeRefusal c room ≤ 2
-  pub nothing : (writeRefusal c room ≡ 0 → ⊥) → writeBytes c room ≡ []
+  pub nothing : (before after : List ℕ) (r : Written) → WroteRecord c r before after → (r .refusal ≡ 0 → ⊥)
+      → (r .count ≡ 0) × (after ≡ before)
 
 -- ---- READ: 8. What is taken is the record of a sound card, what is refused is that of none
 abbrev pub IsRecord : List ℕ → Type 0
@@ -63,14 +73,15 @@ pub record ReadRefuses (s : List ℕ) : Type 0 where
   pub taken : readAnswer s .refusal ≡ 0 ↔ IsRecord s
   pub refused : readAnswer s .refusal ≡ 8 ↔ (IsRecord s → ⊥)
   pub others : (readAnswer s .refusal ≡ 0) ⊎ (readAnswer s .refusal ≡ 8)
-  pub nothing : readAnswer s .refusal ≡ 8 → readAnswer s .card ≡ freshOf (zeros 16) (zeros 65)
+  pub nothing : (readAnswer s .refusal ≡ 0 → ⊥) → readAnswer s .card ≡ freshOf (zeros 16) (zeros 65)
 
 -- ---- SEAL: 2, 6
 pub record SealRefuses (s : Session) (header d : List ℕ) (room : ℕ) : Type 0 where
   pub small : sealOut s header d room .refusal ≡ 2 ↔ room < 261
   pub long : sealOut s header d room .refusal ≡ 6 ↔ (261 ≤ room) × (223 < length d)
   pub taken : sealOut s header d room .refusal ≡ 0 ↔ (261 ≤ room) × (length d ≤ 223)
-  pub nothing : (sealOut s header d room .refusal ≡ 0 → ⊥) → (sealOut s header d room .session ≡ s) × (sealOut s header d room .bytes ≡ [])
+  pub nothing : (before after : List ℕ) (r : Outcome) → Did (sealOut s header d (length before)) r before after → (r .refusal ≡ 0 → ⊥)
+      → (r .session ≡ s) × (r .count ≡ 0) × (after ≡ before)
 
 -- ---- UNSEAL: 2, 7. Genuine is what sealing some 2 to 223 bytes, data and status word, under this session gives
 abbrev pub Genuine : Session → List ℕ → Type 0
@@ -82,10 +93,10 @@ pub record UnsealRefuses (s : Session) (response : List ℕ) (room : ℕ) : Type
   pub forged : Keyed s → Bytes response → unsealOut s response room .refusal ≡ 7 ↔ (223 ≤ room) × (Genuine s response → ⊥)
   pub others : (unsealOut s response room .refusal ≡ 0)
       ⊎ ((unsealOut s response room .refusal ≡ 2) ⊎ (unsealOut s response room .refusal ≡ 7))
-  pub nothing : (unsealOut s response room .refusal ≡ 0 → ⊥)
-      → (unsealOut s response room .session ≡ s) × (unsealOut s response room .bytes ≡ [])
+  pub nothing : (before after : List ℕ) (r : Outcome) → Did (unsealOut s response (length before)) r before after → (r .refusal ≡ 0 → ⊥)
+      → (r .session ≡ s) × (r .count ≡ 0) × (after ≡ before)
 
--- ---- WALK: 4, 5
+-- ---- WALK: 4, 5; exactly when each, WalkReads says
 pub record WalkRefuses (s : List ℕ) : Type 0 where
   pub numbers : (WALK s .refusal ≡ 0) ⊎ ((WALK s .refusal ≡ 4) ⊎ (WALK s .refusal ≡ 5))
   pub nothing : (WALK s .refusal ≡ 0 → ⊥) → WALK s .count ≡ 0

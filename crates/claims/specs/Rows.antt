@@ -50,20 +50,31 @@ entered c v = v .sent .opens .arrived .data′
 abbrev pub after : (c : Card) → Entry c → Card
 after c v = next c (v .sent)
 
--- a sound card in stage 2 with three tries, and four entries in a row: three that are not its PIN, then its PIN. Each is sent to
--- the card that ANSWER to the one before leaves
-pub record Entries (c : Card) : Type 0 where
+-- a sound card in stage 2 with three tries, and one entry that is not its PIN
+pub record OneWrong (c : Card) : Type 0 where
   pub sound : isSound c ≡ true
   pub stage : c .channel .stage ≡ 2
   pub tries : c .pins .«pin_tries» ≡ 3
   pub first : Entry c
-  pub second : Entry (after c first)
-  pub third : Entry (after (after c first) second)
-  pub fourth : Entry (after (after (after c first) second) third)
   pub wrong1 : entered c first ≡ c .pins .pin → ⊥
-  pub wrong2 : entered (after c first) second ≡ c .pins .pin → ⊥
-  pub wrong3 : entered (after (after c first) second) third ≡ c .pins .pin → ⊥
-  pub right : entered (after (after (after c first) second) third) fourth ≡ c .pins .pin
+
+-- such an entry, and two more. Each is sent to the card that ANSWER to the one before leaves
+pub record ThreeWrong (c : Card) : Type 0 where
+  pub one : OneWrong c
+  pub second : Entry (after c (one .first))
+  pub third : Entry (after (after c (one .first)) second)
+  pub wrong2 : entered (after c (one .first)) second ≡ c .pins .pin → ⊥
+  pub wrong3 : entered (after (after c (one .first)) second) third ≡ c .pins .pin → ⊥
+
+-- the card that three of them leave
+abbrev pub spent : (c : Card) → ThreeWrong c → Card
+spent c x = after (after (after c (x .one .first)) (x .second)) (x .third)
+
+-- three that are not its PIN, and then its PIN
+pub record RightThen (c : Card) : Type 0 where
+  pub three : ThreeWrong c
+  pub fourth : Entry (spent c three)
+  pub right : entered (spent c three) fourth ≡ c .pins .pin
 
 -- ---- INIT: a call that makes an initialised card of a sound one that was not
 pub record Initialises (c : Card) : Type 0 where
@@ -95,11 +106,10 @@ pub record Rows : Type 0 where
   pub padblock : (s : List ℕ) → length s ≡ 16 → length (pad s) ≡ 32
   pub unpadzeros : unpad (zeros 16) ≡ none
   -- first wrong PIN; third wrong PIN; right PIN then
-  pub firstwrong : (c : Card) (x : Entries c) → Gives c (x .first .sent) (0x63 ∷ 0xC2 ∷ [])
-  pub thirdwrong : (c : Card) (x : Entries c)
-      → Gives (after (after c (x .first)) (x .second)) (x .third .sent) (0x63 ∷ 0xC0 ∷ [])
-  pub rightthen : (c : Card) (x : Entries c)
-      → Gives (after (after (after c (x .first)) (x .second)) (x .third)) (x .fourth .sent) (0x63 ∷ 0xC0 ∷ [])
+  pub firstwrong : (c : Card) (x : OneWrong c) → Gives c (x .first .sent) (0x63 ∷ 0xC2 ∷ [])
+  pub thirdwrong : (c : Card) (x : ThreeWrong c)
+      → Gives (after (after c (x .one .first)) (x .second)) (x .third .sent) (0x63 ∷ 0xC0 ∷ [])
+  pub rightthen : (c : Card) (x : RightThen c) → Gives (spent c (x .three)) (x .fourth .sent) (0x63 ∷ 0xC0 ∷ [])
   -- 80 F2 00 00 on an initialised card in stage 0, plain
   pub barestatus : (c : Card) (supply : List ℕ) (room : ℕ) → isSound c ≡ true → isInitialised c ≡ true → c .channel .stage ≡ 0 → 258 ≤ room
       → (answerOut c (0x80 ∷ 0xF2 ∷ 0 ∷ 0 ∷ []) supply room .refusal ≡ 0)

@@ -3,14 +3,14 @@
 // Proved: refusal, kind, count, next card and every byte of the buffer are the rulebook's, for any card, command, supply and buffer.
 ghost use lib.ListN.{length};
 ghost use Rattle.rules.specs.Engine.{askOut, answerOut};
-ghost use Rattle.engine_responses.specs.Did.{AskDid, AnswerDid};
+ghost use Rattle.rules.specs.Reports.{AskDid, AnswerDid};
 use card::Card;
-use engine_responses::Answered;
-use engine_responses::Asked;
 use refusals::ANSWER_ROOM_BYTES;
 use refusals::ASK_ROOM_BYTES;
 use refusals::REFUSAL_ROOM;
 use refusals::REFUSAL_UNSOUND;
+use rules::Answered;
+use rules::Asked;
 
 // ANSWER (RULES 3.6): response data then status word from the buffer's start, and the next card.
 pub fn answer(card: Card, cmd: &[u8], supply: &[u8], buf: &mut [u8]) -> Answered

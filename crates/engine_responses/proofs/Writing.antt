@@ -4,21 +4,21 @@ use mathlib.Core.Path.{_≡_, refl, sym, ap, subst, _∙_}
 use mathlib.Core.Bool.{Bool, true, false, _&&_}
 use mathlib.Core.List.{List, [], _∷_, _++_}
 use Prim.Native.Nat.{ℕ, _+_, _/_, _%_}
-use native.Mathlib.Omega.{arith}
 use lib.Dec.{eqb}
 use lib.ListN.{length, drop, length-append}
 use lib.Seq.{drop-drop}
-use Rattle.octets.specs.Bytes.{overwrite}
-use Rattle.octets.proofs.Lists.{overwrite-behind}
+use Rattle.octets.specs.Bytes.{overwrite, written}
+use Rattle.octets.proofs.Lists.{overwrite-behind, overwrite-start}
 use Rattle.channel_rules.specs.declared.Session.{Session}
 use Rattle.channel_seal.specs.declared.Response.{Response}
 use Rattle.channel_seal.specs.Promise.{ResponseSealed}
 use Rattle.card.specs.declared.Card.{Card}
 use Rattle.rules.specs.Words.{Reply}
 use Rattle.rules.specs.Channel.{sessionOf, withMac, plainText, plainly, sealed, tell}
+use Rattle.rules.specs.declared.Answered.{Answered}
+use Rattle.rules.specs.Code.{replyWith}
 use Rattle.rules.specs.Engine.{AnswerOut, answered}
-use Rattle.engine_responses.specs.declared.Answered.{Answered}
-use Rattle.engine_responses.specs.Did.{over, AnswerDid, replyWith}
+use Rattle.rules.specs.Reports.{AnswerDid}
 
 -- ---- another name for what is answered
 pub answer-as : (o o′ : AnswerOut) (r : Answered) (b a : List ℕ) → o′ ≡ o → AnswerDid o r b a → AnswerDid o′ r b a
@@ -34,15 +34,9 @@ unfolding tell
 tell-plain over r e = rw (e)
 
 -- ---- bytes in the buffer
-pub put-first : (b x : List ℕ) → overwrite b 0 x ≡ over x b
-put-first b x = ap (λ (k : ℕ). x ++ drop k b) none-before
-  where
-    none-before : 0 + length x ≡ length x
-    none-before = omega arith
-
-pub put-behind : (b x t : List ℕ) → overwrite (overwrite b 0 x) (length x) t ≡ over (x ++ t) b
+pub put-behind : (b x t : List ℕ) → overwrite (overwrite b 0 x) (length x) t ≡ written (x ++ t) b
 put-behind b x t =
-    ap (λ (y : List ℕ). overwrite y (length x) t) (put-first b x)
+    ap (λ (y : List ℕ). overwrite y (length x) t) (overwrite-start b x)
     ∙ overwrite-behind x (drop (length x) b) t (length x) refl
     ∙ ap (λ (y : List ℕ). (x ++ t) ++ y) (drop-drop (length t) (length x) b ∙ ap (λ (k : ℕ). drop k b) (sym (length-append x t)))
 
@@ -55,7 +49,7 @@ module _ (w : ℕ) (x : List ℕ) (c : Card) (sw1 sw2 : ℕ) (high : sw1 ≡ w /
       → AnswerDid (answered (plainly (replyWith w x c))) (record { refusal = 0; count = length x + 2; card = c }) b a
   did-plainly b m a e f = record {
     told = ap (λ (n : ℕ). record { refusal = 0; count = n; card = c }) (sym (length-append x (sw1 ∷ sw2 ∷ [])) ∙ ap length text);
-    left = f ∙ ap (λ (y : List ℕ). overwrite y (length x) (sw1 ∷ sw2 ∷ [])) e ∙ put-behind b x (sw1 ∷ sw2 ∷ []) ∙ ap (λ (y : List ℕ). over y b) text;
+    left = f ∙ ap (λ (y : List ℕ). overwrite y (length x) (sw1 ∷ sw2 ∷ [])) e ∙ put-behind b x (sw1 ∷ sw2 ∷ []) ∙ ap (λ (y : List ℕ). written y b) text;
   }
 
   pub did-sealed : (s : Session) → s ≡ sessionOf (c .channel) → (t : Response) (b a : List ℕ) → ResponseSealed s (x ++ (sw1 ∷ sw2 ∷ [])) b t a

@@ -6,24 +6,10 @@ ghost use Prim.Native.Nat.{_≤_};
 ghost use lib.ListN.{length};
 ghost use Rattle.rules.specs.Channel.{plainly, sealed, tell};
 ghost use Rattle.rules.specs.Engine.{answered};
-ghost use Rattle.engine_responses.specs.Did.{AnswerDid, replyWith};
+ghost use Rattle.rules.specs.Code.{replyWith};
+ghost use Rattle.rules.specs.Reports.{AnswerDid};
 use card::Card;
-
-// What ASK answers: the refusal's number or 0, the kind of supply or 0, and how many bytes it wrote from the buffer's start.
-#[repr(C)]
-pub struct Asked {
-    pub refusal: u8,
-    pub kind: u8,
-    pub count: usize,
-}
-
-// What ANSWER answers: the refusal's number or 0, how many bytes it wrote from the buffer's start, and the next card.
-#[repr(C)]
-pub struct Answered {
-    pub refusal: u8,
-    pub count: usize,
-    pub card: Card,
-}
+use rules::Answered;
 
 // An answer in the clear: the response data, then the status word.
 fn tell_plainly(card: Card, status: u16, response: &[u8], buf: &mut [u8]) -> Answered

@@ -9,21 +9,21 @@ use borrow.Author.Tests.{ne-eqb}
 use lib.ListN.{length, take, drop, length-append, length-take, length-drop}
 use lib.Seq.{take-append-seam}
 use Rattle.octets.specs.Bytes.{overwrite}
+use Rattle.octets.proofs.Lists.{overwrite-start}
 use Rattle.card.specs.declared.Card.{Card}
 use Rattle.rules.specs.declared.Replied.{Replied}
+use Rattle.rules.specs.declared.Asked.{Asked}
+use Rattle.rules.specs.declared.Answered.{Answered}
 use Rattle.refusals.specs.Refusals.{wrongSupply}
 use Rattle.rules.specs.Words.{Reply, fails}
 use Rattle.rules.specs.Supplies.{suits}
 use Rattle.rules.specs.Channel.{tell}
 use Rattle.rules.specs.Steps.{replyOf, Decision, ends}
 use Rattle.rules.specs.Engine.{AskOut, askRefused, asked, AnswerOut, answerRefused, answered, withSupply}
-use Rattle.rules.specs.Code.{Replies}
+use Rattle.rules.specs.Reports.{AskDid, AnswerDid}
+use Rattle.rules.specs.Code.{replyWith, Replies}
 use Rattle.order.specs.declared.Way.{Way}
 use Rattle.order.specs.Routes.{Routes, RoutesIn}
-use Rattle.engine_responses.specs.declared.Answered.{Answered}
-use Rattle.engine_responses.specs.declared.Asked.{Asked}
-use Rattle.engine_responses.specs.Did.{AskDid, AnswerDid, replyWith}
-use Rattle.engine_responses.proofs.Writing.{put-first}
 
 -- ---- ANSWER of a sound card, with room enough
 module _ (c : Card) (want : Decision) (r : Way) (d s : List ℕ) (h : Routes want r d) where
@@ -93,4 +93,4 @@ data-short want r plain h g = omega (arith, h .ready g .long, length-take (r .co
 -- ---- ASK's data in the buffer
 pub did-ask : (d : List ℕ) (n : ℕ) (b a : List ℕ) (kind : ℕ) {told : ℕ} → length d ≡ n → a ≡ overwrite b 0 d → told ≡ kind
     → AskDid (record { refusal = 0; kind = kind; bytes = d }) (record { refusal = 0; kind = told; count = n }) b a
-did-ask d n b a kind e f k = record { told = cc; left = f ∙ put-first b d }
+did-ask d n b a kind e f k = record { told = cc; left = f ∙ overwrite-start b d }

@@ -10,13 +10,13 @@ ghost use Rattle.rules.specs.Supplies.{suits};
 ghost use Rattle.rules.specs.Channel.{tell};
 ghost use Rattle.rules.specs.Steps.{checksOf, supplyOf, replyOf, decide};
 ghost use Rattle.rules.specs.Engine.{asked, answered, withSupply};
+ghost use Rattle.rules.specs.Reports.{AskDid, AnswerDid};
 ghost use Rattle.command_table.specs.Fits.{PathsFit};
-ghost use Rattle.engine_responses.specs.Did.{AskDid, AnswerDid};
 use card::Card;
-use engine_responses::Answered;
-use engine_responses::Asked;
 use refusals::REFUSAL_NONE;
 use refusals::REFUSAL_SUPPLY;
+use rules::Answered;
+use rules::Asked;
 use rules::Command;
 use rules::Supply;
 

@@ -95,7 +95,7 @@ module _ (c : Card) (cmd : List ℕ) (in2 : c .channel .stage ≡ 2) where
   arrived-in2 x = subst ArrivedBy (x .there) arrived-by (x .over)
 
 -- ---- ANSWER to a command that arrives
-sealed-in-2 : (over : Bool) (r : Reply) → over ≡ true → r .card .channel .stage ≡ 2 → tell over r ≡ sealed r
+pub sealed-in-2 : (over : Bool) (r : Reply) → over ≡ true → r .card .channel .stage ≡ 2 → tell over r ≡ sealed r
 unfolding tell
 sealed-in-2 over r o h = rw (o, h)
 

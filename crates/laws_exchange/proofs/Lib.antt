@@ -1,4 +1,5 @@
 pub mod Outcomes
 pub mod Answers
 pub mod Seals
+pub mod Unlisted
 pub mod Exchanges

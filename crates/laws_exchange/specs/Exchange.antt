@@ -4,7 +4,8 @@ use Prim.Native.Nat.{ℕ, _≤_}
 use mathlib.Core.Path.{_≡_}
 use mathlib.Core.Bool.{true, false}
 use mathlib.Core.List.{List, [], _∷_, _++_}
-use mathlib.Core.Option.{some}
+use mathlib.Core.Logic.{_↔_}
+use mathlib.Core.Option.{Option, none, some}
 use lib.ListN.{length, take, drop}
 use Rattle.octets.specs.Bytes.{Bytes}
 use Rattle.channel_rules.specs.declared.Session.{Session}
@@ -23,7 +24,7 @@ use Rattle.rules.specs.Rows.{rowOf, isPlain}
 use Rattle.rules.specs.Channel.{sessionOf, withMac}
 use Rattle.rules.specs.Steps.{dataOf, claOf, insOf, p1Of, p2Of, nameOf, isInitialised, inStage, checksOf, supplyOf, replyOf}
 use Rattle.rules.specs.Engine.{AnswerOut, answerOut}
-use Rattle.laws_exchange.specs.Opens.{outcome}
+use Rattle.laws_exchange.specs.Opens.{PastStep4, replyTo}
 
 -- what the types say of every card that code holds
 pub record Typed (c : Card) : Type 0 where
@@ -65,14 +66,16 @@ pub record SealOpens (s : Session) (t : Turn) (sent : Out) : Type 0 where
   pub opens : openField s (commandHead (t .header)) (drop 5 (sent .bytes)) ≡ some (t .data′)
   pub same : withIv s (take 16 (drop 5 (sent .bytes))) ≡ sent .session
 
--- ---- the header names a command over the channel on this card
+-- ---- the header names an instruction over the channel on this card, in a stage that it goes in; P1 and P2 are any
 pub record Names (c : Card) (header : List ℕ) : Type 0 where
   pub instruction : Instruction
-  pub command : Command
   pub name : nameOf (isInitialised c) (claOf header) (insOf header) ≡ named.Known instruction
   pub sealed : isPlain instruction ≡ false
   pub stage : inStage instruction (c .channel .stage) ≡ true
-  pub listed : rowOf instruction .lists (p1Of header) (p2Of header) ≡ some command
+
+-- the command that its P1 and P2 name, if any
+abbrev pub listed : (c : Card) (header : List ℕ) → Names c header → Option Command
+listed c header n = rowOf (n .instruction) .lists (p1Of header) (p2Of header)
 
 -- the card after the opening: its IV is the MAC of the command
 abbrev pub opened : Card → Turn → Card
@@ -94,17 +97,26 @@ abbrev pub Exchange : Card → Turn → Reply → Type 0
 Exchange c t r = Exchanged r (sealedBy (sessionOf (c .channel)) t) (answeredBy c t) (unsealedBy c t)
 
 -- ---- the claims
--- in stage 2, any command over the channel: the reply is the one of its definition for the opened data, or the status word of its first
--- check that does not hold; stage 2 stays, and the card meets the types still, so that the next turn can begin
-pub record InStage2 (c : Card) (t : Turn) (n : Names c (t .header)) : Type 0 where
-  pub turn : Exchange c t (outcome (n .command) (opened c t) (t .data′) (t .supply))
+-- in stage 2 a command that opens, answered with the reply r: stage 2 stays, and the card meets the types still, so that the next turn can begin
+pub record InStage2 (c : Card) (t : Turn) (r : Reply) : Type 0 where
+  pub turn : Exchange c t r
   pub stays : answeredBy c t .card .channel .stage ≡ 2
   pub typed : Typed (answeredBy c t .card)
 
--- the supply is right, where the command's checks hold
+-- the reply is the one of the order of checks for the opened data: 6A86 where P1 and P2 are not listed; else the status word of the command's
+-- first check that does not hold, or what its definition replies
+abbrev pub replied : (c : Card) (t : Turn) → Names c (t .header) → Reply
+replied c t n = replyTo (listed c (t .header) n) (opened c t) (t .data′) (t .supply)
+
+-- the supply is right, where a command is listed and its checks hold
 abbrev pub Supplied : (c : Card) (t : Turn) → Names c (t .header) → Type 0
-Supplied c t n =
-    Hold (checksOf (n .command) (opened c t) (t .data′)) → suits (supplyOf (n .command)) (t .supply) ≡ true
+Supplied c t n = (k : Command) → listed c (t .header) n ≡ some k → Hold (checksOf k (opened c t) (t .data′))
+    → suits (supplyOf k) (t .supply) ≡ true
+
+-- P1 and P2 that are not listed: the terminal reads 6A86 and no more, and of the card nothing but the IV has changed
+pub record Unlisted (c : Card) (t : Turn) : Type 0 where
+  pub plain : unsealedBy c t .bytes ≡ 0x6A ∷ 0x86 ∷ []
+  pub card : answeredBy c t .card ≡ withMac c (unsealedBy c t .session .iv)
 
 -- MUTUAL in stage 1 with its 32 bytes: UNSEAL gives the random and 9000, and the card is in stage 2
 pub record ToStage2 (c : Card) (t : Turn) : Type 0 where
@@ -114,13 +126,19 @@ pub record ToStage2 (c : Card) (t : Turn) : Type 0 where
   pub typed : Typed (answeredBy c t .card)
 
 pub record Together : Type 0 where
-  -- SEAL's output opens, whatever the header
+  -- the field of SEAL's output opens, whatever the header; the command opens ..
   pub opens : (s : Session) (t : Turn) → Keyed s → SealOpens s t (sealedBy s t)
-  -- the headers that name a command in stage 2: class 80, the byte of any instruction over the channel, a P1 and a P2 that it lists
-  pub named : (c : Card) (i : Instruction) (k : Command) (p1 p2 : ℕ) → isSound c ≡ true → c .channel .stage ≡ 2 → isPlain i ≡ false
-      → rowOf i .lists p1 p2 ≡ some k → (n : Names c (0x80 ∷ rowOf i .byte ∷ p1 ∷ p2 ∷ [])) × (n .command ≡ k)
-  -- SEAL, ANSWER, UNSEAL: in stage 2, and MUTUAL from stage 1 to its success
+  -- ... on a card in stage 2 exactly where the header names an instruction over the channel
+  pub opensexactly : (c : Card) (t : Turn) → isSound c ≡ true → Typed c → c .channel .stage ≡ 2
+      → PastStep4 c (sealedBy (sessionOf (c .channel)) t .bytes) ↔ Names c (t .header)
+  -- such headers in stage 2: class 80, the byte of any instruction over the channel, and any P1 and P2
+  pub named : (c : Card) (i : Instruction) (p1 p2 : ℕ) → isSound c ≡ true → c .channel .stage ≡ 2 → isPlain i ≡ false
+      → (n : Names c (0x80 ∷ rowOf i .byte ∷ p1 ∷ p2 ∷ [])) × (listed c (0x80 ∷ rowOf i .byte ∷ p1 ∷ p2 ∷ []) n ≡ rowOf i .lists p1 p2)
+  -- SEAL, ANSWER, UNSEAL: in stage 2 every command that opens, among them those whose P1 and P2 are not listed; and MUTUAL from stage 1 to its
+  -- success
   pub answers : (c : Card) (t : Turn) (n : Names c (t .header)) → isSound c ≡ true → Typed c → c .channel .stage ≡ 2 → Supplied c t n
-      → InStage2 c t n
+      → InStage2 c t (replied c t n)
+  pub unlisted : (c : Card) (t : Turn) (n : Names c (t .header)) → isSound c ≡ true → Typed c → c .channel .stage ≡ 2
+      → listed c (t .header) n ≡ none → Unlisted c t
   pub authenticates : (c : Card) (t : Turn) → isSound c ≡ true → Typed c → c .channel .stage ≡ 1 → t .header ≡ 0x80 ∷ 0x11 ∷ 0 ∷ 0 ∷ []
       → length (t .data′) ≡ 32 → length (t .supply) ≡ 32 → ToStage2 c t

@@ -19,7 +19,7 @@ use Rattle.rules.specs.Engine.{askOut, AnswerOut, answerRefused, answered, answ
 use Rattle.rules.specs.Comparison.{Comparison, comparison}
 use Rattle.laws_commands.specs.Lawful.{erase}
 use Rattle.laws_engine.proofs.Refusals.{answer-refused}
-use Rattle.laws_two_runs.specs.Runs.{Call, ask, answer, reset, comparisonAt, secretOf, seenAt, nextAt, Agree, OutAlike}
+use Rattle.laws_two_runs.specs.Runs.{Call, ask, answer, reset, comparisonAt, secretOf, Report, ofAsk, ofAnswer, ofReset, reportAt, bufferAt, seenAt, nextAt, Agree, OutAlike}
 use Rattle.laws_two_runs.proofs.Erasure.{erase-agree, agree-swap}
 use Rattle.laws_two_runs.proofs.Order.{decide-same, compared-same}
 
@@ -70,13 +70,13 @@ module _ (p q : List ℕ) (c : Card) (sound : isSound c ≡ true) (sound′ : is
 
   -- ---- a call
   call-swap : (k : Call) → OutAlike (comparisonAt c k) (comparisonAt other k) → StepSame c other k
-  unfolding seenAt nextAt comparisonAt
+  unfolding seenAt reportAt bufferAt nextAt comparisonAt
   call-swap (ask cmd buf) h = record { seen = rw (ask-same cmd (length buf)); next = erase-agree c other refl }
   call-swap (answer cmd s buf) h =
       let both = answer-both cmd s (length buf) in
       let e : eraseAnswer (answerOut c cmd s (length buf)) ≡ eraseAnswer (answerOut other cmd s (length buf)) = both .1 h in
       record {
-        seen = cc (ap (λ (o : AnswerOut). o .refusal) e, ap (λ (o : AnswerOut). o .bytes) e, both .0);
+        seen = cc (ap (λ (o : AnswerOut). o .refusal) e, ap (λ (o : AnswerOut). o .bytes) e, ap (λ (o : AnswerOut). o .card) e, both .0);
         next = erase-agree (answerOut c cmd s (length buf) .card) (answerOut other cmd s (length buf) .card)
             (ap (λ (o : AnswerOut). o .card) e);
       }
@@ -96,8 +96,13 @@ pub ask-passes : (c : Card) (cmd buf : List ℕ) → nextAt c (ask cmd buf) ≡ 
 unfolding nextAt
 ask-passes c cmd buf = refl
 
-pub refused-passes : (c : Card) (k : Call) → (seenAt c k .refusal ≡ noRefusal → ⊥) → nextAt c k ≡ c
-unfolding seenAt nextAt resetAnswer
+abbrev pub refusalOf : Report → ℕ
+refusalOf (ofAsk r) = r .refusal
+refusalOf (ofAnswer r) = r .refusal
+refusalOf (ofReset r) = r .refusal
+
+pub refused-passes : (c : Card) (k : Call) → (refusalOf (reportAt c k) ≡ noRefusal → ⊥) → nextAt c k ≡ c
+unfolding reportAt nextAt resetAnswer
 refused-passes c (ask cmd buf) n = refl
 refused-passes c (answer cmd s buf) n = answer-refused c cmd s (length buf) n .0
 refused-passes c reset n = go (isSound c) n

@@ -9,7 +9,7 @@ use mathlib.Core.Option.{Option, none, some}
 use Prim.Native.Nat.{ℕ, _≤_}
 use native.Mathlib.Omega.{arith}
 use borrow.Author.Tests.{le-ltb}
-use lib.ListN.{length, take, drop}
+use lib.ListN.{length, take}
 use Rattle.refusals.specs.Refusals.{answerRoom}
 use Rattle.card.specs.declared.Pins.{Pins}
 use Rattle.card.specs.declared.Card.{Card}
@@ -17,19 +17,20 @@ use Rattle.card.specs.Sound.{isSound}
 use Rattle.rules.specs.declared.Instruction.{Instruction}
 use Rattle.rules.specs.declared.Command.{Command}
 use Rattle.rules.specs.declared.Verdict.{Verdict}
-use Rattle.rules.specs.Words.{Hold, Reply}
+use Rattle.rules.specs.Words.{Hold}
 use Rattle.rules.specs.Supplies.{noSupply, suits}
 use Rattle.rules.specs.Rules.{Secret, pin, puk, rightBy}
 use Rattle.rules.specs.Rows.{rowOf, isPlain}
-use Rattle.rules.specs.Commands.{verifyReply, unblockReply, ruleOf}
+use Rattle.rules.specs.Commands.{ruleOf}
 use Rattle.rules.specs.Channel.{withMac, Outgoing, tell}
-use Rattle.rules.specs.Steps.{Step, goes, step1, dataOf, p1Of, p2Of, openedBy, Arrived, arrival, checksOf, supplyOf, replyOf, Decision, step6, finish, decide}
+use Rattle.rules.specs.Steps.{Step, goes, step1, p1Of, p2Of, Arrived, arrival, checksOf, supplyOf, replyOf, Decision, step6, finish, decide}
 use Rattle.rules.specs.Engine.{answered, answerOut}
 use Rattle.rules.specs.Comparison.{Comparison, compared, comparedBy, comparedAt6, comparedPast, comparison}
 use Rattle.laws_commands.specs.Lawful.{Lawful}
 use Rattle.laws_commands.proofs.Arrival.{At, arrivedAt}
 use Rattle.laws_commands.proofs.Checks.{never, by-verdict, held}
 use Rattle.laws_commands.proofs.Table.{lawful, commandOf, only-compares}
+use Rattle.laws_two_runs.specs.Compared.{replyBy, Compared}
 use Rattle.laws_two_runs.specs.Runs.{Call, answer, comparisonAt, Agree}
 use Rattle.laws_two_runs.proofs.Erasure.{step1-pins}
 use Rattle.laws_two_runs.proofs.Order.{by-arrival, right-unverified}
@@ -40,11 +41,7 @@ use Rattle.laws_two_runs.proofs.Over.{opened-over, card-over}
 pub none-made : (c d : Card) (k : Call) → isSound c ≡ true → isSound d ≡ true → Agree c d → comparisonAt c k ≡ none → StepSame c d k
 none-made c d k sc sd a e = call-same c d k sc sd a (λ x y i j. never x (sym e ∙ i))
 
--- ---- the reply of the command that compares this secret, by how that came out, and a decision that reads no supply
-abbrev pub replyBy : Secret → Bool → Card → List ℕ → Reply
-replyBy pin right c d = verifyReply right c
-replyBy puk right c d = unblockReply right c (drop 12 d)
-
+-- ---- a decision that reads no supply
 abbrev pub deciding : List ℕ → Outgoing → Decision
 deciding d t = record { supply = noSupply; data′ = d; answer = λ _. t }
 
@@ -80,17 +77,7 @@ module _ (p : Pins) (a : Arrived) (x : Comparison) where
   at6 = by-verdict (λ (v : Verdict). comparedBy p a v ≡ some x → At6 p a x) (supplyOf (a .command)) (checksOf (a .command) (a .card) (a .data′))
       (λ h e. compared-is (ruleOf (a .command) .compares) refl h e) (λ w e. never x e)
 
--- ---- the whole: the field, what it opens to, whether that is the secret of the card that the call was given, and the answer
-pub record Compared (c : Card) (cmd : List ℕ) (x : Comparison) : Type 0 where
-  pub field : List ℕ
-  pub data′ : List ℕ
-  pub form : dataOf cmd ≡ some field
-  pub opens : openedBy (step1 cmd c) cmd field ≡ some data′
-  pub right : x .right ≡ rightBy (x .of) (c .pins) data′
-  pub told : Outgoing
-  pub tells : told ≡ tell true (replyBy (x .of) (x .right) (withMac (step1 cmd c) (take 16 field)) data′)
-  pub decides : decide c cmd ≡ record { supply = noSupply; data′ = data′; answer = λ _. told }
-
+-- ---- the whole
 module _ (c : Card) (cmd : List ℕ) (x : Comparison) where
   -- a command that compares needs stage 2, and so is not plain
   over-channel : (i : Instruction) (k : Command) → Lawful i k → ruleOf k .compares ≡ some (x .of) → isPlain i ≡ false

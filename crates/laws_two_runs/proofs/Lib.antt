@@ -1,5 +1,6 @@
 pub mod Erasure
 pub mod Order
+pub mod Shown
 pub mod Calls
 pub mod TwoRuns
 pub mod Comparisons

@@ -29,9 +29,10 @@ use Rattle.rules.specs.Channel.{sessionOf, withMac, plainly, sealed, tell}
 use Rattle.rules.specs.Steps.{step1}
 use Rattle.rules.specs.Engine.{AnswerOut, answered}
 use Rattle.laws_engine.proofs.Sound.{answer-sound}
+use Rattle.laws_two_runs.specs.Compared.{Compared}
 use Rattle.laws_two_runs.specs.Runs.{Call, answer, comparisonAt, nextAt, Agree, OutAlike, Alike, Premise}
 use Rattle.laws_two_runs.proofs.Calls.{StepSame, call-same}
-use Rattle.laws_two_runs.proofs.Compared.{Compared, one-made, one-answers}
+use Rattle.laws_two_runs.proofs.Compared.{one-made, one-answers}
 use Rattle.laws_two_runs.proofs.Sealed.{made, step1-stage2, InStage2, headerWith, sealedFor, header-is, verify-form, verify-compares, verify-at}
 use Rattle.laws_two_runs.proofs.Meets.{outcomes, by}
 

@@ -1,3 +1,5 @@
 pub mod Comparisons
+pub mod Compared
 pub mod Runs
+pub mod Shown
 pub mod Verification

@@ -3,17 +3,22 @@
 use Prim.Native.Nat.{ℕ}
 use mathlib.Core.Path.{_≡_}
 use mathlib.Core.Bool.{true, cond}
-use mathlib.Core.List.{List, [], _∷_, _++_}
+use mathlib.Core.List.{List, [], _∷_}
 use mathlib.Core.Option.{Option, none, some}
 use lib.Dec.{eqb}
-use lib.ListN.{length, drop}
+use lib.ListN.{length}
 use Rattle.refusals.specs.Refusals.{noRefusal}
 use Rattle.card.specs.declared.Card.{Card}
 use Rattle.card.specs.Sound.{isSound}
+use Rattle.sound.specs.declared.Answer.{Answer}
 use Rattle.sound.specs.Reset.{resetAnswer}
+use Rattle.rules.specs.declared.Asked.{Asked}
+use Rattle.rules.specs.declared.Answered.{Answered}
 use Rattle.rules.specs.Rules.{Secret}
 use Rattle.rules.specs.Engine.{askOut, answerOut}
+use Rattle.rules.specs.Reports.{askReport, askLeaves, answerReport, answerLeaves}
 use Rattle.rules.specs.Comparison.{Comparison, comparison}
+use Rattle.laws_commands.specs.Lawful.{erase}
 
 -- ---- a call (RULES 11.3): ASK brings its command and its buffer, ANSWER its command, its supply and its buffer, RESET nothing
 pub data Call : Type 0 where
@@ -35,41 +40,44 @@ secretOf (some x) = some (x .of)
 abbrev pub comparedAt : Card → Call → Option Secret
 comparedAt c k = secretOf (comparisonAt c k)
 
--- ---- what a call shows (RULES 11.3): the refusal's number or 0, the kind, the count, the whole buffer, and what it compared. ANSWER and
--- RESET report no kind, here 0; RESET has no buffer
+-- ---- what a call reports: what the code of its operation returns, by the definitions that its contract cites
+pub data Report : Type 0 where
+  ofAsk : Asked → Report
+  ofAnswer : Answered → Report
+  ofReset : Answer → Report
+
+unfoldable pub reportAt : Card → Call → Report
+reportAt c (ask cmd buf) = ofAsk (askReport (askOut c cmd (length buf)))
+reportAt c (answer cmd s buf) = ofAnswer (answerReport (answerOut c cmd s (length buf)))
+reportAt c reset = ofReset (resetAnswer c)
+
+-- and the whole buffer after it; RESET has none
+unfoldable pub bufferAt : Card → Call → List ℕ
+bufferAt c (ask cmd buf) = askLeaves (askOut c cmd (length buf)) buf
+bufferAt c (answer cmd s buf) = answerLeaves (answerOut c cmd s (length buf)) buf
+bufferAt c reset = []
+
+-- ---- a report as it is shown: all of it, but PIN and PUK of its card are put away. A number that the code's struct gains has to be written here
+-- too, and what is shown is then what is reported (Shown.antt, `alike`)
+abbrev pub answeredWith : Card → Answered → Answered
+answeredWith c r = record { refusal = r .refusal; count = r .count; card = c }
+
+abbrev pub resetWith : Card → Answer → Answer
+resetWith c r = record { refusal = r .refusal; card = c }
+
+abbrev pub shown : Report → Report
+shown (ofAsk r) = ofAsk r
+shown (ofAnswer r) = ofAnswer (answeredWith (erase (r .card)) r)
+shown (ofReset r) = ofReset (resetWith (erase (r .card)) r)
+
+-- ---- what a call shows (RULES 11.3): its report, the whole buffer, and what it compared
 pub record Seen : Type 0 where
-  pub refusal : ℕ
-  pub kind : ℕ
-  pub count : ℕ
+  pub report : Report
   pub buffer : List ℕ
   pub compared : Option Secret
 
--- the buffer with these bytes written from its start, the rest as it was
-abbrev pub written : List ℕ → List ℕ → List ℕ
-written bytes buf = bytes ++ drop (length bytes) buf
-
 unfoldable pub seenAt : Card → Call → Seen
-seenAt c (ask cmd buf) = record {
-  refusal = askOut c cmd (length buf) .refusal;
-  kind = askOut c cmd (length buf) .kind;
-  count = length (askOut c cmd (length buf) .bytes);
-  buffer = written (askOut c cmd (length buf) .bytes) buf;
-  compared = comparedAt c (ask cmd buf);
-}
-seenAt c (answer cmd s buf) = record {
-  refusal = answerOut c cmd s (length buf) .refusal;
-  kind = 0;
-  count = length (answerOut c cmd s (length buf) .bytes);
-  buffer = written (answerOut c cmd s (length buf) .bytes) buf;
-  compared = comparedAt c (answer cmd s buf);
-}
-seenAt c reset = record {
-  refusal = resetAnswer c .refusal;
-  kind = 0;
-  count = 0;
-  buffer = [];
-  compared = comparedAt c reset;
-}
+seenAt c k = record { report = shown (reportAt c k); buffer = bufferAt c k; compared = comparedAt c k }
 
 -- ---- the card that a call passes on (RULES 11.3): ASK the one it was given, ANSWER and RESET their next card, which is the one given where
 -- they refuse

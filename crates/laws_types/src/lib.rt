@@ -1,7 +1,6 @@
 // What the types say of a card, which the claims on terminal and card together take as a hypothesis (`Typed`).
 // Every length is in bytes.
 // Proved: every card that code holds meets it, by its type alone.
-ghost use Prim.Native.Nat.{_<_};
 ghost use Rattle.octets.specs.Bytes.{Bytes};
 ghost use Rattle.laws_exchange.specs.Exchange.{Typed};
 use card::Card;
@@ -9,21 +8,10 @@ use card::PATH_MAX_BYTES;
 use channel_rules::Session;
 
 // Each function gives its argument back, or counts its bytes. Its contract is what the type says of it.
-fn byte(b: u8) -> u8
-    ensures { λ _. ⌜ b < 256 ⌝ }
-{
-    b
-}
-
 fn path_bytes(p: [u8; PATH_MAX_BYTES]) -> usize
     ensures { λ _. ⌜ Bytes p ⌝ }
 {
-    let mut i = 0;
-    while i < PATH_MAX_BYTES {
-        byte(p[i]);
-        i += 1;
-    }
-    i
+    octets_types::slice(&p)
 }
 
 // The card as it is.

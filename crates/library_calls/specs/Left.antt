@@ -4,7 +4,7 @@ use Prim.Native.Nat.{ℕ}
 use Rattle.card.specs.declared.Card.{Card}
 use Rattle.channel_rules.specs.declared.Session.{Session}
 use Rattle.sound.specs.declared.Answer.{Answer}
-use Rattle.engine_responses.specs.declared.Answered.{Answered}
+use Rattle.rules.specs.declared.Answered.{Answered}
 use Rattle.channel_terminal.specs.declared.Outcome.{Outcome}
 use Rattle.record_write.specs.declared.Written.{Written}
 use Rattle.template_walk.specs.Walk.{WalkOut}

@@ -4,11 +4,11 @@
 ghost use mathlib.Core.Path.{_≡_};
 ghost use lib.ListN.{length};
 ghost use Rattle.rules.specs.Engine.{askOut, answerOut};
-ghost use Rattle.engine_responses.specs.Did.{AskDid, AnswerDid};
+ghost use Rattle.rules.specs.Reports.{AskDid, AnswerDid};
 ghost use Rattle.library_calls.specs.Left.{answeredOf};
 use card::Card;
-use engine_responses::Asked;
 use library_calls::Counted;
+use rules::Asked;
 
 // ASK: the card is only read.
 #[no_mangle]

@@ -4,14 +4,14 @@ use mathlib.Core.Path.{_≡_, refl, sym, ap, ap₂, _∙_, subst}
 use mathlib.Core.Bool.{Bool, true, false, _&&_}
 use mathlib.Core.List.{List, [], _∷_, _++_, append-assoc, append-nil, map}
 use Prim.Native.Nat.{ℕ, zero, suc, _+_, _-_, _≤_, _<_}
-use native.Mathlib.Nat.{not-suc-le-zero, le-of-suc-le-suc}
+use native.Mathlib.Nat.{zero-add, not-suc-le-zero, le-of-suc-le-suc}
 use native.Mathlib.Omega.{arith}
 use lib.Bits.{bitXor, xor-lt, xor-zero-r}
 use lib.Dec.{T, eqb, eqb→eq, eqb-refl}
 use lib.ListN.{length, take, drop, getD, replicate, length-append, length-drop, drop-of-length-le}
 use lib.Seq.{drop-cons, take-at, drop-at, take-all, drop-drop, length-take-le, take-append-le}
 use borrow.Author.Tests.{eq-eqb, eqb-true}
-use Rattle.octets.specs.Bytes.{Bytes, Block, tabulate, xorBytes, overwrite, sameBytes}
+use Rattle.octets.specs.Bytes.{Bytes, Block, tabulate, xorBytes, overwrite, written, sameBytes}
 use Rattle.octets.proofs.Xor.{xor-cancel, xor-undo}
 use Rattle.octets.proofs.Table.{and-left, and-right}
 
@@ -39,8 +39,8 @@ own-elements [] = refl
 own-elements (x ∷ s) = ap {B = List ℕ} (λ r. x ∷ r) (own-elements s)
 
 -- a list of n elements is those elements, written out
-pub written : (n : ℕ) (s : List ℕ) → length s ≡ n → s ≡ tabulate n (λ k. getD s k 0)
-written n s h = subst (λ (m : ℕ). s ≡ tabulate m (λ k. getD s k 0)) h (own-elements s)
+pub tabulated : (n : ℕ) (s : List ℕ) → length s ≡ n → s ≡ tabulate n (λ k. getD s k 0)
+tabulated n s h = subst (λ (m : ℕ). s ≡ tabulate m (λ k. getD s k 0)) h (own-elements s)
 
 -- ---- Bytes
 pub bytes-at : (s : List ℕ) → Bytes s → (i : ℕ) → getD s i 0 < 256
@@ -182,6 +182,10 @@ pub overwrite-behind : (x r t : List ℕ) (n : ℕ) → length x ≡ n → overw
 overwrite-behind x r t n h =
     ap₂ (λ (p q : List ℕ). p ++ t ++ q) (take-at x r n h)
     (sym (drop-drop (length t) n (x ++ r)) ∙ ap (drop (length t)) (drop-at x r n h))
+
+-- a list written from the start
+pub overwrite-start : (s t : List ℕ) → overwrite s 0 t ≡ written t s
+overwrite-start s t = ap (λ (k : ℕ). t ++ drop k s) (zero-add (length t))
 
 -- a list written over all of another
 pub overwrite-whole : (s t : List ℕ) → length t ≡ length s → overwrite s 0 t ≡ t

@@ -33,6 +33,10 @@ xorBytes (x ∷ s) (y ∷ t) = bitXor x y ∷ xorBytes s t
 abbrev pub overwrite : List ℕ → ℕ → List ℕ → List ℕ
 overwrite s at t = take at s ++ t ++ drop (at + length t) s
 
+-- these bytes from the buffer's start, the rest as it was: t, then what s has after as many bytes
+abbrev pub written : List ℕ → List ℕ → List ℕ
+written t s = t ++ drop (length t) s
+
 -- whether two lists are the same, byte for byte
 abbrev pub sameBytes : List ℕ → List ℕ → Bool
 sameBytes [] [] = true

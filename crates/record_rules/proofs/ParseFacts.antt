@@ -10,7 +10,7 @@ use native.Mathlib.Omega.{arith}
 use lib.ListN.{length, take, drop, length-append, length-drop, take-append-drop}
 use lib.Seq.{drop-at, drop-drop, length-take-le, take-append-seam}
 use borrow.Author.Tests.{leb-true}
-use Rattle.octets.proofs.Lists.{written, _&_}
+use Rattle.octets.proofs.Lists.{tabulated, _&_}
 use Rattle.card.specs.declared.Slot.{Slot}
 use Rattle.card.specs.declared.Path.{Path}
 use Rattle.card.specs.declared.Keys.{Keys}
@@ -61,7 +61,7 @@ content-all fs k = ap body (behind-all fs k) ∙ body-all (drop k fs)
 
 -- ---- fit
 pub fit-exact : (n : ℕ) (x : List ℕ) → length x ≡ n → fit n x ≡ x
-fit-exact n x h = sym (written n x h)
+fit-exact n x h = sym (tabulated n x h)
 
 pub fit-front : (n : ℕ) (x r : List ℕ) → length x ≡ n → fit n (x ++ r) ≡ x
 fit-front n x r h = ap (λ (k : ℕ). fit k (x ++ r)) (sym h) ∙ whole x

@@ -6,6 +6,7 @@ use Prim.Native.Nat.{ℕ, _≤_, _<_}
 use native.Mathlib.Omega.{arith}
 use lib.ListN.{length}
 use borrow.Author.Tests.{lt-ltb, le-ltb}
+use Rattle.octets.proofs.Lists.{overwrite-start}
 use Rattle.card.specs.declared.Card.{Card}
 use Rattle.card.specs.Sound.{isSound}
 use Rattle.record_rules.specs.Fields.{fields, recordOf}
@@ -29,5 +30,5 @@ pub wrote-record : (c : Card) (b a : List ℕ) (n : ℕ) → isSound c ≡ true 
 unfolding writeRefusal writeBytes recordOf
 wrote-record c b a n e h p = record {
   told = rw (e, le-ltb _ _ h) (ap (λ (k : ℕ). record { refusal = noRefusal; count = k }) (p .place ∙ omega arith));
-  left = rw (e, le-ltb _ _ h) (p .bytes);
+  left = rw (e, le-ltb _ _ h) (p .bytes ∙ overwrite-start b (recordOf c));
 }

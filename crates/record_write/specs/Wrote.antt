@@ -3,7 +3,7 @@ use Prim.Native.Nat.{ℕ}
 use mathlib.Core.Path.{_≡_}
 use mathlib.Core.List.{List}
 use lib.ListN.{length}
-use Rattle.octets.specs.Bytes.{overwrite}
+use Rattle.octets.specs.Bytes.{written}
 use Rattle.card.specs.declared.Card.{Card}
 use Rattle.record_rules.specs.Answers.{writeRefusal, writeBytes}
 use Rattle.record_write.specs.declared.Written.{Written}
@@ -14,4 +14,4 @@ writeAnswer c room = record { refusal = writeRefusal c room; count = length (wri
 
 pub record WroteRecord (c : Card) (r : Written) (before after : List ℕ) : Type 0 where
   pub told : r ≡ writeAnswer c (length before)
-  pub left : after ≡ overwrite before 0 (writeBytes c (length before))
+  pub left : after ≡ written (writeBytes c (length before)) before

@@ -6,5 +6,6 @@ pub mod Rows
 pub mod Channel
 pub mod Steps
 pub mod Engine
+pub mod Reports
 pub mod Comparison
 pub mod Code

@@ -175,3 +175,19 @@ pub struct Replied {
     pub count: usize,
     pub card: Card,
 }
+
+// What ASK answers: the refusal's number or 0, the kind of supply or 0, and how many bytes it wrote from the buffer's start.
+#[repr(C)]
+pub struct Asked {
+    pub refusal: u8,
+    pub kind: u8,
+    pub count: usize,
+}
+
+// What ANSWER answers: the refusal's number or 0, how many bytes it wrote from the buffer's start, and the next card.
+#[repr(C)]
+pub struct Answered {
+    pub refusal: u8,
+    pub count: usize,
+    pub card: Card,
+}

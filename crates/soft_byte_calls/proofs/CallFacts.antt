@@ -4,15 +4,15 @@ use Prim.Native.Nat.{ℕ}
 use mathlib.Core.Path.{_≡_, sym, ap, _∙_, subst}
 use mathlib.Core.List.{List, [], _∷_}
 use lib.ListN.{length, getD}
-use Rattle.octets.proofs.Lists.{written}
+use Rattle.octets.proofs.Lists.{tabulated}
 use Rattle.channel_rules.specs.declared.Session.{Session}
 use Rattle.channel_rules.specs.Terminal.{Out, sealOut}
 use Rattle.sound.specs.declared.Answer.{Answer}
 use Rattle.channel_terminal.specs.declared.Outcome.{Outcome}
 use Rattle.channel_terminal.specs.Did.{Did}
 use Rattle.rules.specs.Engine as rules
-use Rattle.engine_responses.specs.declared.Answered as responses
-use Rattle.engine_responses.specs.Did.{AnswerDid}
+use Rattle.rules.specs.declared.Answered as declared
+use Rattle.rules.specs.Reports.{AnswerDid}
 use Rattle.soft_card_bytes.specs.Flat.{cardFlat, sessionFlat}
 use Rattle.soft_byte_calls.specs.declared.CardAnswered.{CardAnswered}
 use Rattle.soft_byte_calls.specs.Calls.{answerFlat, CardDid, SessionDid}
@@ -21,12 +21,12 @@ pub answer-flat : {a o : Answer} {card : List ℕ} → a ≡ o → card ≡ card
     → _≡_ {A = CardAnswered} (record { refusal = a .refusal; count = 0; card = card }) (answerFlat o)
 answer-flat {a} p q = ap {B = CardAnswered} (λ (x : List ℕ). record { refusal = a .refusal; count = 0; card = x }) q ∙ ap answerFlat p
 
-pub card-did : {o : rules.AnswerOut} {a : responses.Answered} {card before after : List ℕ} → AnswerDid o a before after → card ≡ cardFlat (a .card)
+pub card-did : {o : rules.AnswerOut} {a : declared.Answered} {card before after : List ℕ} → AnswerDid o a before after → card ≡ cardFlat (a .card)
     → CardDid o (record { refusal = a .refusal; count = a .count; card = card }) before after
 card-did {o} {a} d q = record {
   told =
       ap {B = CardAnswered} (λ (x : List ℕ). record { refusal = a .refusal; count = a .count; card = x }) q
-      ∙ ap {B = CardAnswered} (λ (b : responses.Answered). record { refusal = b .refusal; count = b .count; card = cardFlat (b .card) }) (d .told);
+      ∙ ap {B = CardAnswered} (λ (b : declared.Answered). record { refusal = b .refusal; count = b .count; card = cardFlat (b .card) }) (d .told);
   left = d .left;
 }
 
@@ -41,4 +41,4 @@ pub seal-did : (s : Session) (h plain : List ℕ) (room : ℕ) {a : Outcome} {se
     → SessionDid (sealOut s h plain room) (record { refusal = a .refusal; count = a .count; session = session }) before after
 seal-did s h plain room {a} {session} {before} {after} l d q =
     subst (λ (x : List ℕ). SessionDid (sealOut s x plain room) (record { refusal = a .refusal; count = a .count; session = session }) before after)
-    (sym (written 4 h l)) (session-did d q)
+    (sym (tabulated 4 h l)) (session-did d q)

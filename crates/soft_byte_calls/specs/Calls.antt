@@ -4,11 +4,11 @@ use Prim.Native.Nat.{ℕ}
 use mathlib.Core.Path.{_≡_}
 use mathlib.Core.List.{List}
 use lib.ListN.{length}
+use Rattle.octets.specs.Bytes.{written}
 use Rattle.sound.specs.declared.Answer.{Answer}
 use Rattle.channel_rules.specs.Terminal.{Out}
 use Rattle.record_write.specs.declared.Written.{Written}
 use Rattle.rules.specs.Engine as rules
-use Rattle.engine_responses.specs.Did.{over}
 use Rattle.soft_card_bytes.specs.Flat.{cardFlat, sessionFlat}
 use Rattle.soft_byte_calls.specs.declared.CardAnswered.{CardAnswered}
 use Rattle.soft_byte_calls.specs.declared.Sealed.{Sealed}
@@ -28,7 +28,7 @@ reportFlat o = record { refusal = o .refusal; count = length (o .bytes); card = 
 
 pub record CardDid (o : rules.AnswerOut) (r : CardAnswered) (before after : List ℕ) : Type 0 where
   pub told : r ≡ reportFlat o
-  pub left : after ≡ over (o .bytes) before
+  pub left : after ≡ written (o .bytes) before
 
 -- SEAL and UNSEAL: refusal, count, next session, and every byte of the buffer
 abbrev pub sealedFlat : Out → Sealed
@@ -36,4 +36,4 @@ sealedFlat o = record { refusal = o .refusal; count = length (o .bytes); session
 
 pub record SessionDid (o : Out) (r : Sealed) (before after : List ℕ) : Type 0 where
   pub told : r ≡ sealedFlat o
-  pub left : after ≡ over (o .bytes) before
+  pub left : after ≡ written (o .bytes) before

@@ -12,12 +12,12 @@ ghost use Rattle.record_rules.specs.Answers.{readAnswer};
 ghost use Rattle.record_write.specs.Wrote.{WroteRecord};
 ghost use Rattle.template_walk.specs.Walk.{WALK};
 ghost use Rattle.rules.specs.Engine.{askOut, answerOut};
-ghost use Rattle.engine_responses.specs.Did.{AskDid};
+ghost use Rattle.rules.specs.Reports.{AskDid};
 ghost use Rattle.soft_card_bytes.specs.Flat.{cardFlat};
 ghost use Rattle.soft_card_bytes.specs.Places.{cardAt, sessionAt};
 ghost use Rattle.soft_byte_calls.specs.Calls.{answerFlat, writtenOf, CardDid, SessionDid};
 use card::Card;
-use engine_responses::Asked;
+use rules::Asked;
 use soft_card_bytes::CARD_BYTES;
 use soft_card_bytes::SESSION_BYTES;
 

@@ -12,8 +12,8 @@ use lib.Dec.{eqb}
 use lib.ListN.{length, take, drop, getD, length-append, length-drop, drop-of-length-le}
 use lib.Seq.{drop-cons, drop-drop, getD-drop}
 use borrow.Author.Tests.{lt-ltb, le-ltb, eq-eqb, ne-eqb}
-use Rattle.octets.specs.Bytes.{overwrite, sameBytes}
-use Rattle.octets.proofs.Lists.{length-overwrite, overwrite-next}
+use Rattle.octets.specs.Bytes.{overwrite, written, sameBytes}
+use Rattle.octets.proofs.Lists.{length-overwrite, overwrite-next, overwrite-start}
 use Rattle.text_hex.specs.Places.{First}
 use Rattle.soft_word_bytes.specs.Meaning.{Meant, taken, within, pieceOf, firstPiece, laterPieces, piecesIn, onward, joined, meaning, Puts, Reads}
 
@@ -132,7 +132,7 @@ module _ {w last out₀ out : List ℕ} {at len : ℕ} (j : Joining w last out�
           record {
             told = h ∙ ap (λ (x : Meant). x .fault) (sym is);
             long = λ e. long-all ∙ ap (λ (x : Meant). length (x .bytes)) (sym is);
-            left = λ e. kept-all ∙ ap (λ (x : Meant). overwrite out₀ 0 (x .bytes)) (sym is);
+            left = λ e. kept-all ∙ overwrite-start out₀ all ∙ ap (λ (x : Meant). written (x .bytes) out₀) (sym is);
           }
         where
           is : joined last (length out₀) [] (piecesIn w) ≡ taken all

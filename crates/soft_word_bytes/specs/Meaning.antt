@@ -6,7 +6,7 @@ use mathlib.Core.List.{List, [], _∷_, _++_}
 use Prim.Native.Nat.{ℕ, _+_, _*_, _-_, _/_}
 use lib.Dec.{ltb, eqb}
 use lib.ListN.{length, drop, getD}
-use Rattle.octets.specs.Bytes.{overwrite, sameBytes}
+use Rattle.octets.specs.Bytes.{overwrite, written, sameBytes}
 use Rattle.text_fill.specs.Steps.{stepped}
 use Rattle.text_decimal.specs.Decimal.{isNumber, numberOf}
 use Rattle.text_hex.specs.Hex.{digitOf, high, low, byteOf, bytesOf}
@@ -93,4 +93,4 @@ pub record Puts (m : Meant) (at fault end : ℕ) (before after : List ℕ) : Typ
 pub record Reads (m : Meant) (fault len : ℕ) (before after : List ℕ) : Type 0 where
   pub told : fault ≡ m .fault
   pub long : fault ≡ 0 → len ≡ length (m .bytes)
-  pub left : fault ≡ 0 → after ≡ overwrite before 0 (m .bytes)
+  pub left : fault ≡ 0 → after ≡ written (m .bytes) before

@@ -1,2 +1,1 @@
 pub mod AnswerFacts
-pub mod Walks

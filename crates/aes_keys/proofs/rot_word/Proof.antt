@@ -4,7 +4,7 @@ use mathlib.Core.Path.{sym, ap}
 use mathlib.Core.List.{List, _++_}
 use Prim.Native.Nat.{ℕ}
 use lib.ListN.{drop, take}
-use Rattle.octets.proofs.Lists.{written}
+use Rattle.octets.proofs.Lists.{tabulated}
 use Rattle.aes_rules.specs.Schedule.{rotWord}
 use borrow.Author.Needs.{needs}
 use Rattle.aes_keys.proofs.rot_word.Statement.{statement}
@@ -24,7 +24,7 @@ array-read-t14 c = search needs
 
 returns : tie.Need-returns
 unfolding rotWord
-returns c = sym (ap (λ (t : List ℕ). drop 1 t ++ take 1 t) (written 4 (c .args .t1) (search needs)))
+returns c = sym (ap (λ (t : List ℕ). drop 1 t ++ take 1 t) (tabulated 4 (c .args .t1) (search needs)))
 
 pub rot-word-spec : {M : Type 1} → statement M
 rot-word-spec =

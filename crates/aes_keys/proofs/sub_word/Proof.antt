@@ -3,7 +3,7 @@
 use mathlib.Core.Path.{refl, sym, ap, _∙_}
 use mathlib.Core.List.{map}
 use Rattle.aes_field.specs.Field.{subByte}
-use Rattle.octets.proofs.Lists.{written, _&_}
+use Rattle.octets.proofs.Lists.{tabulated, _&_}
 use Rattle.aes_rules.specs.Schedule.{subWord}
 use borrow.Author.Needs.{needs}
 use Rattle.aes_keys.proofs.sub_word.Statement.{statement}
@@ -36,7 +36,7 @@ sub-byte-requires-4 c κs = search needs
 returns : tie.Need-returns
 unfolding subWord
 returns c = (c .before .before .before .sub-byte .ensures & c .before .before .sub-byte2 .ensures & c .before .sub-byte3 .ensures & c .sub-byte4 .ensures & refl)
-    ∙ sym (ap (map subByte) (written 4 (c .before .before .before .before .args .t2) (search needs)))
+    ∙ sym (ap (map subByte) (tabulated 4 (c .before .before .before .before .args .t2) (search needs)))
 
 pub sub-word-spec : {M : Type 1} → statement M
 sub-word-spec =

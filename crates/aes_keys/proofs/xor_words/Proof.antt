@@ -2,7 +2,7 @@
 -- Assumes nothing.
 use mathlib.Core.Path.{sym, ap₂}
 use Rattle.octets.specs.Bytes.{xorBytes}
-use Rattle.octets.proofs.Lists.{written}
+use Rattle.octets.proofs.Lists.{tabulated}
 use borrow.Author.Needs.{needs}
 use Rattle.aes_keys.proofs.xor_words.Statement.{statement}
 use Rattle.aes_keys.proofs.xor_words.Tie as tie
@@ -32,7 +32,7 @@ array-read-t31 : tie.Need-array-read-t31
 array-read-t31 c = search needs
 
 returns : tie.Need-returns
-returns c = sym (ap₂ xorBytes (written 4 (c .args .t1) (search needs)) (written 4 (c .args .t2) (search needs)))
+returns c = sym (ap₂ xorBytes (tabulated 4 (c .args .t1) (search needs)) (tabulated 4 (c .args .t2) (search needs)))
 
 pub xor-words-spec : {M : Type 1} → statement M
 xor-words-spec =

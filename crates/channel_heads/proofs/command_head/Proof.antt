@@ -4,7 +4,7 @@ use mathlib.Core.Path.{refl, sym, ap}
 use mathlib.Core.List.{List, _∷_, _++_}
 use Prim.Native.Nat.{ℕ, _+_}
 use lib.ListN.{replicate}
-use Rattle.octets.proofs.Lists.{written}
+use Rattle.octets.proofs.Lists.{tabulated}
 use borrow.Author.Needs.{needs}
 use Rattle.channel_heads.proofs.command_head.Statement.{statement}
 use Rattle.channel_heads.proofs.command_head.Tie as tie
@@ -28,7 +28,7 @@ array-read-t17 : tie.Need-array-read-t17
 array-read-t17 c = search needs
 
 returns : tie.Need-returns
-returns c = sym (ap (λ (h : List ℕ). h ++ ((16 + c .args .ciphertext-bytes) ∷ replicate 11 0)) (written 4 (c .args .t1) (search needs)))
+returns c = sym (ap (λ (h : List ℕ). h ++ ((16 + c .args .ciphertext-bytes) ∷ replicate 11 0)) (tabulated 4 (c .args .t1) (search needs)))
 
 pub command-head-spec : {M : Type 1} → statement M
 command-head-spec =

@@ -3,10 +3,10 @@
 use mathlib.Core.Path.{_≡_, sym, ap, _∙_}
 use mathlib.Core.List.{List, _++_}
 use Prim.Native.Nat.{ℕ, _+_, _%_}
-use lib.ListN.{length, drop}
+use lib.ListN.{length}
+use Rattle.octets.specs.Bytes.{written}
 use Rattle.aes_rules.specs.Aes.{aes256}
 use Rattle.aes_cbc.specs.Mode.{cbcEncrypt, cbcMac}
-use Rattle.aes_padding.specs.Padding.{paddedBytes}
 use Rattle.aes_padding.proofs.Laws.{padded-whole}
 use Rattle.channel_rules.specs.Message.{ciphertext, macOf}
 use Rattle.channel_seal.proofs.Sealed.{lent, lent-whole, enciphered, sealed}
@@ -86,7 +86,7 @@ returns c = let g = c .before .before .before .before .before .before .before .b
           (enciphered B n (p .result) (p .ensures .0) (c .before .before .before .before .before .before .before .before .before .before .before .before .before .before .before .before .before .before .before .before .before .before .pre) (p .last .0) (p .ensures .1) y (e .kept .1 .1 .0) ∙ text);
       left = c .before .before .put .ensures
           ∙ sealed B n (p .result) (p .ensures .0) (c .before .before .before .before .before .before .before .before .before .before .before .before .before .before .before .before .before .before .before .before .before .before .pre) (p .last .0) (p .ensures .1) y (e .kept .1 .1 .0) mac (search needs)
-          ∙ ap (λ (x : List ℕ). (mac ++ x) ++ drop (16 + paddedBytes n) B) text;
+          ∙ ap (λ (x : List ℕ). written (mac ++ x) B) text;
       long = sym (ap length text) ∙ e .kept .1 .1 .0 ∙ lent-whole B n (p .result) (p .ensures .0) (c .before .before .before .before .before .before .before .before .before .before .before .before .before .before .before .before .before .before .before .before .before .before .pre) (p .last .0) (p .ensures .1);
     }
 

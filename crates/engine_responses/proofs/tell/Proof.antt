@@ -1,6 +1,6 @@
 -- Sealed where the answer goes over the channel and leaves stage 2; plain otherwise.
 -- Assumes nothing.
-use Rattle.engine_responses.specs.Did.{replyWith}
+use Rattle.rules.specs.Code.{replyWith}
 use Rattle.rules.specs.Engine.{answered}
 use mathlib.Core.Path.{ap}
 use Rattle.engine_responses.proofs.Writing.{answer-as, tell-over, tell-plain}

@@ -43,11 +43,11 @@ use denote.Exit.{yes}
 use Rattle.card.specs.declared.Card.{Card}
 use Rattle.card.proofs.Card as T
 use Rattle.card.proofs.Card.Laws as T′
-use Rattle.engine_responses.specs.declared.Answered.{Answered}
+use Rattle.rules.specs.declared.Answered.{Answered}
 use Rattle.rules.specs.Engine.{answerOut}
-use Rattle.engine_responses.specs.Did.{AnswerDid}
-use Rattle.engine_responses.proofs.Answered as S
-use Rattle.engine_responses.proofs.Answered.Laws as S′
+use Rattle.rules.specs.Reports.{AnswerDid}
+use Rattle.rules.proofs.Answered as S
+use Rattle.rules.proofs.Answered.Laws as S′
 use Rattle.engine.proofs.answer as g
 use Rattle.engine.proofs.answer.Symbol as g-def
 use Rattle.engine.proofs.answer.Symbol.{name as #g}

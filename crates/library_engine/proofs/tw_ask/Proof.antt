@@ -42,10 +42,10 @@ use Rattle.card.specs.declared.Card.{Card}
 use Rattle.card.proofs.Card as T
 use Rattle.card.proofs.Card.Laws as T′
 use Rattle.rules.specs.Engine.{askOut}
-use Rattle.engine_responses.specs.declared.Asked.{Asked}
-use Rattle.engine_responses.specs.Did.{AskDid}
-use Rattle.engine_responses.proofs.Asked as S
-use Rattle.engine_responses.proofs.Asked.Laws as S′
+use Rattle.rules.specs.declared.Asked.{Asked}
+use Rattle.rules.specs.Reports.{AskDid}
+use Rattle.rules.proofs.Asked as S
+use Rattle.rules.proofs.Asked.Laws as S′
 use Rattle.engine.proofs.ask as g
 use Rattle.engine.proofs.ask.Symbol as g-def
 use Rattle.engine.proofs.ask.Symbol.{name as #g}

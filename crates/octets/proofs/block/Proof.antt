@@ -1,7 +1,7 @@
 -- `block` gives the slice's 16 bytes: a list of 16 elements is those elements, written out.
 -- Assumes nothing.
 use mathlib.Core.Path.{sym}
-use Rattle.octets.proofs.Lists.{written}
+use Rattle.octets.proofs.Lists.{tabulated}
 use borrow.Author.Needs.{needs}
 use Rattle.octets.proofs.block.Statement.{statement}
 use Rattle.octets.proofs.block.Tie as tie
@@ -55,7 +55,7 @@ shared-slice-read-t33 : tie.Need-shared-slice-read-t33
 shared-slice-read-t33 c = search needs
 
 returns : tie.Need-returns
-returns c = sym (written 16 (c .before .before .before .before .before .before .before .before .before .before .before .before .before .before .before .before .args .s .now) (search needs))
+returns c = sym (tabulated 16 (c .before .before .before .before .before .before .before .before .before .before .before .before .before .before .before .before .args .s .now) (search needs))
 
 pub block-spec : {M : Type 1} → statement M
 block-spec =

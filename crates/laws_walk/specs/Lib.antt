@@ -1,0 +1,3 @@
+pub mod Trees
+pub mod Faults
+pub mod Answers
