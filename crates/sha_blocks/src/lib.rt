@@ -82,11 +82,15 @@ fn schedule_of(m: &[u8]) -> [u32; 64]
     w
 }
 
+// What is known before e is comes first, so that the word after e waits for two sums alone.
 fn temporary_1(e: u32, f: u32, g: u32, h: u32, k: u32, w: u32) -> u32
     ensures { λ r. ⌜ r ≡ T₁ e f g h k w ⌝ }
 {
-    let sum = add(add(h, sha_words::big_sigma_1(e)), sha_words::ch(e, f, g));
-    add(add(sum, k), w)
+    let known = add(add(k, w), h);
+    add(
+        add(known, sha_words::ch(e, f, g)),
+        sha_words::big_sigma_1(e),
+    )
 }
 
 fn temporary_2(a: u32, b: u32, c: u32) -> u32

@@ -3,6 +3,9 @@
 // (data/).
 // Proved: every function is safe and ends. What the code answers to the vectors is compared, not proved: that it is SHA-256 is proved in the
 // crates below.
+ghost use mathlib.Core.Path.{_≡_};
+ghost use lib.ListN.{length};
+
 mod file;
 mod trial;
 
@@ -46,8 +49,14 @@ const MILLION_DIGEST: [u8; 32] = [
 
 const MILLION: usize = 1000000;
 
+fn million_bytes() -> [u8; MILLION]
+    ensures { λ r. ⌜ 1000000 ≡ length r ⌝ }
+{
+    [b'a'; MILLION]
+}
+
 fn million_passes() -> bool {
-    let message = [b'a'; MILLION];
+    let message = million_bytes();
     let expected = MILLION_DIGEST;
     let got = sha_hash::sha256(&message);
     trial::judge(b"a million bytes 61", &expected, &got)

@@ -1,23 +1,21 @@
+-- The line is at least as long as the name where its start is compared.
+-- Assumes nothing.
+use mathlib.Core.Path.{sym}
+use native.Mathlib.Omega.{arith}
 use borrow.Author.Needs.{needs}
+use lib.Seq.{length-take-le}
 use Rattle.sha_vectors.proofs.file.starts_with.Statement.{statement}
 use Rattle.sha_vectors.proofs.file.starts_with.Tie as tie
-use Rattle.sha_vectors.proofs.file.starts_with.Reads as reads
-use Rattle.sha_vectors.proofs.file.starts_with.Lts as lts
-use Rattle.octets.proofs.same.Reads as same-reads
 
--- src/file.rt:66:9
 returns : tie.Need-returns
 returns c = search needs
 
--- src/file.rt:68:18
 slice-aggregate-same : tie.Need-slice-aggregate-same
-slice-aggregate-same c = ?
+slice-aggregate-same c = sym (length-take-le _ _ (omega arith))
 
--- src/file.rt:68:5
 same-requires : tie.Need-same-requires
 same-requires c κs = search needs
 
--- src/file.rt:63:1
 returns-2 : tie.Need-returns-2
 returns-2 c = search needs
 
