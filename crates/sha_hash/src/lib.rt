@@ -1,25 +1,19 @@
 // SHA-256 of a message of any number of bytes, which is read in place and not copied.
-// Lengths are in bytes, but for the one that the padding holds, which is in bits; a block has 64 bytes, a digest 32.
+// Lengths are in bytes; a block has 64 bytes, a digest 32.
 // Proved: the digest is the definition's, for every message.
 ghost use mathlib.Core.Path.{_≡_};
 ghost use mathlib.Core.List.{_++_};
 ghost use Prim.Native.Nat.{_+_, _/_, _%_};
-ghost use lib.ListN.{length, take};
+ghost use lib.ListN.{length};
 ghost use Rattle.sha_rules.specs.Constants.{K};
-ghost use Rattle.sha_rules.specs.Padding.{bigEndian, lengthInBits, paddingBytes, padding};
+ghost use Rattle.sha_rules.specs.Padding.{bigEndian, paddingBytes, padding};
 ghost use Rattle.sha_rules.specs.Hash.{blocks, digest, sha256};
-use sha_blocks::BLOCK_BYTES;
+use sha_padding::BLOCK_BYTES;
 
 // A digest, in bytes.
 pub const DIGEST_BYTES: usize = 32;
 
 const HASH_WORDS: usize = 8;
-
-// The field of the padding that holds the message's length, in bytes.
-const LENGTH_BYTES: usize = 8;
-
-// The byte after the message: the standard's one bit, and seven zero bits.
-const FIRST_PADDING_BYTE: u8 = 0x80;
 
 // The hash value after the blocks of s, from the one before them.
 fn hash_blocks(k: &[u32; 64], h: [u32; 8], s: &[u8]) -> [u32; 8]
@@ -39,52 +33,14 @@ fn hash_blocks(k: &[u32; 64], h: [u32; 8], s: &[u8]) -> [u32; 8]
     v
 }
 
-// The length of a message of l bytes as the padding holds it: in bits, modulo 2^64, the highest byte first.
-fn length_field(l: usize) -> [u8; 8]
-    ensures { λ r. ⌜ r ≡ bigEndian 8 (lengthInBits l) ⌝ }
-{
-    let bits = l % 0x2000_0000_0000_0000 * 8;
-    [
-        (bits / 0x100_0000_0000_0000 % 256) as u8,
-        (bits / 0x1_0000_0000_0000 % 256) as u8,
-        (bits / 0x100_0000_0000 % 256) as u8,
-        (bits / 0x1_0000_0000 % 256) as u8,
-        (bits / 0x100_0000 % 256) as u8,
-        (bits / 0x1_0000 % 256) as u8,
-        (bits / 0x100 % 256) as u8,
-        (bits % 256) as u8,
-    ]
-}
-
-// How many bytes the end of a message of l bytes has with the padding behind it: those of one block, or of two.
-fn end_bytes(l: usize) -> usize
-    ensures { λ r. ⌜ r ≡ l % 64 + paddingBytes l ⌝ }
-{
-    (l % BLOCK_BYTES + 72) / BLOCK_BYTES * BLOCK_BYTES
-}
-
-// What is left of a message of l bytes after its whole blocks, with the padding behind it: one block, or two.
-fn padded(rest: &[u8], l: usize) -> [u8; 128]
-    requires { ⌜ length (now rest) ≡ l % 64 ⌝ }
-    ensures { λ r. ⌜ take (l % 64 + paddingBytes l) r ≡ now (rest .entry) ++ padding l ⌝ }
-{
-    let used = rest.len();
-    let end = end_bytes(l);
-    let mut last = [0u8; 128];
-    octets::put(&mut last, 0, rest);
-    last[used] = FIRST_PADDING_BYTE;
-    octets::put(&mut last, end - LENGTH_BYTES, &length_field(l));
-    last
-}
-
 // The hash value after the message's end, from the one after its whole blocks.
 fn hash_end(k: &[u32; 64], h: [u32; 8], rest: &[u8], l: usize) -> [u32; 8]
     requires { ⌜ now k ≡ K ⌝ }
     requires { ⌜ length (now rest) ≡ l % 64 ⌝ }
     ensures { λ r. ⌜ r ≡ blocks ((l % 64 + paddingBytes l) / 64) h (now (rest .entry) ++ padding l) ⌝ }
 {
-    let last = padded(rest, l);
-    let end = end_bytes(l);
+    let last = sha_padding::padded(rest, l);
+    let end = sha_padding::end_bytes(l);
     hash_blocks(k, h, &last[..end])
 }
 
@@ -119,9 +75,9 @@ fn digest_of(h: [u32; 8]) -> [u8; 32]
 pub fn sha256(message: &[u8]) -> [u8; 32]
     ensures { λ r. ⌜ r ≡ sha256 (now (message .entry)) ⌝ }
 {
-    let k = sha_blocks::constants();
+    let k = sha_rounds::constants();
     let l = message.len();
     let whole = l / BLOCK_BYTES * BLOCK_BYTES;
-    let h = hash_blocks(&k, sha_blocks::initial_hash(), &message[..whole]);
+    let h = hash_blocks(&k, sha_rounds::initial_hash(), &message[..whole]);
     digest_of(hash_end(&k, h, &message[whole..], l))
 }

@@ -1,4 +1,4 @@
 pub mod Roots
 pub mod Schedule
 pub mod Blocks
-pub mod Turns
+pub mod Rounds

@@ -24,31 +24,31 @@ expand (suc n) m = expand n m ++ (scheduleWord (expand n m) (16 + n) ∷ [])
 unfoldable pub schedule : List ℕ → List ℕ
 schedule m = expand 48 m
 
--- 6.2.2, 3: a turn with the constant k and the schedule's word w, and the turns 0 to t - 1
+-- 6.2.2, 3: a round with the constant k and the schedule's word w, and the rounds 0 to t - 1
 unfoldable pub T₁ : ℕ → ℕ → ℕ → ℕ → ℕ → ℕ → ℕ
 T₁ e f g h k w = h ⊞ Σ₁ e ⊞ Ch e f g ⊞ k ⊞ w
 
 unfoldable pub T₂ : ℕ → ℕ → ℕ → ℕ
 T₂ a b c = Σ₀ a ⊞ Maj a b c
 
-abbrev pub turned : ℕ → ℕ → ℕ → ℕ → ℕ → ℕ → ℕ → ℕ → ℕ → ℕ → List ℕ
-turned a b c d e f g h k w =
+abbrev pub nextVariables : ℕ → ℕ → ℕ → ℕ → ℕ → ℕ → ℕ → ℕ → ℕ → ℕ → List ℕ
+nextVariables a b c d e f g h k w =
     (T₁ e f g h k w ⊞ T₂ a b c) ∷ a ∷ b ∷ c ∷ (d ⊞ T₁ e f g h k w) ∷ e ∷ f ∷ g ∷ []
 
-unfoldable pub turn : ℕ → ℕ → List ℕ → List ℕ
-turn k w s =
-    turned (getD s 0 0) (getD s 1 0) (getD s 2 0) (getD s 3 0) (getD s 4 0) (getD s 5 0) (getD s 6 0) (getD s 7 0) k w
+unfoldable pub round : ℕ → ℕ → List ℕ → List ℕ
+round k w s =
+    nextVariables (getD s 0 0) (getD s 1 0) (getD s 2 0) (getD s 3 0) (getD s 4 0) (getD s 5 0) (getD s 6 0) (getD s 7 0) k w
 
-unfoldable pub turns : List ℕ → ℕ → List ℕ → List ℕ
-turns w zero s = s
-turns w (suc t) s = turn (getD K t 0) (getD w t 0) (turns w t s)
+unfoldable pub rounds : List ℕ → ℕ → List ℕ → List ℕ
+rounds w zero s = s
+rounds w (suc t) s = round (getD K t 0) (getD w t 0) (rounds w t s)
 
 -- 6.2.2, 2 to 4: the hash value after the block m, from the hash value h before it
 abbrev pub added : List ℕ → List ℕ → List ℕ
 added s h = tabulate 8 (λ i. getD s i 0 ⊞ getD h i 0)
 
 unfoldable pub compress : List ℕ → List ℕ → List ℕ
-compress h m = added (turns (schedule m) 64 h) h
+compress h m = added (rounds (schedule m) 64 h) h
 
 -- the hash value after n blocks
 unfoldable pub blocks : ℕ → List ℕ → List ℕ → List ℕ

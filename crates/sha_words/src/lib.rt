@@ -12,7 +12,7 @@ pub fn add(x: u32, y: u32) -> u32
     ((x as u64 + y as u64) % 4294967296) as u32
 }
 
-// A word turned to the right by n bits.
+// A word rotated to the right by n bits.
 fn rotate(x: u32, n: u32) -> u32
     requires { ⌜ 0 < n ⌝ }
     requires { ⌜ n < 32 ⌝ }
