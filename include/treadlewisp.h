@@ -1,7 +1,8 @@
-/* The engine of a wallet card, for C and C++: the functions of the library that `rt staticlib treadlewisp` writes, on x86-64 Linux.
+/* The engine of a wallet card, for C and C++: the functions of the library that `tools/archive treadlewisp` writes, on x86-64 Linux.
    Every length, room and count is in bytes unless the line says fields or tries. Nothing is kept between calls, and nothing is allocated;
    of the C library only memcpy and memset are needed.
-   What is proved of each function is at its name in crates/treadlewisp/src/lib.rt. It holds if the caller ensures, at every call:
+   What is proved of each function is at its name in crates/library_card, library_engine or library_terminal, src/lib.rt. It holds if the
+   caller ensures, at every call:
    - each pointer is valid for the bytes named (a buffer, and a card or session that is changed: to read and write), and is not null, also
      where the length is 0; no pointer needs an alignment;
    - a length is the number of bytes that may be read, or written, from its pointer on, and is under 2^63;

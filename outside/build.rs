@@ -3,10 +3,11 @@
 use std::env;
 use std::path::Path;
 
-const PROGRAMS: [(&str, &[&str]); 4] = [
-    ("bench", &["treadlewisp", "aes_c"]),
+const PROGRAMS: [(&str, &[&str]); 5] = [
+    ("bench", &["treadlewisp", "aes_c", "sha_c"]),
     ("cards", &["treadlewisp"]),
     ("compare", &["aes_c"]),
+    ("hashes", &["sha_c"]),
     ("player", &["treadlewisp"]),
 ];
 

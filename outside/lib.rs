@@ -1,8 +1,9 @@
-//! What the programs of this package share: the plain model of the rules, two ciphers, the proved libraries' functions, and a seeded
+//! What the programs of this package share: the plain model of the rules, two ciphers, a hash, the proved libraries' functions, and a seeded
 //! generator. Lengths are in bytes.
 
 pub mod ciphers;
 pub mod ffi;
+pub mod hashes;
 pub mod model;
 pub mod random;
 

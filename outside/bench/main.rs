@@ -4,6 +4,7 @@
 
 mod by_word_tables;
 mod ciphers_alone;
+mod hashes_alone;
 mod model_side;
 mod rounds;
 mod sides;
@@ -173,5 +174,6 @@ fn main() {
     let sealed = bench.operations();
     bench.growth(sealed);
     ciphers_alone(&mut bench.random);
-    println!("\nEvery result was the same on all three.");
+    hashes_alone::table(&mut bench.random);
+    println!("\nEvery result was the same on all of them.");
 }

@@ -21,7 +21,7 @@ pub struct Times {
     seconds: [Vec<f64>; SIDES],
 }
 
-fn median(mut numbers: Vec<f64>) -> f64 {
+pub fn median(mut numbers: Vec<f64>) -> f64 {
     numbers.sort_by(f64::total_cmp);
     let middle = numbers.len() / 2;
     if numbers.len() % 2 == 0 {

@@ -79,16 +79,13 @@ status-full c d s h = rw (h .pin, h .puk, h .key)
 init-is-full : (c : Card) (i : Initialises c) → Full (initialised c i)
 init-is-full c i = init-full c (i .bytes) (i .supply) (i .room) (i .sound) (i .fresh) (i .done)
 
--- tries and key of another card
+-- tries and kind of key of another card
 abbrev Like : Card → Card → Type 0
-Like n o = (o .pins ≡ n .pins) × (o .keys ≡ n .keys)
+Like n o =
+    (o .pins .«pin_tries» ≡ n .pins .«pin_tries») × (o .pins .«puk_tries» ≡ n .pins .«puk_tries») × (o .keys .kind ≡ n .keys .kind)
 
 full-like : (n o : Card) → Like n o → Full n → Full o
-full-like n o l h = record {
-  pin = ap (λ (x : Pins). x .«pin_tries») (l .0) ∙ h .pin;
-  puk = ap (λ (x : Pins). x .«puk_tries») (l .0) ∙ h .puk;
-  key = ap (λ (x : Keys). x .kind) (l .1) ∙ h .key;
-}
+full-like n o l h = record { pin = l .0 ∙ h .pin; puk = l .1 ∙ h .puk; key = l .2 ∙ h .key }
 
 status-sent : (c : Card) (i : Initialises c) (o : Card) → InChannel (initialised c i) o → (q : Sent o)
     → q .opens .arrived .command ≡ command.Status status.Application → Gives o q (said ++ word success)
@@ -102,7 +99,7 @@ status-sent c i o h q e =
 
     full : Full x
     full = full-like (initialised c i) x
-        (here-keeps (Like (initialised c i)) (λ y l. l) (λ y mac l. l) o (h .stage) q (h .pins, h .keys)) (init-is-full c i)
+        (here-keeps (Like (initialised c i)) (λ y l. l) (λ y mac l. l) o (h .stage) q (h .pintries, h .puktries, h .kind)) (init-is-full c i)
 
     replies : plainText (outcome (command.Status status.Application) x (q .opens .arrived .data′) (q .supply)) ≡ said ++ word success
     replies = ap (λ (r : List ℕ). r ++ word success) (status-full x (q .opens .arrived .data′) (q .supply) full)

@@ -205,8 +205,11 @@ rows-met = record {
     channel = record {
       sound = ap isSound (stage2-reached .reached .ends) ∙ reached-sound (stage2-reached .iv) .0;
       stage = ap (λ (x : Card). x .channel .stage) (stage2-reached .reached .ends);
-      pins = ap (λ (x : Card). x .pins) (stage2-reached .reached .ends) ∙ sym (ap (λ (x : Card). x .pins) init-is);
-      keys = ap (λ (x : Card). x .keys) (stage2-reached .reached .ends) ∙ sym (ap (λ (x : Card). x .keys) init-is);
+      pintries =
+          ap (λ (x : Card). x .pins .«pin_tries») (stage2-reached .reached .ends) ∙ sym (ap (λ (x : Card). x .pins .«pin_tries») init-is);
+      puktries =
+          ap (λ (x : Card). x .pins .«puk_tries») (stage2-reached .reached .ends) ∙ sym (ap (λ (x : Card). x .pins .«puk_tries») init-is);
+      kind = ap (λ (x : Card). x .keys .kind) (stage2-reached .reached .ends) ∙ sym (ap (λ (x : Card). x .keys .kind) init-is);
     };
     turn = statusTurn;
     header = refl;

@@ -30,7 +30,7 @@ use Rattle.laws_two_runs.proofs.Meets.{secrets-meet, Met, by, unblock-meets}
 use Rattle.laws_two_runs.proofs.WrongEntries.{verifyCall, verifyCalls, AllCompare}
 use Rattle.laws_two_runs.proofs.Reached.{Reachable, initialisedCard, initialised-sound, initialised-reached, stage1-reached, inChannel, session-keyed, stage2-reached, kind1-reached, kind2-reached, reached-sound}
 use Rattle.laws_two_runs.proofs.Examples.{digits, card000000, card111111, cardOtherPuk, wrong-entry, right-entry, threeTimes, three-wrong}
-use Rattle.claims.specs.Secrecy.{SameReply, Reaches, comparisonsOf, Meets, Secrecy}
+use Rattle.claims.specs.Secrecy.{secretIn, SameReply, Reaches, comparisonsOf, Meets, Secrecy}
 
 -- ---- what is reached from FRESH
 reaches : (c : Card) (n k : ℕ) → Reachable c → isSound c ≡ true → c .initialised ≡ 1 → c .channel .stage ≡ n → c .keys .kind ≡ k
@@ -51,15 +51,12 @@ stage1-sound = refl
 
 -- ---- lists that meet the premise
 -- other first digits are other secrets
-other-pin : (p q : Pins) → getD (p .pin) 0 0 ≡ 0x30 → getD (q .pin) 0 0 ≡ 0x31 → p ≡ q → ⊥
-other-pin p q a b e = omega (arith, ap (λ (x : Pins). getD (x .pin) 0 0) e)
+other : (p q : List ℕ) → getD p 0 0 ≡ 0x30 → getD q 0 0 ≡ 0x31 → p ≡ q → ⊥
+other p q a b e = omega (arith, ap (λ (x : List ℕ). getD x 0 0) e)
 
-other-puk : (p q : Pins) → getD (p .puk) 0 0 ≡ 0x30 → getD (q .puk) 0 0 ≡ 0x31 → p ≡ q → ⊥
-other-puk p q a b e = omega (arith, ap (λ (x : Pins). getD (x .puk) 0 0) e)
-
-one-call : (c d : Card) (k : Call) (x : Comparison) → Met c d k x → (c .pins ≡ d .pins → ⊥) → Meets (some x ∷ [])
+one-call : (s : Secret) (c d : Card) (k : Call) (x : Comparison) → Met c d k x → (secretIn s c ≡ secretIn s d → ⊥) → Meets s (some x ∷ [])
 unfolding comparisonsOf
-one-call c d k x m n = record {
+one-call s c d k x m n = record {
   card = c;
   card′ = d;
   calls = k ∷ [];
@@ -73,7 +70,7 @@ unfolding AllCompare comparisonsOf
 all-compared c [] h = refl
 all-compared c (k ∷ more) h = ap₂ (λ (o : Option Comparison) (l : List (Option Comparison)). o ∷ l) (h .0) (all-compared _ more (h .1))
 
-three-calls : Meets (some (by pin false) ∷ some (by pin false) ∷ some (by pin false) ∷ [])
+three-calls : Meets pin (some (by pin false) ∷ some (by pin false) ∷ some (by pin false) ∷ [])
 unfolding verifyCalls
 three-calls = record {
   card = card000000;
@@ -81,7 +78,7 @@ three-calls = record {
   calls = verifyCalls card000000 threeTimes;
   premise = three-wrong .0;
   compared = all-compared card000000 (verifyCalls card000000 threeTimes) (three-wrong .1);
-  differ = other-pin (card000000 .pins) (card111111 .pins) refl refl;
+  differ = other (card000000 .pins .pin) (card111111 .pins .pin) refl refl;
 }
 
 -- ---- a card with no PIN tries left, and UNBLOCK
@@ -98,19 +95,19 @@ blocked-in2 = record {
   keyed = session-keyed (stage2-reached .iv) (stage2-reached .block);
 }
 
-wrong-puk : Meets (some (by puk false) ∷ [])
+wrong-puk : Meets puk (some (by puk false) ∷ [])
 unfolding allOf
-wrong-puk = one-call blocked (withSecrets (digits 6 0x31) (digits 12 0x31) blocked) _ (by puk false)
+wrong-puk = one-call puk blocked (withSecrets (digits 6 0x31) (digits 12 0x31) blocked) _ (by puk false)
     (unblock-meets blocked blocked-in2 (digits 6 0x31) (digits 12 0x31) refl refl (digits 18 0x32) [] (zeros 258)
     (bytes-replicate 18 0x32 (omega arith)) (omega arith) (omega arith) refl refl refl false refl refl)
-    (other-pin (blocked .pins) (withSecrets (digits 6 0x31) (digits 12 0x31) blocked .pins) refl refl)
+    (other (blocked .pins .puk) (digits 12 0x31) refl refl)
 
-right-puk : Meets (some (by puk true) ∷ [])
+right-puk : Meets pin (some (by puk true) ∷ [])
 unfolding allOf
-right-puk = one-call blocked (withSecrets (digits 6 0x31) (digits 12 0x30) blocked) _ (by puk true)
+right-puk = one-call pin blocked (withSecrets (digits 6 0x31) (digits 12 0x30) blocked) _ (by puk true)
     (unblock-meets blocked blocked-in2 (digits 6 0x31) (digits 12 0x30) refl refl (digits 18 0x30) [] (zeros 258)
     (bytes-replicate 18 0x30 (omega arith)) (omega arith) (omega arith) refl refl refl true refl refl)
-    (other-pin (blocked .pins) (withSecrets (digits 6 0x31) (digits 12 0x30) blocked .pins) refl refl)
+    (other (blocked .pins .pin) (digits 6 0x31) refl refl)
 
 -- ---- cards that agree, and the replies by how a comparison came out
 agreement : (c d : Card) → Agree c d ↔ ((p : List ℕ) × ((q : List ℕ) × (withSecrets p q c ≡ d)))
@@ -147,11 +144,11 @@ secrecy = record {
   kind2 =
       reaches (inChannel 2 (kind2-reached .iv) 1 (keyWith 2 (zeros 32))) 2 2 (kind2-reached .reached) (reached-sound (kind2-reached .iv) .2)
       refl refl refl;
-  wrongpin = one-call card000000 card111111 (verifyCall card000000 (digits 6 0x32)) (by pin false) wrong-entry
-      (other-pin (card000000 .pins) (card111111 .pins) refl refl);
+  wrongpin = one-call pin card000000 card111111 (verifyCall card000000 (digits 6 0x32)) (by pin false) wrong-entry
+      (other (card000000 .pins .pin) (card111111 .pins .pin) refl refl);
   wrongpins = three-calls;
-  rightpin = one-call card000000 cardOtherPuk (verifyCall card000000 (digits 6 0x30)) (by pin true) right-entry
-      (other-puk (card000000 .pins) (cardOtherPuk .pins) refl refl);
+  rightpin = one-call puk card000000 cardOtherPuk (verifyCall card000000 (digits 6 0x30)) (by pin true) right-entry
+      (other (card000000 .pins .puk) (cardOtherPuk .pins .puk) refl refl);
   wrongpuk = wrong-puk;
   rightpuk = right-puk;
 }

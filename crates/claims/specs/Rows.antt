@@ -88,12 +88,13 @@ pub record Initialises (c : Card) : Type 0 where
 abbrev pub initialised : (c : Card) → Initialises c → Card
 initialised c i = answerOut c (i .bytes) (i .supply) (i .room) .card
 
--- a sound card in stage 2 with the tries and the key of another
+-- a sound card in stage 2 with the tries and the kind of key of another
 pub record InChannel (before c : Card) : Type 0 where
   pub sound : isSound c ≡ true
   pub stage : c .channel .stage ≡ 2
-  pub pins : c .pins ≡ before .pins
-  pub keys : c .keys ≡ before .keys
+  pub pintries : c .pins .«pin_tries» ≡ before .pins .«pin_tries»
+  pub puktries : c .pins .«puk_tries» ≡ before .pins .«puk_tries»
+  pub kind : c .keys .kind ≡ before .keys .kind
 
 -- ---- the supply of SIGN: public key 65, r and s of 32 bytes each, high byte first
 abbrev pub number32 : ℕ → List ℕ

@@ -1,6 +1,6 @@
 -- Demand 3: the two runs (RULES 11.3), one claim about the list of calls; that its words are exact, those about what a run shows, those about
--- comparisons (RULES 6.3) and those about cards that agree; and that it is not empty. The definitions of calls, runs and premise are those of crate `laws_two_runs`, Runs, and those of
--- comparisons are the rulebook's, Comparison.
+-- comparisons (RULES 6.3) and those about cards that agree; and that it is not empty. The definitions of calls, runs and premise are those of
+-- crate `laws_two_runs`, Runs, and those of comparisons are the rulebook's, Comparison.
 use Prim.Native.Nat.{ℕ, _≤_}
 use mathlib.Core.Path.{_≡_}
 use mathlib.Core.Bool.{Bool, true, false}
@@ -46,14 +46,19 @@ comparisonsOf c (k ∷ more) = comparisonAt c k ∷ comparisonsOf (nextAt c k) m
 abbrev pub made : Secret → Bool → Option Comparison
 made of right = some (record { of = of; right = right })
 
--- two cards with other secrets and a list of calls that meet the premise, and the comparisons that the list makes
-pub record Meets (comparisons : List (Option Comparison)) : Type 0 where
+-- a PIN or a PUK
+abbrev pub secretIn : Secret → Card → List ℕ
+secretIn pin c = c .pins .pin
+secretIn puk c = c .pins .puk
+
+-- two cards that differ in this secret, a list of calls that meet the premise, and the comparisons that the list makes
+pub record Meets (other : Secret) (comparisons : List (Option Comparison)) : Type 0 where
   pub card : Card
   pub card′ : Card
   pub calls : List Call
   pub premise : Premise card card′ calls
   pub compared : comparisonsOf card calls ≡ comparisons
-  pub differ : card .pins ≡ card′ .pins → ⊥
+  pub differ : secretIn other card ≡ secretIn other card′ → ⊥
 
 pub record Secrecy : Type 0 where
   -- the claim
@@ -84,8 +89,8 @@ pub record Secrecy : Type 0 where
   pub kind1 : Reaches 2 1
   pub kind2 : Reaches 2 2
   -- the premise is met with comparisons of each outcome: a wrong PIN, once and three times, the right PIN, a wrong PUK, the right PUK
-  pub wrongpin : Meets (made pin false ∷ [])
-  pub wrongpins : Meets (made pin false ∷ made pin false ∷ made pin false ∷ [])
-  pub rightpin : Meets (made pin true ∷ [])
-  pub wrongpuk : Meets (made puk false ∷ [])
-  pub rightpuk : Meets (made puk true ∷ [])
+  pub wrongpin : Meets pin (made pin false ∷ [])
+  pub wrongpins : Meets pin (made pin false ∷ made pin false ∷ made pin false ∷ [])
+  pub rightpin : Meets puk (made pin true ∷ [])
+  pub wrongpuk : Meets puk (made puk false ∷ [])
+  pub rightpuk : Meets pin (made puk true ∷ [])

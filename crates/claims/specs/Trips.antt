@@ -35,8 +35,9 @@ oldResponse s p = sealField s oldHead p ++ plainSuccess
 abbrev pub zeroSession : Session
 zeroSession = record { «enc_key» = replicate 32 0; «mac_key» = replicate 32 0; iv = replicate 16 0 }
 
--- ---- sealed messages, from card to terminal. Lr is the length of the field, MAC and ciphertext. UNSEAL gives the bytes that were sealed, and the session of the card that sealed them. With the
--- same session it never takes a response sealed by the old rule: 7 where the room is enough, 2 where it is not, and the session as given
+-- ---- sealed messages, from card to terminal. Lr is the length of the field, MAC and ciphertext. UNSEAL gives the bytes that were sealed, and the
+-- session of the card that sealed them. With the same session it never takes a response sealed by the old rule: 7 where the room is enough, 2
+-- where it is not, and the session as given
 pub record Responses : Type 0 where
   pub lrcounts : (s : Session) (p : List ℕ) → Keyed s → Bytes p → length p ≤ 223
       → lr (length (ciphertext s p)) ≡ length (sealField s responseHead p)

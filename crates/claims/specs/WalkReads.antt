@@ -30,7 +30,7 @@ pub record WalkFaults : Type 0 where
   pub onecase : (s : List ℕ) → ((n : ℕ) × Holds s n) ⊎ (((k : ℕ) × FirstFault s Malformed k) ⊎ ((k : ℕ) × FirstFault s TooDeep k))
   pub apart : (s : List ℕ) (n : ℕ) (f : Fault) (k : ℕ) → Holds s n → FirstFault s f k → ⊥
   pub oneplace : (s : List ℕ) (f g : Fault) (j k : ℕ) → FirstFault s f j → FirstFault s g k → (f ≡ g) × (j ≡ k)
-  -- the place is that of a byte of the input; of a template that stands too deep it is that of a template's tag
+  -- the place is that of a byte of the input; of a template that is too deep it is that of a template's tag
   pub atbyte : (s : List ℕ) (f : Fault) (k : ℕ) → FirstFault s f k → k < length s
   pub attemplate : (s : List ℕ) (k : ℕ) → FirstFault s TooDeep k → isTemplate (getD s k 0) ≡ true
 
@@ -43,7 +43,7 @@ pub record WalkAnswers : Type 0 where
   pub signature : (key r s : List ℕ) → length key ≤ 65 → length r ≤ 32 → length s ≤ 32
       → Encodes (signatureTrees key r s) (signature key r s) 3
 
--- ---- examples. 80 01 FF, then A1 with 80 03 00, then 80 00: the field inside A1 ends behind A1, though within the input, and its tag stands 5 bytes
+-- ---- examples. 80 01 FF, then A1 with 80 03 00, then 80 00: the field inside A1 ends after A1, though within the input, and its tag is 5 bytes
 -- from the start. Four templates, one in the other, and in the last a fifth, or a field that is no template
 pub record WalkExamples : Type 0 where
   pub pastparent : FirstFault (0x80 ∷ 0x01 ∷ 0xFF ∷ 0xA1 ∷ 0x03 ∷ 0x80 ∷ 0x03 ∷ 0x00 ∷ 0x80 ∷ 0x00 ∷ []) Malformed 5

@@ -1,0 +1,4 @@
+pub mod Roots
+pub mod Schedule
+pub mod Blocks
+pub mod Rounds

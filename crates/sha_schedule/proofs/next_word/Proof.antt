@@ -1,0 +1,85 @@
+-- The sum is the definition's, term for term; every word that it reads is within the schedule.
+-- Assumes nothing.
+use mathlib.Core.Path.{refl}
+use borrow.Author.Needs.{needs}
+use Rattle.sha_rules.specs.Hash.{scheduleWord}
+use Rattle.sha_schedule.proofs.next_word.Statement.{statement}
+use Rattle.sha_schedule.proofs.next_word.Tie as tie
+
+sub-small-sigma-1 : tie.Need-sub-small-sigma-1
+sub-small-sigma-1 c = search needs
+
+mul-small-sigma-1 : tie.Need-mul-small-sigma-1
+mul-small-sigma-1 c = search needs
+
+element-copy-out-small-sigma-1 : tie.Need-element-copy-out-small-sigma-1
+element-copy-out-small-sigma-1 c = search needs
+
+small-sigma-1-requires : tie.Need-small-sigma-1-requires
+small-sigma-1-requires c κs = search needs
+
+sub-add : tie.Need-sub-add
+sub-add c = search needs
+
+mul-add : tie.Need-mul-add
+mul-add c = search needs
+
+element-copy-out-add : tie.Need-element-copy-out-add
+element-copy-out-add c = search needs
+
+add-requires : tie.Need-add-requires
+add-requires c κs = search needs
+
+sub-small-sigma-0 : tie.Need-sub-small-sigma-0
+sub-small-sigma-0 c = search needs
+
+mul-small-sigma-0 : tie.Need-mul-small-sigma-0
+mul-small-sigma-0 c = search needs
+
+element-copy-out-small-sigma-0 : tie.Need-element-copy-out-small-sigma-0
+element-copy-out-small-sigma-0 c = search needs
+
+small-sigma-0-requires : tie.Need-small-sigma-0-requires
+small-sigma-0-requires c κs = search needs
+
+add-requires-2 : tie.Need-add-requires-2
+add-requires-2 c κs = search needs
+
+sub-add-2 : tie.Need-sub-add-2
+sub-add-2 c = search needs
+
+mul-add-2 : tie.Need-mul-add-2
+mul-add-2 c = search needs
+
+element-copy-out-add-2 : tie.Need-element-copy-out-add-2
+element-copy-out-add-2 c = search needs
+
+add-requires-3 : tie.Need-add-requires-3
+add-requires-3 c κs = search needs
+
+returns : tie.Need-returns
+unfolding scheduleWord
+returns c = rw (c .add3 .ensures, c .before .before .add2 .ensures, c .before .before .before .small-sigma-0 .ensures, c .before .before .before .before .before .add .ensures, c .before .before .before .before .before .before .before .small-sigma-1 .ensures) refl
+
+pub next-word-spec : {M : Type 1} → statement M
+next-word-spec =
+    tie.close
+    (tie.spec
+    sub-small-sigma-1
+    mul-small-sigma-1
+    element-copy-out-small-sigma-1
+    small-sigma-1-requires
+    sub-add
+    mul-add
+    element-copy-out-add
+    add-requires
+    sub-small-sigma-0
+    mul-small-sigma-0
+    element-copy-out-small-sigma-0
+    small-sigma-0-requires
+    add-requires-2
+    sub-add-2
+    mul-add-2
+    element-copy-out-add-2
+    add-requires-3
+    returns)
