@@ -41,7 +41,7 @@ const DERIVE_SUPPLY_BYTES: usize = 1;
 
 // ---- what both commands use
 // Whether the data are a path: 0 to 40 bytes, 4 a component.
-fn is_path(data: &[u8]) -> bool
+pub fn is_path(data: &[u8]) -> bool
     ensures { λ r. ⌜ r ≡ isPath (now («data» .entry)) ⌝ }
 {
     let most = data.len() <= PATH_MAX_BYTES;
@@ -75,7 +75,7 @@ pub fn derive_verdict(pins: Pins, keys: Keys, data: &[u8]) -> Verdict
 }
 
 // The keys with this current path.
-fn with_current(mut keys: Keys, path: Path) -> Keys
+pub fn with_current(mut keys: Keys, path: Path) -> Keys
     ensures { λ r. ⌜ r ≡ withCurrent keys path ⌝ }
 {
     keys.current = path;

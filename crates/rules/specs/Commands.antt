@@ -1,4 +1,4 @@
--- The fifteen instructions' commands (RULES 6), in its order, and at the end one rule for each command: the checks of step 6, in order, with
+-- The sixteen instructions' commands (RULES 6), in its order, and at the end one rule for each command: the checks of step 6, in order, with
 -- their status words; what is compared and which supply is read past them (Supplies.antt); and the reply, from the card, the data (opened,
 -- where the command is sealed) and the supply. Every length is in bytes.
 use Prim.Native.Nat.{ℕ, _+_, _-_, _%_}
@@ -33,10 +33,14 @@ use Rattle.rules.specs.declared.SecretKind.{SecretKind}
 use Rattle.rules.specs.declared.SecretKind.the-variants as secret
 use Rattle.rules.specs.declared.KeyForm.{KeyForm}
 use Rattle.rules.specs.declared.KeyForm.the-variants as key
+use Rattle.rules.specs.declared.ExportPath.{ExportPath}
+use Rattle.rules.specs.declared.ExportPath.the-variants as exportPath
+use Rattle.rules.specs.declared.ExportPart.{ExportPart}
+use Rattle.rules.specs.declared.ExportPart.the-variants as exportPart
 use Rattle.rules.specs.declared.Command.{Command}
 use Rattle.rules.specs.declared.Command.the-variants as command
 use Rattle.rules.specs.Words.{triesLeft, securityNotMet, referenceInvalid, conditionsNotMet, wrongData, notFound, noSpace, wrongParameters, Check, must, Reply, succeeds, fails}
-use Rattle.rules.specs.Supplies.{noSupply, initSupply, openSupply, mutualSupply, pairFirstSupply, pairFinalSupply, loadSupply, deriveSupply, signSupply, saysYes, part, initKey, openEncKey, openMacKey, openSalt, openIv, mutualRandom, pairCryptogram, pairChallenge, pairExpected, pairSalt, pairKey, loadUid, signKey, signR, signS}
+use Rattle.rules.specs.Supplies.{noSupply, initSupply, openSupply, mutualSupply, pairFirstSupply, pairFinalSupply, loadSupply, deriveSupply, signSupply, exportSupply, saysYes, part, initKey, openEncKey, openMacKey, openSalt, openIv, mutualRandom, pairCryptogram, pairChallenge, pairExpected, pairSalt, pairKey, loadUid, signKey, signR, signS, exportPublic, exportPrivate}
 use Rattle.rules.specs.Rules.{Secret, pin, puk, Rule, rule, comparing}
 
 -- ---- what several commands ask (RULES 6.2)
@@ -315,6 +319,53 @@ signChecks p k d =
 unfoldable pub signReply : Card → List ℕ → Reply
 signReply c s = succeeds c (answer.signature (signKey s) (signR s) (signS s))
 
+-- ---- EXPORT C2 (RULES 6.19), with an extended key and a verified PIN; a PIN-less path does not help
+-- the data for each P1: none, or a path as DERIVE's
+abbrev pub isExportData : ExportPath → List ℕ → Bool
+isExportData exportPath.Current d = isZero (length d)
+isExportData exportPath.Given d = isPath d
+isExportData exportPath.MakeCurrent d = isPath d
+
+-- the path whose keys go out
+abbrev pub exportedPath : ExportPath → Keys → List ℕ → List ℕ
+exportedPath exportPath.Current k d = pathBytes (k .current)
+exportedPath exportPath.Given k d = d
+exportedPath exportPath.MakeCurrent k d = d
+
+-- the node whose keys are no money's (EIP-1581): 8000002B 8000003C 8000062D; a path that begins so is that node or below it
+abbrev pub eip1581Node : List ℕ
+eip1581Node = 0x80 ∷ 0x00 ∷ 0x00 ∷ 0x2B ∷ 0x80 ∷ 0x00 ∷ 0x00 ∷ 0x3C ∷ 0x80 ∷ 0x00 ∷ 0x06 ∷ 0x2D ∷ []
+
+abbrev pub inEip1581 : List ℕ → Bool
+inEip1581 path = sameBytes (take 12 path) eip1581Node
+
+-- a private key goes out there alone, a public key everywhere
+abbrev pub mayGoOut : ExportPart → List ℕ → Bool
+mayGoOut exportPart.PrivateAndPublic path = inEip1581 path
+mayGoOut exportPart.PublicOnly path = true
+
+unfoldable pub exportChecks : Pins → Keys → ExportPath → ExportPart → List ℕ → List Check
+exportChecks p k which what d =
+    must (eqb (k .kind) 2 && isVerified p) conditionsNotMet
+    ∷ must (isExportData which d) wrongData
+    ∷ must (mayGoOut what (exportedPath which k d)) conditionsNotMet
+    ∷ []
+
+-- what goes out, from the supply
+abbrev pub exportedKeys : ExportPart → List ℕ → List ℕ
+exportedKeys exportPart.PrivateAndPublic s = answer.exportedPair (exportPublic s) (exportPrivate s)
+exportedKeys exportPart.PublicOnly s = answer.exportedPublic (exportPublic s)
+
+-- P1 02: the given path becomes current
+abbrev pub keysAfterExport : ExportPath → Keys → List ℕ → Keys
+keysAfterExport exportPath.Current k d = k
+keysAfterExport exportPath.Given k d = k
+keysAfterExport exportPath.MakeCurrent k d = withCurrent k (pathOf d)
+
+unfoldable pub exportReply : Card → ExportPath → ExportPart → List ℕ → List ℕ → Reply
+exportReply c which what d s =
+    cond (saysYes s) (succeeds (withKeys c (keysAfterExport which (c .keys) d)) (exportedKeys what s)) (fails c referenceInvalid)
+
 -- ---- the rules (RULES 6.2): for each command its checks, the supply that is read past them or the secret that is compared, and its reply
 unfoldable pub ruleOf : Command → Rule
 ruleOf command.Select = rule (λ c d. selectChecks d) noSupply (λ c d s. selectReply c)
@@ -333,3 +384,5 @@ ruleOf command.Derive = rule (λ c d. deriveChecks (c .pins) (c .keys) d) derive
 ruleOf command.Remove = rule (λ c d. removeChecks (c .pins)) noSupply (λ c d s. removeReply c)
 ruleOf command.SetPinless = rule (λ c d. pinlessChecks (c .pins) d) noSupply (λ c d s. pinlessReply c d)
 ruleOf command.Sign = rule (λ c d. signChecks (c .pins) (c .keys) d) signSupply (λ c d s. signReply c s)
+ruleOf (command.Export which what) =
+    rule (λ c d. exportChecks (c .pins) (c .keys) which what d) exportSupply (λ c d s. exportReply c which what d s)

@@ -1,4 +1,4 @@
--- The fifteen instructions, one row each (RULES 6.1): the byte, where the instruction is offered, the stage of
+-- The sixteen instructions, one row each (RULES 6.1): the byte, where the instruction is offered, the stage of
 -- the channel that it needs, the P1 and P2 that it lists with the command that each names, and what it gives up.
 use Prim.Native.Nat.{ℕ}
 use mathlib.Core.Bool.{Bool, true, not, cond}
@@ -16,6 +16,9 @@ use Rattle.rules.specs.declared.Loss.the-variants as loss
 use Rattle.rules.specs.declared.StatusKind.the-variants as status
 use Rattle.rules.specs.declared.SecretKind.the-variants as secret
 use Rattle.rules.specs.declared.KeyForm.the-variants as key
+use Rattle.rules.specs.declared.ExportPath.the-variants as exportPath
+use Rattle.rules.specs.declared.ExportPart.{ExportPart}
+use Rattle.rules.specs.declared.ExportPart.the-variants as exportPart
 use Rattle.rules.specs.declared.Command.{Command}
 use Rattle.rules.specs.declared.Command.the-variants as command
 
@@ -39,6 +42,18 @@ only n k = oneOf ((n, k) ∷ [])
 -- P1 is a slot's index, P2 is 00
 abbrev pub slot : (ℕ → Command) → Listing
 slot k p1 p2 = cond (isZero p2) (cond (ltb p1 slotCount) (some (k p1)) none) none
+
+-- P2 is 00 and P1 one of the first list, or P2 is 01 and P1 one of the second
+abbrev pub oneOfEach : List (ℕ × Command) → List (ℕ × Command) → Listing
+oneOfEach with00 with01 p1 p2 = cond (isZero p2) (atP1 with00 p1) (cond (eqb p2 0x01) (atP1 with01 p1) none)
+
+-- the three P1 of EXPORT, for what its P2 lets out
+abbrev pub exports : ExportPart → List (ℕ × Command)
+exports what =
+    (0x00, command.Export exportPath.Current what)
+    ∷ (0x01, command.Export exportPath.Given what)
+    ∷ (0x02, command.Export exportPath.MakeCurrent what)
+    ∷ []
 
 -- ---- the rows (RULES 6.1). Stage 0 is said of SELECT, INIT, OPEN and PAIR, which are plain in every stage; MUTUAL goes in stage 1 or 2, the
 -- others in stage 2
@@ -75,6 +90,7 @@ rowOf ins.Derive = sealedRow 0xD1 (only 0x00 command.Derive)
 rowOf ins.Remove = sealedRow 0xD3 (only 0x00 command.Remove)
 rowOf ins.SetPinless = sealedRow 0xC1 (only 0x00 command.SetPinless)
 rowOf ins.Sign = sealedRow 0xC0 (only 0x00 command.Sign)
+rowOf ins.Export = sealedRow 0xC2 (oneOfEach (exports exportPart.PrivateAndPublic) (exports exportPart.PublicOnly))
 
 -- those of class 80 (RULES 5.3): all but SELECT
 abbrev pub class80 : List Instruction
@@ -93,6 +109,7 @@ class80 =
     ∷ ins.Remove
     ∷ ins.SetPinless
     ∷ ins.Sign
+    ∷ ins.Export
     ∷ []
 
 -- ---- what a row says

@@ -1,4 +1,4 @@
--- The eight supplies (RULES 4). Every length is in bytes.
+-- The nine supplies (RULES 4). Every length is in bytes.
 use Prim.Native.Nat.{ℕ}
 use mathlib.Core.Bool.{Bool, true, false, _&&_, _||_, not}
 use mathlib.Core.List.{List}
@@ -37,6 +37,9 @@ deriveSupply = supply 7 1 true
 
 abbrev pub signSupply : Supply
 signSupply = supply 8 129 false
+
+abbrev pub exportSupply : Supply
+exportSupply = supply 9 98 true
 
 -- ---- the form that refusal 3 asks for (RULES 4.1): the length, and a flag byte of 00 or 01. A supply that is not read has every form
 abbrev pub flagOf : List ℕ → ℕ
@@ -105,3 +108,10 @@ signR s = part 65 32 s
 
 abbrev pub signS : List ℕ → List ℕ
 signS s = part 97 32 s
+
+-- kind 9: flag, public key 65, private key 32
+abbrev pub exportPublic : List ℕ → List ℕ
+exportPublic s = part 1 65 s
+
+abbrev pub exportPrivate : List ℕ → List ℕ
+exportPrivate s = part 66 32 s

@@ -65,6 +65,8 @@ pub const INS_SET_PINLESS: u8 = 0xC1;
 
 pub const INS_SIGN: u8 = 0xC0;
 
+pub const INS_EXPORT: u8 = 0xC2;
+
 // The most data that a command's response has, in bytes: with the status word it can be sealed.
 pub const RESPONSE_MAX_BYTES: usize = 221;
 
@@ -85,6 +87,7 @@ pub enum Instruction {
     Remove,
     SetPinless,
     Sign,
+    Export,
 }
 
 // Where an instruction is offered: on every card, on one before INIT, or on one after INIT.
@@ -130,7 +133,21 @@ pub enum KeyForm {
     Seed,
 }
 
-// A command whose P1 and P2 are listed. OPEN and UNPAIR carry the slot's index; GET STATUS, CHANGE and LOAD the choice that P1 makes.
+// EXPORT, P1 00, 01 and 02: the current path; the given one; the given one, which then becomes current.
+pub enum ExportPath {
+    Current,
+    Given,
+    MakeCurrent,
+}
+
+// EXPORT, P2 00 and 01: the private key and the public key; the public key alone.
+pub enum ExportPart {
+    PrivateAndPublic,
+    PublicOnly,
+}
+
+// A command whose P1 and P2 are listed. OPEN and UNPAIR carry the slot's index; GET STATUS, CHANGE and LOAD the choice that P1 makes; EXPORT
+// those that P1 and P2 make.
 pub enum Command {
     Select,
     Init,
@@ -148,6 +165,7 @@ pub enum Command {
     Remove,
     SetPinless,
     Sign,
+    Export(ExportPath, ExportPart),
 }
 
 // Step 5: the command, or that its P1 and P2 are not listed.

@@ -9,7 +9,7 @@ use Rattle.template_rules.specs.Template.{fieldHead, field, fieldBytes}
 use Rattle.template_rules.specs.Der.{derContent, derInteger}
 use Rattle.template_rules.proofs.HeadFacts.{field-length, short-field, field-bytes-short, field-bytes-le}
 use Rattle.template_rules.proofs.DerFacts.{der-length}
-use Rattle.template_answers.specs.Answers.{applicationBytes, applicationFields, pair, signature}
+use Rattle.template_answers.specs.Answers.{applicationBytes, applicationFields, pair, signature, exportedPublic, exportedPair}
 
 -- ---- applicationFields, applicationInfo
 five : (a b c d e : List ℕ) → length (a ++ b ++ c ++ d ++ e) ≡ length a + length b + length c + length d + length e
@@ -81,3 +81,36 @@ signature-length-le key r s k p q =
     let inner = field 0x80 key ++ field 0x30 (pair r s) in
     let small = signature-bytes-le (length key) (length (pair r s)) k (pair-length-le r s p q) in
     omega (arith, field-length 0xA0 inner, field-bytes-le (length inner), signature-inner key r s, small)
+
+-- ---- exportedPublic, exportedPair: inner length 67, or 101 with the private key (RULES 9.5)
+pub exported-bytes-le : (key private : ℕ) → key ≤ 65 → private ≤ 32 → fieldBytes key + fieldBytes private ≤ 101
+exported-bytes-le key private k p = omega (arith, field-bytes-short key (omega arith), field-bytes-short private (omega arith))
+
+pub exported-inner : (key private : List ℕ)
+    → length (field 0x80 key ++ field 0x81 private) ≡ fieldBytes (length key) + fieldBytes (length private)
+exported-inner key private =
+    length-append (field 0x80 key) (field 0x81 private) ∙ ap₂ _+_ (field-length 0x80 key) (field-length 0x81 private)
+
+-- the parts as they are written one after the other
+pub exported-public-parts : (key : List ℕ) (n : ℕ) → n ≡ fieldBytes (length key) → fieldHead 0xA1 n ++ field 0x80 key ≡ exportedPublic key
+exported-public-parts key n e = ap (λ (k : ℕ). fieldHead 0xA1 k ++ field 0x80 key) (e ∙ sym (field-length 0x80 key))
+
+pub exported-pair-parts : (key private : List ℕ) (n : ℕ) → n ≡ fieldBytes (length key) + fieldBytes (length private)
+    → fieldHead 0xA1 n ++ field 0x80 key ++ field 0x81 private ≡ exportedPair key private
+exported-pair-parts key private n e =
+    append-assoc (fieldHead 0xA1 n) (field 0x80 key) (field 0x81 private)
+    ∙ ap (λ (k : ℕ). fieldHead 0xA1 k ++ (field 0x80 key ++ field 0x81 private)) (e ∙ sym (exported-inner key private))
+
+-- no answer to EXPORT is longer than 103 bytes
+pub exported-public-length-le : (key : List ℕ) → length key ≤ 65 → length (exportedPublic key) ≤ 69
+exported-public-length-le key k =
+    let inner = field 0x80 key in
+    let l = short-field 0x80 key (omega arith) in
+    omega (arith, l, short-field 0xA1 inner (omega (arith, l)))
+
+pub exported-pair-length-le : (key private : List ℕ) → length key ≤ 65 → length private ≤ 32 → length (exportedPair key private) ≤ 103
+exported-pair-length-le key private k p =
+    let inner = field 0x80 key ++ field 0x81 private in
+    let small = exported-bytes-le (length key) (length private) k p in
+    let l = exported-inner key private in
+    omega (arith, l, small, short-field 0xA1 inner (omega (arith, l, small)))

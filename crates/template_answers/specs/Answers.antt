@@ -38,3 +38,10 @@ pair r s = derInteger r ++ derInteger s
 
 abbrev pub signature : List ℕ → List ℕ → List ℕ → List ℕ
 signature key r s = field 0xA0 (field 0x80 key ++ field 0x30 (pair r s))
+
+-- EXPORT (RULES 6.19, 9.5): A1 holding 80 public key, or with it 81 private key
+abbrev pub exportedPublic : List ℕ → List ℕ
+exportedPublic key = field 0xA1 (field 0x80 key)
+
+abbrev pub exportedPair : List ℕ → List ℕ → List ℕ
+exportedPair key private = field 0xA1 (field 0x80 key ++ field 0x81 private)
