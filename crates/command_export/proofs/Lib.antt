@@ -1,2 +1,3 @@
 pub mod CheckFacts
+pub mod PathFacts
 pub mod ExportReplies

@@ -3,13 +3,15 @@
 // Proved: the verdict, the reply and every byte of the buffer are what the command's rule gives, for every card whose current path fits.
 ghost use mathlib.Core.Bool.{true};
 ghost use mathlib.Core.Path.{_≡_};
-ghost use Prim.Native.Nat.{_≤_};
+ghost use mathlib.Core.List.{[], _∷_};
+ghost use Prim.Native.Nat.{_+_, _≤_};
 ghost use lib.ListN.{length};
+ghost use Rattle.octets.specs.Bytes.{sameBytes};
 ghost use Rattle.template_rules.specs.Writing.{Wrote};
 ghost use Rattle.card.specs.State.{pathBytes};
 ghost use Rattle.rules.specs.Words.{Hold, verdict};
 ghost use Rattle.rules.specs.Code.{Replies};
-ghost use Rattle.rules.specs.Supplies.{suits, exportSupply};
+ghost use Rattle.rules.specs.Supplies.{part, suits, exportSupply};
 ghost use Rattle.rules.specs.Commands.{isExportData, exportedPath, inEip1581, mayGoOut, exportedKeys, keysAfterExport};
 ghost use Rattle.rules.specs.Commands.{exportChecks, exportReply};
 use card::Card;
@@ -48,8 +50,11 @@ pub const EXPORT_PRIVATE_AT: usize = 66;
 
 pub const EXPORT_PRIVATE_END: usize = 98;
 
-// The node of EIP-1581, three components of a path: 8000002B 8000003C 8000062D.
-pub const EIP_1581_BYTES: usize = 12;
+// The node of EIP-1581: three components of a path.
+const EIP_1581_BYTES: usize = 12;
+
+// The first byte of a hardened component whose index has two bytes.
+const HARDENED: u8 = 0x80;
 
 // ---- EXPORT C2: the keys of the current path or of a given one
 // Whether the data are what this P1 takes: none, or a path.
@@ -63,28 +68,29 @@ fn is_export_data(which: ExportPath, data: &[u8]) -> bool
     }
 }
 
-// Whether a path is the node of EIP-1581 or below it.
+// Whether the component at a place is the hardened one with this index, which has two bytes: the top bit of a hardened component is set.
+fn is_hardened(path: &[u8], at: usize, high: u8, low: u8) -> bool
+    requires { ⌜ at + 4 ≤ length (now path) ⌝ }
+    ensures { λ r. ⌜ r ≡ sameBytes (part at 4 (now (path .entry))) (0x80 ∷ 0 ∷ high ∷ low ∷ []) ⌝ }
+{
+    let first = path[at] == HARDENED;
+    let second = path[at + 1] == 0;
+    let third = path[at + 2] == high;
+    let fourth = path[at + 3] == low;
+    first & (second & (third & fourth))
+}
+
+// Whether a path is the node of EIP-1581 or below it: its first three components are 8000002B, 8000003C and 8000062D.
 fn in_eip_1581(path: &[u8]) -> bool
     ensures { λ r. ⌜ r ≡ inEip1581 (now (path .entry)) ⌝ }
 {
     if path.len() < EIP_1581_BYTES {
         return false;
     }
-    let node = [
-        0x80,
-        0x00,
-        0x00,
-        0x2B,
-        0x80,
-        0x00,
-        0x00,
-        0x3C,
-        0x80,
-        0x00,
-        0x06,
-        0x2D,
-    ];
-    octets::same(&path[..EIP_1581_BYTES], &node)
+    let purpose = is_hardened(path, 0, 0x00, 0x2B);
+    let coin = is_hardened(path, 4, 0x00, 0x3C);
+    let usage = is_hardened(path, 8, 0x06, 0x2D);
+    purpose & (coin & usage)
 }
 
 // The same of a path of the card.

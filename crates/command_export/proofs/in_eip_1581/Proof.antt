@@ -1,33 +1,30 @@
--- The first twelve bytes are compared; a path with fewer is none of these.
+-- The three components are those of the node; a path with fewer is not there.
 -- Assumes nothing.
+use mathlib.Core.Path.{sym}
 use native.Mathlib.Omega.{arith}
-use mathlib.Core.Path.{sym, ap}
-use lib.ListN.{length, take}
-use lib.Seq.{length-take-le, take-all}
-use Rattle.octets.proofs.Lists.{same-lengths}
-use Rattle.rules.specs.Commands.{eip1581Node}
+use Rattle.command_export.proofs.PathFacts.{eip-short, eip-long}
 use borrow.Author.Needs.{needs}
 use Rattle.command_export.proofs.in_eip_1581.Statement.{statement}
 use Rattle.command_export.proofs.in_eip_1581.Tie as tie
 
 returns : tie.Need-returns
-returns c =
-    let s = c .before .before .args .path .now in
-    sym (same-lengths (take 12 s) eip1581Node (λ e. omega (arith, e, ap length (take-all 12 s (omega (arith, c .if1 .taken))))))
+returns c = sym (eip-short (c .before .before .args .path .now) (omega (arith, c .if1 .taken)))
 
-slice-aggregate-same : tie.Need-slice-aggregate-same
-slice-aggregate-same c = sym (length-take-le 12 (c .before .before .before .args .path .now) (omega (arith, c .before .if1 .left)))
+is-hardened-requires : tie.Need-is-hardened-requires
+is-hardened-requires c κs = search needs
 
-slice-aggregate-same-2 : tie.Need-slice-aggregate-same-2
-slice-aggregate-same-2 c = search needs
+is-hardened-requires-2 : tie.Need-is-hardened-requires-2
+is-hardened-requires-2 c κs = search needs
 
-same-requires : tie.Need-same-requires
-same-requires c κs = search needs
+is-hardened-requires-3 : tie.Need-is-hardened-requires-3
+is-hardened-requires-3 c κs = search needs
 
 returns-2 : tie.Need-returns-2
-returns-2 c = search needs
+returns-2 c =
+    rw (c .before .before .is-hardened .ensures, c .before .is-hardened2 .ensures, c .is-hardened3 .ensures)
+    (sym (eip-long (c .before .before .before .before .before .args .path .now) (omega (arith, c .before .before .before .if1 .left))))
 
 pub in-eip-1581-spec : {M : Type 1} → statement M
 in-eip-1581-spec =
     tie.close
-    (tie.spec returns slice-aggregate-same slice-aggregate-same-2 same-requires returns-2)
+    (tie.spec returns is-hardened-requires is-hardened-requires-2 is-hardened-requires-3 returns-2)
