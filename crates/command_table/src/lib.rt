@@ -42,6 +42,9 @@ pub fn judge(card: Card, k: Command, data: &[u8]) -> Verdict
         Command::Remove => command_load::remove_verdict(pins),
         Command::SetPinless => command_paths::pinless_verdict(pins, data),
         Command::Sign => command_sign::sign_verdict(pins, keys, data),
+        Command::Export(which, what) => {
+            command_export::export_verdict(pins, keys, which, what, data)
+        }
     }
 }
 
@@ -68,5 +71,8 @@ pub fn act(card: Card, k: Command, data: &[u8], supply: &[u8], out: &mut [u8]) -
         Command::Remove => command_load::remove(card),
         Command::SetPinless => command_paths::pinless(card, data),
         Command::Sign => command_sign::sign(card, supply, out),
+        Command::Export(which, what) => {
+            command_export::export(card, which, what, data, supply, out)
+        }
     }
 }

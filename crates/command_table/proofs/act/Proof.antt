@@ -138,6 +138,15 @@ unfolding ruleOf
 sign-requires c κs = let b6 = c .before .before .before .before .before .before in
     (suited _ _ (c .before .enum-told12 .given .1) _ (b6 .pre .0 .1), b6 .pre .1 .1)
 
+enum-known-k-5 : tie.Need-enum-known-k-5
+enum-known-k-5 c = search needs
+
+export-requires : tie.Need-export-requires
+unfolding ruleOf
+export-requires c κs = let b7 = c .before .before .before .before .before .before .before in
+    let k = c .before .before .k5 .given .1 in
+    ((checked _ _ k _ _ (b7 .pre .0 .0), suited _ _ k _ (b7 .pre .0 .1)), b7 .pre .1 .1)
+
 same-length : tie.Need-same-length
 same-length c = search needs
 
@@ -234,6 +243,14 @@ unfolding ruleOf
 returns-16 c = let b4 = c .before .before .before .before in
     rw (b4 .enum-told12 .given .1) (c .before .before .sign .ensures)
 
+same-length-9 : tie.Need-same-length-9
+same-length-9 c = search needs
+
+returns-17 : tie.Need-returns-17
+unfolding ruleOf
+returns-17 c = let b5 = c .before .before .before .before .before in
+    rw (b5 .k5 .given .1) (c .before .before .export .ensures)
+
 pub act-spec : {M : Type 1} → statement M
 act-spec =
     tie.close
@@ -270,6 +287,8 @@ act-spec =
     pinless-requires
     enum-told-12
     sign-requires
+    enum-known-k-5
+    export-requires
     same-length
     returns
     returns-2
@@ -293,4 +312,6 @@ act-spec =
     returns-14
     returns-15
     same-length-8
-    returns-16)
+    returns-16
+    same-length-9
+    returns-17)

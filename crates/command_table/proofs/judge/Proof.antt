@@ -101,6 +101,12 @@ enum-told-13 c = search needs
 sign-verdict-requires : tie.Need-sign-verdict-requires
 sign-verdict-requires c κs = search needs
 
+enum-known-k-4 : tie.Need-enum-known-k-4
+enum-known-k-4 c = search needs
+
+export-verdict-requires : tie.Need-export-verdict-requires
+export-verdict-requires c κs = search needs
+
 returns : tie.Need-returns
 unfolding ruleOf
 returns c = rw (c .before .enum-told .given .1, c .select-verdict .ensures)
@@ -165,6 +171,10 @@ returns-16 : tie.Need-returns-16
 unfolding ruleOf
 returns-16 c = rw (c .before .enum-told13 .given .1, c .sign-verdict .ensures)
 
+returns-17 : tie.Need-returns-17
+unfolding ruleOf
+returns-17 c = rw (c .before .before .k4 .given .1, c .export-verdict .ensures)
+
 pub judge-spec : {M : Type 1} → statement M
 judge-spec =
     tie.close
@@ -201,6 +211,8 @@ judge-spec =
     pinless-verdict-requires
     enum-told-13
     sign-verdict-requires
+    enum-known-k-4
+    export-verdict-requires
     returns
     returns-2
     returns-3
@@ -216,4 +228,5 @@ judge-spec =
     returns-13
     returns-14
     returns-15
-    returns-16)
+    returns-16
+    returns-17)
