@@ -108,10 +108,12 @@ fn exports_there(keys: Keys, which: ExportPath, data: &[u8]) -> bool
     requires { ⌜ keys .current .len ≤ 40 ⌝ }
     ensures { λ r. ⌜ r ≡ inEip1581 (exportedPath which keys (now («data» .entry))) ⌝ }
 {
+    let current = is_there(keys.current);
+    let given = in_eip_1581(data);
     match which {
-        ExportPath::Current => is_there(keys.current),
-        ExportPath::Given => in_eip_1581(data),
-        ExportPath::MakeCurrent => in_eip_1581(data),
+        ExportPath::Current => current,
+        ExportPath::Given => given,
+        ExportPath::MakeCurrent => given,
     }
 }
 
@@ -188,11 +190,11 @@ pub fn export(
     requires { ⌜ 221 ≤ length (now out) ⌝ }
     ensures { λ r. ⌜ Replies (exportReply card which what (now («data» .entry)) (now (supply .entry))) r (now (out .entry)) (now (out .exit)) ⌝ }
 {
+    let keys = keys_after(card.keys, which, data);
+    let exported = with_keys(card, keys);
     if !says_yes(supply) {
         return failed(card, REFERENCE_INVALID);
     }
     let count = put_exported(out, what, supply);
-    let keys = keys_after(card.keys, which, data);
-    let exported = with_keys(card, keys);
     replied(exported, count)
 }

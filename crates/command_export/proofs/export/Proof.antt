@@ -11,28 +11,28 @@ use borrow.Author.Needs.{needs}
 use Rattle.command_export.proofs.export.Statement.{statement}
 use Rattle.command_export.proofs.export.Tie as tie
 
+keys-after-requires : tie.Need-keys-after-requires
+keys-after-requires c κs = let b3 = c .before .before .before in
+    export-data (b3 .args .card .pins) (b3 .args .card .keys) (b3 .args .which) (b3 .args .what) _ (b3 .pre .0 .0)
+
+with-keys-requires : tie.Need-with-keys-requires
+with-keys-requires c κs = search needs
+
 says-yes-requires : tie.Need-says-yes-requires
-says-yes-requires c κs = let b3 = c .before .before .before in
-    within (suits-long exportSupply (b3 .args .supply .now) refl (b3 .pre .0 .1)) (omega arith)
+says-yes-requires c κs = let b5 = c .before .before .before .before .before in
+    within (suits-long exportSupply (b5 .args .supply .now) refl (b5 .pre .0 .1)) (omega arith)
 
 failed-requires : tie.Need-failed-requires
 failed-requires c κs = search needs
 
 returns : tie.Need-returns
-returns c = let a = c .before .before .before .before .before .before .args in
+returns c = let a = c .before .before .before .before .before .before .before .before .args in
     export-no (a .card) (a .which) (a .what) (a .«data» .now) (a .supply .now)
     (sym (c .before .before .says-yes .ensures) ∙ not-true _ (c .before .if1 .taken)) (c .failed .ensures)
 
 put-exported-requires : tie.Need-put-exported-requires
-put-exported-requires c κs = let b6 = c .before .before .before .before .before .before in
-    (suits-long exportSupply (b6 .args .supply .now) refl (b6 .pre .0 .1), b6 .pre .1)
-
-keys-after-requires : tie.Need-keys-after-requires
-keys-after-requires c κs = let b9 = c .before .before .before .before .before .before .before .before .before in
-    export-data (b9 .args .card .pins) (b9 .args .card .keys) (b9 .args .which) (b9 .args .what) _ (b9 .pre .0 .0)
-
-with-keys-requires : tie.Need-with-keys-requires
-with-keys-requires c κs = search needs
+put-exported-requires c κs = let b8 = c .before .before .before .before .before .before .before .before in
+    (suits-long exportSupply (b8 .args .supply .now) refl (b8 .pre .0 .1), b8 .pre .1)
 
 replied-requires : tie.Need-replied-requires
 replied-requires c κs = search needs
@@ -42,24 +42,24 @@ same-length c = search needs
 
 returns-2 : tie.Need-returns-2
 returns-2 c =
-    let b5 = c .before .before .before .before .before in
-    let b7 = b5 .before .before in
+    let b6 = c .before .before .before .before .before .before in
+    let b7 = b6 .before in
     let b8 = b7 .before in
     let a = b8 .before .before .before .before .args in
     export-yes (a .card) (a .which) (a .what) (a .«data» .now) (a .supply .now) _ _
-    (sym (b8 .says-yes .ensures) ∙ not-false _ (b7 .if1 .left)) (b5 .put-exported .ensures) (c .before .before .keys-after .ensures)
-    (c .before .with-keys .ensures) (c .replied .ensures)
+    (sym (b6 .says-yes .ensures) ∙ not-false _ (c .before .before .before .before .before .if1 .left)) (c .before .before .before .put-exported .ensures) (b8 .keys-after .ensures)
+    (b7 .with-keys .ensures) (c .replied .ensures)
 
 pub export-spec : {M : Type 1} → statement M
 export-spec =
     tie.close
     (tie.spec
+    keys-after-requires
+    with-keys-requires
     says-yes-requires
     failed-requires
     returns
     put-exported-requires
-    keys-after-requires
-    with-keys-requires
     replied-requires
     same-length
     returns-2)
