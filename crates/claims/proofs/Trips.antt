@@ -27,7 +27,7 @@ use Rattle.record_rules.proofs.ReadFacts.{read-write, write-read, read-sound, r
 use Rattle.laws_engine.proofs.Sound.{answer-sound}
 use Rattle.laws_engine.proofs.Rooms.{answer-most, ask-most}
 use Rattle.laws_walk.proofs.Walking.{counts-fields, walk-encodes}
-use Rattle.laws_walk.proofs.Answers.{encodes-pre-initialised, encodes-application-info, encodes-status, encodes-signature}
+use Rattle.laws_walk.proofs.Answers.{encodes-pre-initialised, encodes-application-info, encodes-status, encodes-signature, encodes-exported-public, encodes-exported-pair}
 use Rattle.laws_engine.proofs.Agreement.{kind-is, ask-data, ask-empty, unread-taken, unread-same, read-refused, read-taken}
 use Rattle.claims.specs.Trips.{oldHead, oldResponse, zeroSession, Trips}
 use Rattle.claims.proofs.Refusals.{refusals}
@@ -111,6 +111,8 @@ trips = record {
     application = λ uid key free keyUid u k x. walk-encodes (encodes-application-info uid key free keyUid u k x);
     status = λ pin puk key. walk-encodes (encodes-status pin puk key);
     signature = λ key r s k m n. walk-encodes (encodes-signature key r s k m n);
+    exportedpublic = λ key k. walk-encodes (encodes-exported-public key k);
+    exportedpair = λ key private k m. walk-encodes (encodes-exported-pair key private k m);
   };
   agree = λ c cmd asks answers e a b. record {
     kind = kind-is c cmd asks e a;

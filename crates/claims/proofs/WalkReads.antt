@@ -7,7 +7,7 @@ use Rattle.laws_walk.specs.Trees.{none, leaf, template}
 use Rattle.laws_walk.specs.Faults.{over, deep, inside, after}
 use Rattle.laws_walk.proofs.TreeFacts.{encode-one, octets-encode, encode-octets}
 use Rattle.laws_walk.proofs.Walking.{taken, malformed, too-deep, one-case, not-both, one-fault, fault-place, fault-tag}
-use Rattle.laws_walk.proofs.Answers.{encodes-pre-initialised, encodes-application-info, encodes-status, encodes-signature}
+use Rattle.laws_walk.proofs.Answers.{encodes-pre-initialised, encodes-application-info, encodes-status, encodes-signature, encodes-exported-public, encodes-exported-pair}
 use Rattle.claims.specs.WalkReads.{WalkTakes, WalkFaults, WalkAnswers, WalkExamples, WalkReads}
 
 takes : WalkTakes
@@ -34,6 +34,8 @@ answers = record {
   application = encodes-application-info;
   status = encodes-status;
   signature = encodes-signature;
+  exportedpublic = encodes-exported-public;
+  exportedpair = encodes-exported-pair;
 }
 
 examples : WalkExamples

@@ -11,7 +11,7 @@ use Rattle.channel_rules.specs.declared.Session.{Session}
 use Rattle.channel_rules.specs.Message.{Keyed, withIv, lr, responseHead, ciphertext, fieldMac, sealField}
 use Rattle.channel_rules.specs.Terminal.{plainSuccess, sealedResponse, unsealOut}
 use Rattle.template_walk.specs.Walk.{WALK}
-use Rattle.template_answers.specs.Answers.{preInitialised, applicationInfo, status, signature}
+use Rattle.template_answers.specs.Answers.{preInitialised, applicationInfo, status, signature, exportedPublic, exportedPair}
 use Rattle.card.specs.declared.Card.{Card}
 use Rattle.card.specs.State.{freshOf}
 use Rattle.card.specs.Sound.{isSound}
@@ -68,6 +68,9 @@ pub record Walks : Type 0 where
   pub status : (pin puk : ℕ) (key : Bool) → WALK (status pin puk key) ≡ record { refusal = 0; count = 3 }
   pub signature : (key r s : List ℕ) → length key ≤ 65 → length r ≤ 32 → length s ≤ 32
       → WALK (signature key r s) ≡ record { refusal = 0; count = 3 }
+  pub exportedpublic : (key : List ℕ) → length key ≤ 65 → WALK (exportedPublic key) ≡ record { refusal = 0; count = 1 }
+  pub exportedpair : (key private : List ℕ) → length key ≤ 65 → length private ≤ 32
+      → WALK (exportedPair key private) ≡ record { refusal = 0; count = 2 }
 
 -- ---- ASK and ANSWER (RULES 11.2), for a sound card and room for both. ASK gives the kind of the supply that the order of checks asks for,
 -- and exactly the supplies of that one's form are taken. Kind 0: no supply is read, and ASK writes nothing. Another kind: ASK writes the data,

@@ -11,10 +11,10 @@ use Rattle.template_rules.specs.Template.{isTemplate}
 use Rattle.template_walk.specs.declared.Fault.{Fault}
 use Rattle.template_walk.specs.declared.Fault.the-variants.{Malformed, TooDeep}
 use Rattle.template_walk.specs.Walk.{WALK}
-use Rattle.template_answers.specs.Answers.{preInitialised, applicationInfo, status, signature}
+use Rattle.template_answers.specs.Answers.{preInitialised, applicationInfo, status, signature, exportedPublic, exportedPair}
 use Rattle.laws_walk.specs.Trees.{Trees, encode, Lawful, Octets, Encodes, Holds}
 use Rattle.laws_walk.specs.Faults.{FirstFault}
-use Rattle.laws_walk.specs.Answers.{preInitialisedTrees, applicationTrees, statusTrees, signatureTrees}
+use Rattle.laws_walk.specs.Answers.{preInitialisedTrees, applicationTrees, statusTrees, signatureTrees, exportedPublicTrees, exportedPairTrees}
 
 -- ---- what is taken: the encodings of trees with no template deeper than 4, and no other bytes; each is the encoding of one list of trees
 pub record WalkTakes : Type 0 where
@@ -42,6 +42,9 @@ pub record WalkAnswers : Type 0 where
   pub status : (pin puk : ℕ) (key : Bool) → Encodes (statusTrees pin puk key) (status pin puk key) 3
   pub signature : (key r s : List ℕ) → length key ≤ 65 → length r ≤ 32 → length s ≤ 32
       → Encodes (signatureTrees key r s) (signature key r s) 3
+  pub exportedpublic : (key : List ℕ) → length key ≤ 65 → Encodes (exportedPublicTrees key) (exportedPublic key) 1
+  pub exportedpair : (key private : List ℕ) → length key ≤ 65 → length private ≤ 32
+      → Encodes (exportedPairTrees key private) (exportedPair key private) 2
 
 -- ---- examples. 80 01 FF, then A1 with 80 03 00, then 80 00: the field inside A1 ends after A1, though within the input, and its tag is 5 bytes
 -- from the start. Four templates, one in the other, and in the last a fifth, or a field that is no template

@@ -35,10 +35,7 @@ use Rattle.laws_commands.proofs.Parts.{after-init, before-init, pairing
 use Rattle.laws_commands.proofs.Changed.{keys-set, pending-rules, filled-rules, freed-rules, blank-pending, blank-pairing-rules, blank-keys-rules}
 use Rattle.laws_commands.proofs.Erasure.{cond-same}
 use Rattle.laws_commands.specs.Lawful.{Fit, eraseReply, Verifies, Filled, Lawful}
-use Rattle.laws_commands.proofs.Texts.{bare, nothing, two-parts, part-bytes}
-
-abbrev Short : Reply → Type 0
-Short r = length (r .response) ≤ 221
+use Rattle.laws_commands.proofs.Texts.{Short, bare, nothing, two-parts, part-bytes}
 
 not-yet : (c : Card) → isInitialised c ≡ false → Filled c
 not-yet c f e = absurd (false≢true (sym f ∙ e))

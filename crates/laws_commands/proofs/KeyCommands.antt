@@ -1,27 +1,32 @@
--- LOAD, DERIVE, REMOVE, SET PIN-LESS PATH and SIGN are lawful.
+-- LOAD, DERIVE, REMOVE, SET PIN-LESS PATH, SIGN and EXPORT are lawful.
 -- Assumes nothing.
 use mathlib.Core.Path.{_≡_, refl}
-use mathlib.Core.Bool.{Bool, true, false, _||_, false≢true}
+use mathlib.Core.Bool.{Bool, true, false, _||_, cond, false≢true}
 use mathlib.Core.List.{List, []}
 use mathlib.Core.Option.{none}
-use Prim.Native.Nat.{ℕ, _-_, _≤_}
+use Prim.Native.Nat.{ℕ, _-_, _≤_, _<_}
 use native.Mathlib.Omega.{arith}
 use lib.Dec.{eqb}
 use lib.ListN.{length}
 use Rattle.octets.specs.Bytes.{Bytes}
 use Rattle.octets.proofs.Lists.{bytes-append, bytes-replicate}
 use Rattle.template_rules.proofs.HeadFacts.{by-test}
-use Rattle.template_answers.proofs.AnswerFacts.{signature-length-le}
+use Rattle.template_answers.proofs.AnswerFacts.{signature-length-le, exported-public-length-le, exported-pair-length-le}
+use Rattle.card.specs.declared.Keys.{Keys}
 use Rattle.card.specs.declared.Card.{Card}
-use Rattle.card.specs.State.{zeros, noKeys, pathOf}
+use Rattle.card.specs.State.{zeros, noKeys, pathOf, withKeys}
 use Rattle.card.proofs.Tests.{both}
 use Rattle.card.proofs.Rules.{After, PartsRules, parts-rules}
 use Rattle.rules.specs.declared.Instruction.the-variants as ins
 use Rattle.rules.specs.declared.KeyForm.{KeyForm}
+use Rattle.rules.specs.declared.ExportPath.{ExportPath}
+use Rattle.rules.specs.declared.ExportPath.the-variants as exportPath
+use Rattle.rules.specs.declared.ExportPart.{ExportPart}
+use Rattle.rules.specs.declared.ExportPart.the-variants as exportPart
 use Rattle.rules.specs.declared.Command.the-variants as command
-use Rattle.rules.specs.Words.{success, Hold, Reply}
-use Rattle.rules.specs.Supplies.{loadSupply, suits, saysYes, loadUid, signKey, signR, signS}
-use Rattle.rules.specs.Commands.{isVerified, isSet, kindOf, keyWith, loadChecks, loadReply, withCurrent, deriveChecks, deriveReply, removeChecks, removeReply, withPinless, pinlessChecks, pinlessReply, signChecks, signReply, ruleOf}
+use Rattle.rules.specs.Words.{success, referenceInvalid, wrongData, Hold, Reply, succeeds, fails}
+use Rattle.rules.specs.Supplies.{loadSupply, suits, saysYes, loadUid, signKey, signR, signS, exportPublic, exportPrivate}
+use Rattle.rules.specs.Commands.{isVerified, isSet, isPath, kindOf, keyWith, loadChecks, loadReply, withCurrent, deriveChecks, deriveReply, removeChecks, removeReply, withPinless, pinlessChecks, pinlessReply, signChecks, signReply, isExportData, exportChecks, exportedKeys, keysAfterExport, exportReply, ruleOf}
 use Rattle.rules.specs.Rows.{rowOf}
 use Rattle.rules.specs.Steps.{isInitialised}
 use Rattle.laws_commands.proofs.Checks.{never, open-two, suited, part-length, part-most}
@@ -29,11 +34,38 @@ use Rattle.laws_commands.proofs.Parts.{after-init, keys-kept, keys-shap
 use Rattle.laws_commands.proofs.Changed.{loaded-rules, removed-rules, derived-rules, pinless-rules, path-of-bytes}
 use Rattle.laws_commands.proofs.Erasure.{cond-same}
 use Rattle.laws_commands.specs.Lawful.{Fit, eraseReply, Verifies, Plain, Lawful}
-use Rattle.laws_commands.proofs.Texts.{bare, nothing, signature-bytes, part-bytes}
+use Rattle.laws_commands.proofs.Texts.{Short, SameChannel, PathBytes, bare, nothing, signature-bytes, exported-public-bytes, exported-pair-bytes, part-bytes}
 
--- the current path of 40 zeros
+-- the current path of 40 zeros, and that of a command's data
 empty : Bytes (zeros 40)
 empty = bytes-replicate 40 0 (omega arith)
+
+given : (d : List ℕ) → Bytes d → Bytes (pathOf d .bytes)
+given d h = bytes-append d (zeros (40 - length d)) h (bytes-replicate (40 - length d) 0 (omega arith))
+
+-- ---- LOAD, DERIVE and EXPORT, by the flag: with 01 the card has these keys, with 00 it is as it was
+module _ (c : Card) (k : Keys) (out s : List ℕ) (w : ℕ) where
+  abbrev ByFlag : (Reply → Type 0) → Type 0
+  ByFlag P = P (cond (saysYes s) (succeeds (withKeys c k) out) (fails c w))
+
+  flag-fit : (g : Card) → Fit g (withKeys c k) → Fit g c → ByFlag (λ r. Fit g (r .card))
+  flag-fit g h f = by-test (λ (r : Reply). Fit g (r .card)) (saysYes s) (λ e. h) (λ e. f)
+
+  flag-short : length out ≤ 221 → ByFlag Short
+  flag-short h = by-test Short (saysYes s) (λ e. h) (λ e. nothing)
+
+  flag-verifies : (b : Bool) → ByFlag (Verifies none b c)
+  flag-verifies b = by-test (Verifies none b c) (saysYes s) (λ e t. (open-two (c .channel .stage) t, refl))
+      (λ e t. (open-two (c .channel .stage) t, refl))
+
+  flag-channel : ByFlag (SameChannel c)
+  flag-channel = by-test (SameChannel c) (saysYes s) (λ e. refl) (λ e. refl)
+
+  flag-plain : Bytes out → w < 65536 → ByFlag Plain
+  flag-plain h l = by-test Plain (saysYes s) (λ e. record { status = omega arith; response = h }) (λ e. bare w l)
+
+  flag-path : Bytes (k .current .bytes) → Bytes (c .keys .current .bytes) → ByFlag PathBytes
+  flag-path h p = by-test PathBytes (saysYes s) (λ e. h) (λ e. p)
 
 -- ---- soundness and shape, from the card g
 module _ (g c : Card) (f : Fit g c) (i : isInitialised c ≡ true) where
@@ -50,25 +82,39 @@ module _ (g c : Card) (f : Fit g c) (i : isInitialised c ≡ true) where
   unfolding loadReply
   load-fit form s u =
       let l = suited loadSupply s refl u in
-      by-test Fits (saysYes s)
-      (λ e. record {
+      flag-fit c (keyWith (kindOf form) (loadUid s)) (loadUid s) s wrongData g
+      (record {
         sound = keys-kept c after′ (keyWith (kindOf form) (loadUid s)) (loaded-rules form (loadUid s));
         shaped = λ w. keys-shaped c (f .shaped w) (keyWith (kindOf form) (loadUid s)) (part-length 1 32 s (omega arith)) refl refl;
       })
-      (λ e. f)
+      f
+
+  -- the path d becomes current
+  current-fit : (d : List ℕ) → isPath d ≡ true → eqb (c .keys .kind) 2 ≡ true → Fit g (withKeys c (withCurrent (c .keys) (pathOf d)))
+  current-fit d h x = record {
+    sound = keys-kept c after′ (withCurrent (c .keys) (pathOf d)) (derived-rules (c .keys) (parts′ .keys) d h x);
+    shaped = λ w.
+        keys-shaped c (f .shaped w) (withCurrent (c .keys) (pathOf d)) (f .shaped w .keyuid) (path-of-bytes d h) (f .shaped w .pinless);
+  }
 
   derive-fit : (d s : List ℕ) → Hold (deriveChecks (c .pins) (c .keys) d) → Fits (deriveReply c d s)
   unfolding deriveReply deriveChecks
   derive-fit d s v =
       let x = both (isVerified (c .pins) || isSet (c .keys .pinless)) (eqb (c .keys .kind) 2) (v .0) .1 in
-      let h = v .1 .0 in
-      by-test Fits (saysYes s)
-      (λ e. record {
-        sound = keys-kept c after′ (withCurrent (c .keys) (pathOf d)) (derived-rules (c .keys) (parts′ .keys) d h x);
-        shaped = λ w.
-            keys-shaped c (f .shaped w) (withCurrent (c .keys) (pathOf d)) (f .shaped w .keyuid) (path-of-bytes d h) (f .shaped w .pinless);
-      })
-      (λ e. f)
+      flag-fit c (withCurrent (c .keys) (pathOf d)) [] s referenceInvalid g (current-fit d (v .1 .0) x) f
+
+  exported-fit : (which : ExportPath) (d : List ℕ) → isExportData which d ≡ true → eqb (c .keys .kind) 2 ≡ true
+      → Fit g (withKeys c (keysAfterExport which (c .keys) d))
+  exported-fit exportPath.Current d h x = f
+  exported-fit exportPath.Given d h x = f
+  exported-fit exportPath.MakeCurrent d h x = current-fit d h x
+
+  export-fit : (which : ExportPath) (what : ExportPart) (d s : List ℕ) → Hold (exportChecks (c .pins) (c .keys) which what d)
+      → Fits (exportReply c which what d s)
+  unfolding exportReply exportChecks
+  export-fit which what d s v =
+      let x = both (eqb (c .keys .kind) 2) (isVerified (c .pins)) (v .0) .0 in
+      flag-fit c (keysAfterExport which (c .keys) d) (exportedKeys what s) s referenceInvalid g (exported-fit which d (v .1 .0) x) f
 
   remove-fit : Fits (removeReply c)
   unfolding removeReply
@@ -84,34 +130,23 @@ module _ (g c : Card) (f : Fit g c) (i : isInitialised c ≡ true) where
             keys-shaped c (f .shaped w) (withPinless (c .keys) (pathOf d)) (f .shaped w .keyuid) (f .shaped w .current) (path-of-bytes d h);
       }
 
-abbrev Short : Reply → Type 0
-Short r = length (r .response) ≤ 221
-
-abbrev SameChannel : Card → Reply → Type 0
-SameChannel c r = r .card .channel ≡ c .channel
-
-abbrev PathBytes : Reply → Type 0
-PathBytes r = Bytes (r .card .keys .current .bytes)
-
 -- ---- LOAD
 pub load-lawful : (form : KeyForm) → Lawful ins.Load (command.Load form)
 unfolding ruleOf loadReply loadChecks
 load-lawful form = record {
   keeps = λ g c d s f r v u. load-fit g c f (r .offer) form s u;
-  short = λ c d s h. by-test Short (saysYes s) (λ e. omega (arith, part-most 1 32 s)) (λ e. nothing);
+  short = λ c d s h. flag-short c _ _ s _ (omega (arith, part-most 1 32 s));
   unread = λ c d s t e. absurd (omega arith);
   unflagged = λ c d s t f e g. rw (e, g);
   checksblind = λ p q c d. refl;
   replyblind = λ p q b c d s. cond-same eraseReply (saysYes s) refl refl;
   compares = λ x e. never x e;
-  verifies = λ b c d s e o v. by-test (Verifies none b c) (saysYes s) (λ y t. (open-two (c .channel .stage) t, refl))
-      (λ y t. (open-two (c .channel .stage) t, refl));
+  verifies = λ b c d s e o v. flag-verifies c _ _ s _ b;
   over = λ _. record {
-    channel = λ c d s h v. by-test (SameChannel c) (saysYes s) (λ e. refl) (λ e. refl);
-    texts = λ c d s t p h.
-        by-test Plain (saysYes s) (λ e. record { status = omega arith; response = part-bytes 1 32 s h }) (λ e. bare _ (omega arith));
+    channel = λ c d s h v. flag-channel c _ _ s _;
+    texts = λ c d s t p h. flag-plain c _ _ s _ (part-bytes 1 32 s h) (omega arith);
     words = λ c d. (omega arith, (omega arith, tt));
-    path = λ c d s h p. by-test PathBytes (saysYes s) (λ e. empty) (λ e. p);
+    path = λ c d s h p. flag-path c _ _ s _ empty p;
   };
   fresh = λ e. absurd (false≢true e);
 }
@@ -121,20 +156,18 @@ pub derive-lawful : Lawful ins.Derive command.Derive
 unfolding ruleOf deriveReply deriveChecks
 derive-lawful = record {
   keeps = λ g c d s f r v u. derive-fit g c f (r .offer) d s v;
-  short = λ c d s h. by-test Short (saysYes s) (λ e. nothing) (λ e. nothing);
+  short = λ c d s h. flag-short c _ _ s _ nothing;
   unread = λ c d s t e. absurd (omega arith);
   unflagged = λ c d s t f e g. rw (e, g);
   checksblind = λ p q c d. refl;
   replyblind = λ p q b c d s. cond-same eraseReply (saysYes s) refl refl;
   compares = λ x e. never x e;
-  verifies = λ b c d s e o v. by-test (Verifies none b c) (saysYes s) (λ y t. (open-two (c .channel .stage) t, refl))
-      (λ y t. (open-two (c .channel .stage) t, refl));
+  verifies = λ b c d s e o v. flag-verifies c _ _ s _ b;
   over = λ _. record {
-    channel = λ c d s h v. by-test (SameChannel c) (saysYes s) (λ e. refl) (λ e. refl);
-    texts = λ c d s t p h. by-test Plain (saysYes s) (λ e. bare success (omega arith)) (λ e. bare _ (omega arith));
+    channel = λ c d s h v. flag-channel c _ _ s _;
+    texts = λ c d s t p h. flag-plain c _ _ s _ tt (omega arith);
     words = λ c d. (omega arith, (omega arith, tt));
-    path = λ c d s h p. by-test PathBytes (saysYes s)
-        (λ e. bytes-append d (zeros (40 - length d)) h (bytes-replicate (40 - length d) 0 (omega arith))) (λ e. p);
+    path = λ c d s h p. flag-path c _ _ s _ (given d h) p;
   };
   fresh = λ e. absurd (false≢true e);
 }
@@ -204,6 +237,43 @@ sign-lawful = record {
     };
     words = λ c d. (omega arith, (omega arith, tt));
     path = λ c d s h p. p;
+  };
+  fresh = λ e. absurd (false≢true e);
+}
+
+-- ---- EXPORT, by what goes out and by which path
+exported-short : (what : ExportPart) (s : List ℕ) → length (exportedKeys what s) ≤ 221
+exported-short exportPart.PrivateAndPublic s =
+    omega (arith, exported-pair-length-le (exportPublic s) (exportPrivate s) (part-most 1 65 s) (part-most 66 32 s))
+exported-short exportPart.PublicOnly s = omega (arith, exported-public-length-le (exportPublic s) (part-most 1 65 s))
+
+exported-bytes : (what : ExportPart) (s : List ℕ) → Bytes s → Bytes (exportedKeys what s)
+exported-bytes exportPart.PrivateAndPublic s h =
+    exported-pair-bytes (exportPublic s) (exportPrivate s) (part-most 1 65 s) (part-most 66 32 s) (part-bytes 1 65 s h) (part-bytes 66 32 s h)
+exported-bytes exportPart.PublicOnly s h = exported-public-bytes (exportPublic s) (part-most 1 65 s) (part-bytes 1 65 s h)
+
+exported-path : (which : ExportPath) (k : Keys) (d : List ℕ) → Bytes d → Bytes (k .current .bytes)
+    → Bytes (keysAfterExport which k d .current .bytes)
+exported-path exportPath.Current k d h p = p
+exported-path exportPath.Given k d h p = p
+exported-path exportPath.MakeCurrent k d h p = given d h
+
+pub export-lawful : (which : ExportPath) (what : ExportPart) → Lawful ins.Export (command.Export which what)
+unfolding ruleOf exportReply exportChecks
+export-lawful which what = record {
+  keeps = λ g c d s f r v u. export-fit g c f (r .offer) which what d s v;
+  short = λ c d s h. flag-short c _ _ s _ (exported-short what s);
+  unread = λ c d s t e. absurd (omega arith);
+  unflagged = λ c d s t f e g. rw (e, g);
+  checksblind = λ p q c d. refl;
+  replyblind = λ p q b c d s. cond-same eraseReply (saysYes s) refl refl;
+  compares = λ x e. never x e;
+  verifies = λ b c d s e o v. flag-verifies c _ _ s _ b;
+  over = λ _. record {
+    channel = λ c d s h v. flag-channel c _ _ s _;
+    texts = λ c d s t p h. flag-plain c _ _ s _ (exported-bytes what s h) (omega arith);
+    words = λ c d. (omega arith, (omega arith, (omega arith, tt)));
+    path = λ c d s h p. flag-path c _ _ s _ (exported-path which (c .keys) d h p) p;
   };
   fresh = λ e. absurd (false≢true e);
 }

@@ -9,3 +9,4 @@ pub mod KeyCommands
 pub mod PinCommands
 pub mod ChannelCommands
 pub mod Table
+pub mod PrivatePart

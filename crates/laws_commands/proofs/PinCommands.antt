@@ -4,7 +4,7 @@ use mathlib.Core.Path.{_≡_, refl}
 use mathlib.Core.Bool.{Bool, true, false, false≢true}
 use mathlib.Core.List.{List, []}
 use mathlib.Core.Option.{none, some}
-use Prim.Native.Nat.{ℕ, _≤_}
+use Prim.Native.Nat.{ℕ}
 use native.Mathlib.Omega.{arith}
 use lib.Dec.{leb, eqb}
 use lib.ListN.{length, drop, length-take, length-drop}
@@ -34,16 +34,7 @@ use Rattle.laws_commands.proofs.Checks.{never, open-two}
 use Rattle.laws_commands.proofs.Parts.{after-init, stage-two, pins-kept, pins-shaped, pairing-kept, pairing-shaped}
 use Rattle.laws_commands.proofs.Changed.{pin-right, pin-wrong, puk-right, puk-wrong, pin-changed, puk-changed, secret-rules}
 use Rattle.laws_commands.specs.Lawful.{Fit, eraseReply, Verifies, Tries, Plain, Lawful}
-use Rattle.laws_commands.proofs.Texts.{bare, nothing, status-bytes}
-
-abbrev Short : Reply → Type 0
-Short r = length (r .response) ≤ 221
-
-abbrev SameChannel : Card → Reply → Type 0
-SameChannel c r = r .card .channel ≡ c .channel
-
-abbrev PathBytes : Reply → Type 0
-PathBytes r = Bytes (r .card .keys .current .bytes)
+use Rattle.laws_commands.proofs.Texts.{Short, SameChannel, PathBytes, bare, nothing, status-bytes}
 
 -- ---- GET STATUS, by what it tells
 module _ (c : Card) where

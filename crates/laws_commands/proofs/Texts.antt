@@ -1,5 +1,7 @@
--- What commands answer is bytes: status words, and templates whose parts are bytes. And replies without response data.
+-- What is said of a reply: that it is short, that it keeps the channel, that its path is bytes. What commands answer is bytes: status words,
+-- and templates whose parts are bytes. And replies without response data.
 -- Assumes nothing.
+use mathlib.Core.Path.{_≡_}
 use mathlib.Core.Bool.{Bool, true, false}
 use mathlib.Core.List.{List, [], _++_}
 use Prim.Native.Nat.{ℕ, _+_, _≤_, _<_}
@@ -11,11 +13,22 @@ use Rattle.template_rules.specs.Template.{field, fieldHead}
 use Rattle.template_rules.specs.Der.{leadingZeros, needsZero, derContent, derInteger}
 use Rattle.template_rules.proofs.HeadFacts.{by-test, bytes-head, short-field}
 use Rattle.template_rules.proofs.DerFacts.{der-length}
-use Rattle.template_answers.specs.Answers.{status, pair, signature}
-use Rattle.template_answers.proofs.AnswerFacts.{pair-length-le}
+use Rattle.template_answers.specs.Answers.{status, pair, signature, exportedPublic, exportedPair}
+use Rattle.template_answers.proofs.AnswerFacts.{pair-length-le, exported-inner, exported-bytes-le}
 use Rattle.card.specs.declared.Card.{Card}
+use Rattle.rules.specs.Words.{Reply}
 use Rattle.rules.specs.Supplies.{part}
 use Rattle.laws_commands.specs.Lawful.{Plain}
+
+-- ---- of a reply
+abbrev pub Short : Reply → Type 0
+Short r = length (r .response) ≤ 221
+
+abbrev pub SameChannel : Card → Reply → Type 0
+SameChannel c r = r .card .channel ≡ c .channel
+
+abbrev pub PathBytes : Reply → Type 0
+PathBytes r = Bytes (r .card .keys .current .bytes)
 
 -- a reply without response data
 pub bare : {c : Card} (w : ℕ) → w < 65536 → Plain (record { status = w; response = []; card = c })
@@ -64,6 +77,19 @@ signature-bytes key r s k p q hk hr hs =
   where
     inner : List ℕ
     inner = field 128 key ++ field 48 (pair r s)
+
+pub exported-public-bytes : (key : List ℕ) → length key ≤ 65 → Bytes key → Bytes (exportedPublic key)
+exported-public-bytes key k h =
+    field-bytes 0xA1 (field 0x80 key) (omega arith) (omega (arith, short-field 0x80 key (omega arith)))
+    (field-bytes 0x80 key (omega arith) (omega arith) h)
+
+pub exported-pair-bytes : (key private : List ℕ) → length key ≤ 65 → length private ≤ 32 → Bytes key → Bytes private
+    → Bytes (exportedPair key private)
+exported-pair-bytes key private k p hk hp =
+    field-bytes 0xA1 (field 0x80 key ++ field 0x81 private) (omega arith)
+    (omega (arith, exported-inner key private, exported-bytes-le (length key) (length private) k p))
+    (bytes-append (field 0x80 key) (field 0x81 private) (field-bytes 0x80 key (omega arith) (omega arith) hk)
+    (field-bytes 0x81 private (omega arith) (omega arith) hp))
 
 pub part-bytes : (at n : ℕ) (s : List ℕ) → Bytes s → Bytes (part at n s)
 part-bytes at n s h = bytes-take n (drop at s) (bytes-drop at s h)

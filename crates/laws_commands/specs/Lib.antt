@@ -1,2 +1,3 @@
 pub mod Verified
 pub mod Lawful
+pub mod PrivatePart

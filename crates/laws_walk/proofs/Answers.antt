@@ -9,12 +9,13 @@ use native.Mathlib.Omega.{arith}
 use lib.ListN.{length}
 use Rattle.template_rules.specs.Template.{field}
 use Rattle.template_rules.specs.Der.{derInteger}
+use Rattle.template_rules.proofs.HeadFacts.{short-field}
 use Rattle.template_rules.proofs.DerFacts.{der-length}
 use Rattle.card.specs.State.{version}
-use Rattle.template_answers.specs.Answers.{preInitialised, applicationFields, applicationInfo, keyByte, status, pair, signature}
-use Rattle.template_answers.proofs.AnswerFacts.{application-length, application-bytes-le, pair-length-le, signature-bytes-le, signature-inner}
+use Rattle.template_answers.specs.Answers.{preInitialised, applicationFields, applicationInfo, keyByte, status, pair, signature, exportedPublic, exportedPair}
+use Rattle.template_answers.proofs.AnswerFacts.{application-length, application-bytes-le, pair-length-le, signature-bytes-le, signature-inner, exported-bytes-le, exported-inner}
 use Rattle.laws_walk.specs.Trees.{Trees, none, leaf, template, encode, leaves, Lawful, Shallow, Encodes}
-use Rattle.laws_walk.specs.Answers.{preInitialisedTrees, applicationTrees, statusTrees, pairTrees, signatureTrees}
+use Rattle.laws_walk.specs.Answers.{preInitialisedTrees, applicationTrees, statusTrees, pairTrees, signatureTrees, exportedPublicTrees, exportedPairTrees}
 
 -- ---- one after the other, from the left and from the right
 two : (a b : List ℕ) → a ++ (b ++ []) ≡ a ++ b
@@ -85,3 +86,19 @@ encodes-signature key r s k p q =
       tt,
     )
     (omega arith, tt, tt) same refl
+
+pub encodes-exported-public : (key : List ℕ) → length key ≤ 65 → Encodes (exportedPublicTrees key) (exportedPublic key) 1
+encodes-exported-public key k =
+    let same = append-nil (field 0x80 key) in
+    lone 0xA1 (leaf 0x80 key none) (field 0x80 key) 1
+    (refl, omega (arith, ap length same, short-field 0x80 key (omega arith)), (refl, omega arith, tt), tt)
+    tt same refl
+
+pub encodes-exported-pair : (key private : List ℕ) → length key ≤ 65 → length private ≤ 32
+    → Encodes (exportedPairTrees key private) (exportedPair key private) 2
+encodes-exported-pair key private k p =
+    let small = exported-bytes-le (length key) (length private) k p in
+    let same = two (field 0x80 key) (field 0x81 private) in
+    lone 0xA1 (leaf 0x80 key (leaf 0x81 private none)) (field 0x80 key ++ field 0x81 private) 2
+    (refl, omega (arith, ap length same, exported-inner key private, small), (refl, omega arith, (refl, omega arith, tt)), tt)
+    tt same refl

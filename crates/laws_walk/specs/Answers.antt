@@ -26,3 +26,10 @@ pairTrees r s = leaf 0x02 (derContent r) (leaf 0x02 (derContent s) none)
 
 abbrev pub signatureTrees : List ℕ → List ℕ → List ℕ → Trees
 signatureTrees key r s = template 0xA0 (leaf 0x80 key (template 0x30 (pairTrees r s) none)) none
+
+-- EXPORT: the public key, or with it the private key
+abbrev pub exportedPublicTrees : List ℕ → Trees
+exportedPublicTrees key = template 0xA1 (leaf 0x80 key none) none
+
+abbrev pub exportedPairTrees : List ℕ → List ℕ → Trees
+exportedPairTrees key private = template 0xA1 (leaf 0x80 key (leaf 0x81 private none)) none
