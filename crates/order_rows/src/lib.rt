@@ -8,7 +8,7 @@ ghost use lib.Dec.{ltb};
 ghost use Rattle.card.specs.State.{slotCount};
 ghost use Rattle.card.specs.Slots.{isZero};
 ghost use Rattle.rules.specs.declared.Instruction.the-variants as ins;
-ghost use Rattle.rules.specs.Rows.{rowOf, class80, offered, only};
+ghost use Rattle.rules.specs.Rows.{rowOf, class80, offered, only, atP1, exports};
 ghost use Rattle.rules.specs.Code.{choiceOf};
 ghost use Rattle.rules.specs.Steps.{nameOf, withByte, byClass};
 use card::Card;
@@ -20,8 +20,11 @@ use rules::CLASS;
 use rules::CLASS_SELECT;
 use rules::Choice;
 use rules::Command;
+use rules::ExportPart;
+use rules::ExportPath;
 use rules::INS_CHANGE;
 use rules::INS_DERIVE;
+use rules::INS_EXPORT;
 use rules::INS_INIT;
 use rules::INS_LOAD;
 use rules::INS_MUTUAL;
@@ -62,6 +65,7 @@ fn of_class_80(ins: u8) -> Named
         INS_REMOVE => Named::Known(Instruction::Remove),
         INS_SET_PINLESS => Named::Known(Instruction::SetPinless),
         INS_SIGN => Named::Known(Instruction::Sign),
+        INS_EXPORT => Named::Known(Instruction::Export),
         _ => Named::Unknown,
     }
 }
@@ -100,6 +104,7 @@ fn offer_of(i: Instruction) -> Offer
         Instruction::Remove => Offer::AfterInit,
         Instruction::SetPinless => Offer::AfterInit,
         Instruction::Sign => Offer::AfterInit,
+        Instruction::Export => Offer::AfterInit,
     }
 }
 
@@ -152,6 +157,7 @@ pub fn stage_of(i: Instruction) -> u8
         Instruction::Remove => STAGE_AUTHENTICATED,
         Instruction::SetPinless => STAGE_AUTHENTICATED,
         Instruction::Sign => STAGE_AUTHENTICATED,
+        Instruction::Export => STAGE_AUTHENTICATED,
     }
 }
 
@@ -175,6 +181,7 @@ pub fn loss_of(i: Instruction) -> Loss
         Instruction::Remove => Loss::Nothing,
         Instruction::SetPinless => Loss::Nothing,
         Instruction::Sign => Loss::Nothing,
+        Instruction::Export => Loss::Nothing,
     }
 }
 
@@ -271,6 +278,28 @@ fn load(p1: u8, p2: u8) -> Choice
     }
 }
 
+// EXPORT with this part: its three P1.
+fn export_of(what: ExportPart, p1: u8) -> Choice
+    ensures { λ r. ⌜ r ≡ choiceOf (atP1 (exports what) p1) ⌝ }
+{
+    match p1 {
+        0x00 => Choice::Listed(Command::Export(ExportPath::Current, what)),
+        0x01 => Choice::Listed(Command::Export(ExportPath::Given, what)),
+        0x02 => Choice::Listed(Command::Export(ExportPath::MakeCurrent, what)),
+        _ => Choice::Unlisted,
+    }
+}
+
+fn export(p1: u8, p2: u8) -> Choice
+    ensures { λ r. ⌜ r ≡ choiceOf (rowOf ins.Export .lists p1 p2) ⌝ }
+{
+    match p2 {
+        0x00 => export_of(ExportPart::PrivateAndPublic, p1),
+        0x01 => export_of(ExportPart::PublicOnly, p1),
+        _ => Choice::Unlisted,
+    }
+}
+
 // Step 5: P1 and P2.
 pub fn choose(i: Instruction, p1: u8, p2: u8) -> Choice
     ensures { λ r. ⌜ r ≡ choiceOf (rowOf i .lists p1 p2) ⌝ }
@@ -291,5 +320,6 @@ pub fn choose(i: Instruction, p1: u8, p2: u8) -> Choice
         Instruction::Remove => only(0x00, Command::Remove, p1, p2),
         Instruction::SetPinless => only(0x00, Command::SetPinless, p1, p2),
         Instruction::Sign => only(0x00, Command::Sign, p1, p2),
+        Instruction::Export => export(p1, p2),
     }
 }

@@ -18,7 +18,8 @@ fn say_last_kinds(kind: u8) {
         5 => say(b"PAIR final: 64 bytes: salt 32, pairing key 32"),
         6 => say(b"LOAD: 33 bytes: flag, key UID 32"),
         7 => say(b"DERIVE: 1 byte: flag"),
-        _ => say(b"SIGN: 129 bytes: public key 65, r 32, s 32"),
+        8 => say(b"SIGN: 129 bytes: public key 65, r 32, s 32"),
+        _ => say(b"EXPORT: 98 bytes: flag, public key 65, private key 32"),
     }
 }
 

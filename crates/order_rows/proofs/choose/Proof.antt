@@ -94,6 +94,12 @@ enum-told-15 c = search needs
 only-requires-9 : tie.Need-only-requires-9
 only-requires-9 c κs = search needs
 
+enum-told-16 : tie.Need-enum-told-16
+enum-told-16 c = search needs
+
+export-requires : tie.Need-export-requires
+export-requires c κs = search needs
+
 returns : tie.Need-returns
 returns c = rw (c .before .enum-told .given .1, c .only .ensures)
 
@@ -139,6 +145,9 @@ returns-14 c = rw (c .before .enum-told14 .given .1, c .only8 .ensures)
 returns-15 : tie.Need-returns-15
 returns-15 c = rw (c .before .enum-told15 .given .1, c .only9 .ensures)
 
+returns-16 : tie.Need-returns-16
+returns-16 c = rw (c .before .enum-told16 .given .1, c .export .ensures)
+
 pub choose-spec : {M : Type 1} → statement M
 choose-spec =
     tie.close
@@ -173,6 +182,8 @@ choose-spec =
     only-requires-8
     enum-told-15
     only-requires-9
+    enum-told-16
+    export-requires
     returns
     returns-2
     returns-3
@@ -187,4 +198,5 @@ choose-spec =
     returns-12
     returns-13
     returns-14
-    returns-15)
+    returns-15
+    returns-16)

@@ -49,7 +49,10 @@ returns-14 : tie.Need-returns-14
 returns-14 c = rw (c .match .keys14)
 
 returns-15 : tie.Need-returns-15
-returns-15 c = sym (unknown (c .before .args .ins) class80 _ (c .match .rest) .1)
+returns-15 c = rw (c .match .keys15)
+
+returns-16 : tie.Need-returns-16
+returns-16 c = sym (unknown (c .before .args .ins) class80 _ (c .match .rest) .1)
 
 pub of-class-80-spec : {M : Type 1} → statement M
 of-class-80-spec =
@@ -69,4 +72,5 @@ of-class-80-spec =
     returns-12
     returns-13
     returns-14
-    returns-15)
+    returns-15
+    returns-16)
