@@ -6,7 +6,7 @@ use crate::both::{hex, Both};
 use crate::directed::ready_card;
 use crate::host::{room, supply_of};
 use crate::may_occur::{every_supplied, Situation, Supplied};
-use crate::paths::{every_path, path_at, place_of, Place, EVERY_PLACE};
+use crate::paths::{every_neighbour, every_path, path_at, place_of, Place, EVERY_PLACE};
 use crate::requests::Request;
 use outside::ciphers::plain::BLOCK_BYTES;
 use outside::model::card::*;
@@ -30,11 +30,10 @@ pub fn run(both: &mut Both, seed: u64) {
     let mut random = Random::new(seed.rotate_left(53));
     let random = &mut random;
     for path in every_path(random) {
-        for p1 in EVERY_P1 {
-            for p2 in EVERY_P2 {
-                export(both, random, p1, p2, &path);
-            }
-        }
+        each_p1_and_p2(both, random, &path, &every_supplied(FOR_EXPORT));
+    }
+    for path in every_neighbour() {
+        each_p1_and_p2(both, random, &path, &[Supplied::Right]);
     }
     data(both, random);
     parameters(both, random);
@@ -162,12 +161,20 @@ fn wanted_answer(p2: u8, supply: &[u8]) -> Vec<u8> {
     }
 }
 
-/// One path with one P1 and P2: every way of the supply, and two supplies that differ in the private part alone.
-fn export(both: &mut Both, random: &mut Random, p1: u8, p2: u8, path: &[u8]) {
+fn each_p1_and_p2(both: &mut Both, random: &mut Random, path: &[u8], ways: &[Supplied]) {
+    for p1 in EVERY_P1 {
+        for p2 in EVERY_P2 {
+            export(both, random, p1, p2, path, ways);
+        }
+    }
+}
+
+/// One path with one P1 and P2: these ways of the supply, and two supplies that differ in the private part alone.
+fn export(both: &mut Both, random: &mut Random, p1: u8, p2: u8, path: &[u8], ways: &[Supplied]) {
     let call = call(random, p1, p2, path);
     let goes_out = p2 == PUBLIC_ONLY || place_of(path).is_inside();
     asks(both, random, &call, if goes_out { FOR_EXPORT } else { 0 });
-    for way in every_supplied(FOR_EXPORT) {
+    for &way in ways {
         let supply = supply_of(random, FOR_EXPORT, &[0; 32], way);
         let got = answer(both, random, &call, &supply);
         match way {
@@ -232,24 +239,20 @@ fn data(both: &mut Both, random: &mut Random) {
     }
 }
 
-/// Every P1 with some P2, and every P2 with some P1. 6A86 comes before all else.
+/// Every other P1 with each P2, and every other P2 with each P1. 6A86 comes before all else.
 fn parameters(both: &mut Both, random: &mut Random) {
-    for byte in 0..=0xff {
-        for other in [0x00, 0x01, 0x02, 0x03, 0x40, 0x80, 0xff] {
-            for (p1, p2) in [(byte, other), (other, byte)] {
-                if EVERY_P1.contains(&p1) && EVERY_P2.contains(&p2) {
-                    continue;
-                }
-                let path = path_at(random, Place::Below);
-                let mut call = call(random, 0x01, WITH_PRIVATE, &path);
-                (call.request.header[2], call.request.header[3]) = (p1, p2);
-                let cause = random.below(3);
-                spoil(random, &mut call, cause);
-                let supply = right_supply(random);
-                let got = answer(both, random, &call, &supply);
-                gives_word(&call, &got, WRONG_P1_P2);
-            }
-        }
+    let with_p2 = (0..=0xff).flat_map(|p1| EVERY_P2.map(|p2| (p1, p2)));
+    let with_p1 = (0..=0xff).flat_map(|p2| EVERY_P1.map(|p1| (p1, p2)));
+    let is_listed = |(p1, p2): &(u8, u8)| EVERY_P1.contains(p1) && EVERY_P2.contains(p2);
+    for (p1, p2) in with_p2.chain(with_p1).filter(|both| !is_listed(both)) {
+        let path = path_at(random, Place::Below);
+        let mut call = call(random, 0x01, WITH_PRIVATE, &path);
+        (call.request.header[2], call.request.header[3]) = (p1, p2);
+        let cause = random.below(3);
+        spoil(random, &mut call, cause);
+        let supply = right_supply(random);
+        let got = answer(both, random, &call, &supply);
+        gives_word(&call, &got, WRONG_P1_P2);
     }
 }
 

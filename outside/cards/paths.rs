@@ -71,18 +71,17 @@ pub fn path_at(random: &mut Random, place: Place) -> Vec<u8> {
     }
 }
 
-/// Paths of every place, one by one: above the node with each number of components, at it, below it with each number, and beside it by each
-/// bit of it alone, by its components in another order, after another one, or with nothing but what comes below it.
+/// Paths of every place, one by one: above the node with each number of components, at it, below it with each number, and beside it by its
+/// components in another order, after another one, without the first one, or by the top bit of one.
 pub fn every_path(random: &mut Random) -> Vec<Vec<u8>> {
     let node = path_of(&NODE);
     let mut paths: Vec<Vec<u8>> = (0..=NODE.len()).map(|components| path_of(&NODE[..components])).collect();
     for components in 1..=PATH_BYTES / COMPONENT_BYTES - NODE.len() {
         paths.push([&node[..], &random.bytes(components * COMPONENT_BYTES)].concat());
     }
-    for bit in 0..NODE_BYTES * 8 {
+    for at in [0, COMPONENT_BYTES, 2 * COMPONENT_BYTES] {
         let mut path = node.clone();
-        path[bit / 8] ^= 0x80 >> (bit % 8);
-        paths.push(path.clone());
+        path[at] ^= 0x80;
         paths.push([path, more_components(random, 1, 7)].concat());
     }
     let [first, second, third] = NODE;
@@ -95,4 +94,13 @@ pub fn every_path(random: &mut Random) -> Vec<Vec<u8>> {
     paths.push([&node[..2 * COMPONENT_BYTES], &node[COMPONENT_BYTES..]].concat());
     paths.push(vec![0; PATH_BYTES]);
     paths
+}
+
+/// The node with each of its bits changed, and that one alone.
+pub fn every_neighbour() -> impl Iterator<Item = Vec<u8>> {
+    (0..NODE_BYTES * 8).map(|bit| {
+        let mut path = path_of(&NODE);
+        path[bit / 8] ^= 0x80 >> (bit % 8);
+        path
+    })
 }
