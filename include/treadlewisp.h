@@ -122,7 +122,8 @@ enum tw_supply_kind {
     TW_SUPPLY_PAIR_FINAL = 5, /* 64 bytes: salt 32, pairing key 32 */
     TW_SUPPLY_LOAD = 6,       /* 33 bytes: flag, key UID 32 */
     TW_SUPPLY_DERIVE = 7,     /* 1 byte: flag */
-    TW_SUPPLY_SIGN = 8        /* 129 bytes: public key 65, r 32, s 32 */
+    TW_SUPPLY_SIGN = 8,       /* 129 bytes: public key 65, r 32, s 32 */
+    TW_SUPPLY_EXPORT = 9      /* 98 bytes: flag, public key 65, private key 32; the private key also where it does not go out */
 };
 
 /* The length of each kind of supply, in bytes. ANSWER refuses any other with TW_BAD_SUPPLY. */
@@ -135,6 +136,7 @@ enum {
     TW_SUPPLY_LOAD_BYTES = 33,
     TW_SUPPLY_DERIVE_BYTES = 1,
     TW_SUPPLY_SIGN_BYTES = 129,
+    TW_SUPPLY_EXPORT_BYTES = 98,
     TW_SUPPLY_MAX_BYTES = 129 /* no supply is longer */
 };
 
@@ -176,10 +178,11 @@ enum tw_instruction {
     TW_INS_DERIVE = 0xD1,
     TW_INS_REMOVE = 0xD3,
     TW_INS_SET_PINLESS_PATH = 0xC1,
-    TW_INS_SIGN = 0xC0
+    TW_INS_SIGN = 0xC0,
+    TW_INS_EXPORT = 0xC2 /* a private key goes out only for paths that begin 8000002B 8000003C 8000062D (EIP-1581) */
 };
 
-/* P1 where it is a choice. For other commands it is 00, and P2 is 00 for all. */
+/* P1 where it is a choice. For other commands it is 00. */
 enum {
     TW_P1_SELECT = 0x04,
     TW_P1_PAIR_FIRST = 0x00,
@@ -191,7 +194,16 @@ enum {
     TW_P1_CHANGE_SECRET = 0x02, /* the pairing secret */
     TW_P1_LOAD_PLAIN = 0x01,
     TW_P1_LOAD_EXTENDED = 0x02,
-    TW_P1_LOAD_SEED = 0x03
+    TW_P1_LOAD_SEED = 0x03,
+    TW_P1_EXPORT_CURRENT = 0x00,                /* the current path; no data */
+    TW_P1_EXPORT_DERIVE = 0x01,                 /* the path in the data; the current path stays */
+    TW_P1_EXPORT_DERIVE_AND_MAKE_CURRENT = 0x02 /* the path in the data, which is the current path after 9000 */
+};
+
+/* P2, a choice for EXPORT alone. For other commands it is 00. */
+enum {
+    TW_P2_EXPORT_PRIVATE_AND_PUBLIC = 0x00,
+    TW_P2_EXPORT_PUBLIC_ONLY = 0x01
 };
 
 /* Stages of the secure channel. */

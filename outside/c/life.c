@@ -1,7 +1,7 @@
-/* One card's life through include/treadlewisp.h, with all ten operations: from FRESH over INIT, PAIR, OPEN and MUTUAL to PIN, PUK, keys and
-   signatures, its stored record, its refusals and templates. The life is played once for each placing of memory (life_places.h), and what
-   holds of every call is checked at every call (life_calls.h). Exit status 0: every answer was the one that the rules give. Lengths are in
-   bytes. */
+/* One card's life through include/treadlewisp.h, with all ten operations: from FRESH over INIT, PAIR, OPEN and MUTUAL to PIN, PUK, keys,
+   signatures and exported keys, its stored record, its refusals and templates. The life is played once for each placing of memory
+   (life_places.h), and what holds of every call is checked at every call (life_calls.h). Exit status 0: every answer was the one that the
+   rules give. Lengths are in bytes. */
 #include "life_calls.h"
 #include "life_places.h"
 
@@ -19,6 +19,8 @@ static const char PIN[] = "024680";
 static const char WRONG_PIN[] = "024681";
 static const char PUK[] = "918273645546";
 static const uint8_t TWO_COMPONENTS[] = {0x80, 0x00, 0x00, 0x2C, 0x00, 0x00, 0x00, 0x07};
+/* m/43'/60'/1581', from which on down EXPORT gives a private key. */
+static const uint8_t CHAT_NODE[] = {0x80, 0x00, 0x00, 0x2B, 0x80, 0x00, 0x00, 0x3C, 0x80, 0x00, 0x06, 0x2D};
 
 /* The card, and the terminal's end of its channel. */
 static tw_card *card;
@@ -59,13 +61,13 @@ static void plain_status(const char *step, text command, unsigned word)
 }
 
 /* A command over the channel, from SEAL to UNSEAL: ASK names this kind, the answer's plaintext is this one. */
-static void sealed(const char *step, unsigned ins, unsigned p1, text data, unsigned kind, text supply, text answer)
+static void sealed_p2(const char *step, unsigned ins, unsigned p1, unsigned p2, text data, unsigned kind, text supply, text answer)
 {
     about(step);
     unsigned found_kind;
     text command, wrote, opened;
     const size_t field_bytes = TW_MAC_BYTES + (data.count / 16 + 1) * 16;
-    expect(call_seal(terminal, ins, p1, data, TW_SEAL_ROOM_BYTES, &command) == TW_DONE, "SEAL is refused");
+    expect(call_seal(terminal, ins, p1, p2, data, TW_SEAL_ROOM_BYTES, &command) == TW_DONE, "SEAL is refused");
     expect(command.count == TW_HEADER_BYTES + LC_BYTES + field_bytes && command.bytes[4] == field_bytes, "SEAL's length");
     expect(memcmp(terminal->iv, command.bytes + 5, TW_IV_BYTES) == 0, "SEAL's next IV is its MAC");
     expect(call_ask(card, command, TW_ASK_ROOM_BYTES, &found_kind, &opened) == TW_DONE, "ASK is refused");
@@ -76,6 +78,12 @@ static void sealed(const char *step, unsigned ins, unsigned p1, text data, unsig
     expect(call_unseal(terminal, wrote, TW_UNSEAL_ROOM_BYTES, &opened) == TW_DONE, "UNSEAL is refused");
     expect(same(opened, answer), "the answer");
     expect(memcmp(terminal->iv, card->iv, TW_IV_BYTES) == 0, "both ends hold the same IV");
+}
+
+/* The same for a command whose P2 is 00. */
+static void sealed(const char *step, unsigned ins, unsigned p1, text data, unsigned kind, text supply, text answer)
+{
+    sealed_p2(step, ins, p1, 0, data, kind, supply, answer);
 }
 
 static void sealed_status(const char *step, unsigned ins, unsigned p1, text data, unsigned word)
@@ -158,7 +166,7 @@ static text init_data(void)
     text command;
     memset(&sealing, 0x81, sizeof sealing);
     const text content = joined(joined(words(PIN), words(PUK)), key(0x51));
-    expect(call_seal(&sealing, TW_INS_INIT, 0, content, TW_SEAL_ROOM_BYTES, &command) == TW_DONE, "SEAL is refused");
+    expect(call_seal(&sealing, TW_INS_INIT, 0, 0, content, TW_SEAL_ROOM_BYTES, &command) == TW_DONE, "SEAL is refused");
     const text ciphertext = text_of(command.bytes + TW_HEADER_BYTES + LC_BYTES + TW_MAC_BYTES, 64);
     return joined(joined(byte(TW_PUBLIC_KEY_BYTES), point()), joined(filled(0x81, TW_IV_BYTES), ciphertext));
 }
@@ -268,6 +276,33 @@ static text signature(void)
     return joined(joined(head, point()), joined(text_of(numbers, sizeof numbers), status(TW_SW_SUCCESS)));
 }
 
+/* EXPORT, with the PIN verified and the current path elsewhere: the private key at the node of the chat keys, and public keys elsewhere.
+   Then the current path is the node. */
+static void exports(void)
+{
+    const unsigned ins = TW_INS_EXPORT, both = TW_P2_EXPORT_PRIVATE_AND_PUBLIC, alone = TW_P2_EXPORT_PUBLIC_ONLY;
+    const unsigned current = TW_P1_EXPORT_CURRENT, given = TW_P1_EXPORT_DERIVE, then_current = TW_P1_EXPORT_DERIVE_AND_MAKE_CURRENT;
+    const text node = text_of(CHAT_NODE, sizeof CHAT_NODE);
+    const text supply = joined(joined(byte(1), point()), key(0x77)), no = filled(0, TW_SUPPLY_EXPORT_BYTES);
+    const text public_field = joined(text_of((const uint8_t[]){0x80, TW_PUBLIC_KEY_BYTES}, 2), point());
+    const text private_field = joined(text_of((const uint8_t[]){0x81, TW_KEY_BYTES}, 2), key(0x77));
+    const text public_answer = joined(joined(text_of((const uint8_t[]){0xA1, 67}, 2), public_field), status(TW_SW_SUCCESS));
+    const text both_keys = joined(joined(text_of((const uint8_t[]){0xA1, 101}, 2), public_field), private_field);
+    const text both_answer = joined(both_keys, status(TW_SW_SUCCESS));
+    const text elsewhere = status(TW_SW_CONDITIONS_NOT_MET);
+    sealed_p2("EXPORT, both, elsewhere", ins, current, both, none(), TW_SUPPLY_NONE, supply, elsewhere);
+    sealed_p2("EXPORT, both, above the node", ins, then_current, both, text_of(CHAT_NODE, 8), TW_SUPPLY_NONE, supply, elsewhere);
+    sealed_p2("EXPORT, public", ins, current, alone, none(), TW_SUPPLY_EXPORT, supply, public_answer);
+    sealed_p2("EXPORT with flag 00", ins, then_current, both, node, TW_SUPPLY_EXPORT, no, status(TW_SW_REFERENCE_INVALID));
+    sealed_p2("EXPORT of 3 bytes", ins, given, both, filled(0, 3), TW_SUPPLY_NONE, supply, status(TW_SW_WRONG_DATA));
+    sealed_p2("EXPORT with P2 02", ins, given, 2, node, TW_SUPPLY_NONE, supply, status(TW_SW_WRONG_PARAMETERS));
+    sealed_p2("EXPORT, both, a given path", ins, given, both, node, TW_SUPPLY_EXPORT, supply, both_answer);
+    expect(card->current.len == sizeof TWO_COMPONENTS, "the current path stays");
+    sealed_p2("EXPORT, both, then current", ins, then_current, both, node, TW_SUPPLY_EXPORT, supply, both_answer);
+    expect(same(text_of(card->current.bytes, card->current.len), node), "the given path is current");
+    sealed_p2("EXPORT, both, the current path", ins, current, both, none(), TW_SUPPLY_EXPORT, supply, both_answer);
+}
+
 static void keys(void)
 {
     const text sign_supply = joined(joined(point(), joined(filled(0, 31), byte(128))), joined(filled(0, 31), byte(1)));
@@ -285,6 +320,8 @@ static void keys(void)
     sealed("GET STATUS of the path", TW_INS_GET_STATUS, TW_P1_STATUS_PATH, none(), TW_SUPPLY_NONE, none(),
            joined(path(), status(TW_SW_SUCCESS)));
     sealed("SIGN", TW_INS_SIGN, 0, filled(0x5F, HASH_BYTES), TW_SUPPLY_SIGN, sign_supply, signature());
+    exports();
+    sealed("DERIVE again", TW_INS_DERIVE, 0, path(), TW_SUPPLY_DERIVE, byte(1), status(TW_SW_SUCCESS));
     sealed_status("SET PIN-LESS PATH", TW_INS_SET_PINLESS_PATH, 0, path(), TW_SW_SUCCESS);
     sealed_status("VERIFY, wrong", TW_INS_VERIFY, 0, words(WRONG_PIN), TW_SW_TRIES_LEFT + 2);
     sealed("SIGN on the PIN-less path", TW_INS_SIGN, 0, filled(0x5F, HASH_BYTES), TW_SUPPLY_SIGN, sign_supply, signature());
@@ -305,9 +342,9 @@ static void messages(void)
     text wrote, command, response, supply = joined(byte(1), key(0x71));
     unsigned kind;
     const text most = filled(0x5E, TW_DATA_MAX_BYTES);
-    expect(call_seal(terminal, TW_INS_LOAD, 3, joined(most, byte(0)), TW_SEAL_ROOM_BYTES, &wrote) == TW_TOO_LONG, "SEAL of too much");
-    expect(call_seal(terminal, TW_INS_LOAD, 3, joined(most, byte(0)), TW_SEAL_ROOM_BYTES - 1, &wrote) == TW_ROOM, "SEAL: 2 before 6");
-    expect(call_seal(terminal, TW_INS_LOAD, 3, filled(0x5E, SEED_BYTES), TW_SEAL_ROOM_BYTES, &command) == TW_DONE, "SEAL");
+    expect(call_seal(terminal, TW_INS_LOAD, 3, 0, joined(most, byte(0)), TW_SEAL_ROOM_BYTES, &wrote) == TW_TOO_LONG, "SEAL of too much");
+    expect(call_seal(terminal, TW_INS_LOAD, 3, 0, joined(most, byte(0)), TW_SEAL_ROOM_BYTES - 1, &wrote) == TW_ROOM, "SEAL: 2 before 6");
+    expect(call_seal(terminal, TW_INS_LOAD, 3, 0, filled(0x5E, SEED_BYTES), TW_SEAL_ROOM_BYTES, &command) == TW_DONE, "SEAL");
     expect(call_ask(card, command, TW_ASK_ROOM_BYTES - 1, &kind, &wrote) == TW_ROOM, "ASK in a small buffer");
     expect(call_answer(card, command, byte(1), TW_ANSWER_ROOM_BYTES, &wrote) == TW_BAD_SUPPLY, "a supply too short");
     expect(call_answer(card, command, supply, TW_ANSWER_ROOM_BYTES, &response) == TW_DONE, "ANSWER, the same command");
@@ -320,7 +357,7 @@ static void messages(void)
     expect(call_unseal(terminal, none(), TW_UNSEAL_ROOM_BYTES, &wrote) == TW_NOT_GENUINE, "UNSEAL of nothing");
     expect(call_unseal(terminal, response, TW_UNSEAL_ROOM_BYTES, &wrote) == TW_DONE, "UNSEAL");
     expect(same(wrote, joined(key(0x71), status(TW_SW_SUCCESS))), "the answer");
-    expect(call_seal(terminal, TW_INS_LOAD, 3, most, TW_SEAL_ROOM_BYTES, &command) == TW_DONE && command.count == 245, "SEAL of the most");
+    expect(call_seal(terminal, TW_INS_LOAD, 3, 0, most, TW_SEAL_ROOM_BYTES, &command) == TW_DONE && command.count == 245, "SEAL of the most");
     command.bytes[5] = (uint8_t)(command.bytes[5] ^ 1);
     plain_status("a forged command", command, TW_SW_SECURITY_NOT_MET);
     expect(card->stage == TW_STAGE_CLOSED && card->verified == 0, "channel and verification are lost");
@@ -374,7 +411,7 @@ static void published_vector(void)
         session.iv[at] = at;
     }
     text wrote;
-    expect(call_seal(&session, 0, 0, text_of(block, sizeof block), TW_SEAL_ROOM_BYTES, &wrote) == TW_DONE, "SEAL is refused");
+    expect(call_seal(&session, 0, 0, 0, text_of(block, sizeof block), TW_SEAL_ROOM_BYTES, &wrote) == TW_DONE, "SEAL is refused");
     expect(memcmp(wrote.bytes + TW_HEADER_BYTES + LC_BYTES + TW_MAC_BYTES, enciphered, sizeof enciphered) == 0, "the block");
 }
 

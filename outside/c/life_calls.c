@@ -161,11 +161,12 @@ unsigned call_answer(tw_card *card, text command, text supply, size_t room_bytes
     return told.refusal;
 }
 
-unsigned call_seal(tw_session *session, unsigned ins, unsigned p1, text data, size_t room_bytes, text *wrote)
+unsigned call_seal(tw_session *session, unsigned ins, unsigned p1, unsigned p2, text data, size_t room_bytes, text *wrote)
 {
     const size_t mark = places_mark();
     const tw_session before = *session;
-    const text header = plain_command(TW_CLASS_CARD, ins, p1, none());
+    const uint8_t bytes[TW_HEADER_BYTES] = {TW_CLASS_CARD, (uint8_t)ins, (uint8_t)p1, (uint8_t)p2};
+    const text header = text_of(bytes, sizeof bytes);
     const uint8_t *head = placed_text(&header);
     const uint8_t *plain = placed_text(&data);
     uint8_t *buf = place(room_bytes, FILL);

@@ -36,7 +36,7 @@ text plain_command(unsigned cla, unsigned ins, unsigned p1, text data);
 unsigned call_reset(tw_card *card);
 unsigned call_ask(const tw_card *card, text command, size_t room_bytes, unsigned *kind, text *wrote);
 unsigned call_answer(tw_card *card, text command, text supply, size_t room_bytes, text *wrote);
-unsigned call_seal(tw_session *session, unsigned ins, unsigned p1, text data, size_t room_bytes, text *wrote);
+unsigned call_seal(tw_session *session, unsigned ins, unsigned p1, unsigned p2, text data, size_t room_bytes, text *wrote);
 unsigned call_unseal(tw_session *session, text response, size_t room_bytes, text *wrote);
 unsigned call_walk(text input, size_t *fields);
 unsigned call_write(const tw_card *card, size_t room_bytes, text *wrote);

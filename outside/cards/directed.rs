@@ -114,7 +114,7 @@ pub fn trial(both: &mut Both, random: &mut Random, (name, situation, status, sea
 fn no_command(random: &mut Random, status: u16) -> Vec<u8> {
     let (class, instruction) = match status {
         UNKNOWN_CLASS => (pick(random, &[0x00, 0x84, 0xff]), pick(random, &[0x10, 0xf2, 0xfe])),
-        _ => (0x80, pick(random, &[0xa4, 0xf3, 0xc2, 0xd2, 0xd4, 0xd5])),
+        _ => (0x80, pick(random, &[0xa4, 0xf3, 0xd2, 0xd4, 0xd5, 0xc3])),
     };
     vec![class, instruction, byte(random), byte(random)]
 }
@@ -158,6 +158,7 @@ fn tries_before(random: &mut Random, status: u16) -> u8 {
 fn spoil(random: &mut Random, card: &Card, request: &mut Request, status: u16) {
     match status {
         WRONG_P1_P2 if chance(random, 50) => request.header[2] = pick(random, &UNLISTED_P1),
+        WRONG_P1_P2 if request.name == Name::Export => request.header[3] = 2 + random.below(254) as u8,
         WRONG_P1_P2 => request.header[3] = 1 + random.below(255) as u8,
         WRONG_DATA => request.data = random.bytes(3),
         NOT_FOUND => request.data[random.below(15)] ^= 1 << random.below(8),

@@ -1,14 +1,16 @@
 //! The proved library beside the plain model of the rules, over the C boundary: the rows to settle, sweeps, every way to keep or lose a
-//! verified PIN, whole lives of cards, and the two runs of demand 3. The first difference ends the run with a status that is not 0, and so
+//! verified PIN, every way to export a key, whole lives of cards, and the two runs of demand 3. The first difference ends the run with a status that is not 0, and so
 //! does a row of the tables that never occurred, or an answer that they do not have.
 
 mod both;
 mod directed;
+mod exports;
 mod host;
 mod joining;
 mod lives;
 mod may_occur;
 mod pairs;
+mod paths;
 mod records;
 mod requests;
 mod second_client;
@@ -82,6 +84,7 @@ fn main() {
     sweeps::run(&mut both, options.seed);
     joining::run(&mut both, options.seed);
     second_client::run(&mut both, options.seed);
+    exports::run(&mut both, options.seed);
     let mut lives = 0;
     while both.tally.calls() < options.calls / 100 * (100 - PAIRS_PERCENT) {
         lives::live(&mut both, options.seed, lives);

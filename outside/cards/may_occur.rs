@@ -1,11 +1,13 @@
 //! What the rules (docs/RULES.md) let occur, as tables: the refusals of each operation, the status words of each command in each situation, the supplies,
 //! what UNSEAL says of a response by its Lr. A run has to meet every row, and nothing beside them. Lengths are in bytes.
 
+use crate::exports::{EVERY_P1, EVERY_P2};
+use crate::paths::{place_of, Place, EVERY_PLACE};
 use outside::ciphers::plain::BLOCK_BYTES;
-use outside::model::card::{Card, Session, AUTHENTICATED, NO, OPENED, YES};
+use outside::model::card::{is_path_length, Card, Session, AUTHENTICATED, EXTENDED_KEY, NO, OPENED, YES};
 use outside::model::commands::*;
 use outside::model::engine::*;
-use outside::model::message::{mac, MAX_FIELD_BYTES, MIN_FIELD_BYTES};
+use outside::model::message::{mac, open_command, HEADER_BYTES, MAX_FIELD_BYTES, MIN_FIELD_BYTES};
 use outside::model::status::*;
 
 #[derive(Clone, Copy, PartialEq, Eq, PartialOrd, Ord, Debug)]
@@ -189,9 +191,44 @@ fn sealed_words_of(name: Name) -> &'static [u16] {
         Name::Verify => &[0x63c0, 0x63c1, 0x63c2, 0x6a86, 0x9000],
         Name::Unblock => &[0x63c0, 0x63c1, 0x63c2, 0x63c3, 0x63c4, 0x6985, 0x6a80, 0x6a86, 0x9000],
         Name::Unpair | Name::Remove => &[0x6985, 0x6a86, 0x9000],
-        Name::Derive => &[0x6984, 0x6985, 0x6a80, 0x6a86, 0x9000],
+        Name::Derive | Name::Export => &[0x6984, 0x6985, 0x6a80, 0x6a86, 0x9000],
         Name::Change | Name::Load | Name::SetPinlessPath | Name::Sign => &[0x6985, 0x6a80, 0x6a86, 0x9000],
     }
+}
+
+/// An EXPORT that is looked at past its data: P1, P2 and the place of the path whose key is exported.
+pub type Exported = (u8, u8, Place);
+
+/// What of EXPORT gets here, on this card: a listed P1 and P2, an extended key, a verified PIN and right data.
+pub fn exported(card: &Card, command: &[u8]) -> Option<Exported> {
+    let (header, lc_and_data) = command.split_first_chunk::<HEADER_BYTES>()?;
+    let [_, _, p1, p2] = *header;
+    let ready = card.verified == YES && card.key_kind == EXTENDED_KEY && EVERY_P1.contains(&p1) && EVERY_P2.contains(&p2);
+    let is_made = matches!(form_of(command), Form::Data | Form::DataLe);
+    if name_of(command) != Some(Name::Export) || !ready || !is_made {
+        return None;
+    }
+    let (&lc, data) = lc_and_data.split_first()?;
+    let data = open_command(&mut card.session.clone(), *header, &data[..lc as usize])?;
+    match p1 {
+        0x00 => data.is_empty().then(|| (p1, p2, place_of(card.current_path.used()))),
+        _ => is_path_length(data.len()).then(|| (p1, p2, place_of(&data))),
+    }
+}
+
+/// The status words of such an EXPORT: the private part goes out from the node down, and only there is the supply read for it.
+pub fn export_words((_, p2, place): Exported) -> &'static [u16] {
+    if p2 == 0x00 && !place.is_inside() {
+        &[0x6985]
+    } else {
+        &[0x6984, 0x9000]
+    }
+}
+
+/// Each P1 and P2 with each place.
+pub fn every_exported() -> Vec<Exported> {
+    let parameters = EVERY_P1.iter().flat_map(|&p1| EVERY_P2.map(|p2| (p1, p2)));
+    parameters.flat_map(|(p1, p2)| EVERY_PLACE.map(|place| (p1, p2, place))).collect()
 }
 
 /// How a command is made, by its length and byte 4.
@@ -280,7 +317,7 @@ pub fn every_supplied(kind: u8) -> Vec<Supplied> {
     ways
 }
 
-pub const MOST_KIND: u8 = 8;
+pub const MOST_KIND: u8 = 9;
 
 /// The kinds that ASK can tell in this situation, 0 being none.
 pub fn kinds(situation: Situation) -> &'static [u8] {
@@ -289,7 +326,7 @@ pub fn kinds(situation: Situation) -> &'static [u8] {
         Situation::Closed => &[0, 2, 4],
         Situation::Pending => &[0, 2, 4, 5],
         Situation::Opened => &[0, 2, 3, 4],
-        Situation::Authenticated => &[0, 2, 6, 7, 8],
+        Situation::Authenticated => &[0, 2, 6, 7, 8, 9],
     }
 }
 
@@ -303,6 +340,7 @@ pub fn reader(kind: u8) -> Name {
         FOR_LOAD => Name::Load,
         FOR_DERIVE => Name::Derive,
         FOR_SIGN => Name::Sign,
+        FOR_EXPORT => Name::Export,
         _ => panic!("no rule has the kind {kind}"),
     }
 }

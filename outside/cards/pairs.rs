@@ -3,14 +3,16 @@
 
 use crate::both::{hex, Both};
 use crate::directed::{self, Trial};
-use crate::host::{room, short_room, supply_for, Way};
-use crate::may_occur::{name_of, situation_of, Operation, Situation};
+use crate::exports::{self, Call};
+use crate::host::{room, short_room, supply_for, supply_of, Way};
+use crate::may_occur::{every_exported, every_supplied, name_of, situation_of, Operation, Situation};
+use crate::paths::path_at;
 use crate::states::sound_card;
 use crate::tally::{every_row, lacking, Row};
 use crate::terminal::Terminal;
 use outside::ffi::treadlewisp::card_bytes;
 use outside::model::card::{Card, AUTHENTICATED, NO, PIN_BYTES, PIN_TRIES, PUK_BYTES, PUK_TRIES, YES};
-use outside::model::commands::{Comparison, Name};
+use outside::model::commands::{Comparison, Name, FOR_EXPORT};
 use outside::model::engine::{self, ANSWER_ROOM_BYTES, ASK_ROOM_BYTES};
 use outside::model::status::*;
 use outside::random::choice::{array, chance, digits, pick};
@@ -161,6 +163,26 @@ pub fn directed(both: &mut Both, done: &mut Done, seed: u64) {
         let buffer = room(random, ANSWER_ROOM_BYTES);
         answer_both(both, done, &mut two, &command, &supply, buffer);
         agree(both, &two);
+    }
+    directed_exports(both, random, done);
+}
+
+/// EXPORT with each P1 and P2 and each place of the path on two cards with different PIN and PUK, with every way of one supply for both.
+fn directed_exports(both: &mut Both, random: &mut Random, done: &mut Done) {
+    for (p1, p2, place) in every_exported() {
+        for way in every_supplied(FOR_EXPORT) {
+            let path = path_at(random, place);
+            let call = exports::call(random, p1, p2, &path);
+            let command = call.command();
+            let Call { card, .. } = call;
+            let mut two = twins(random, card, true, true);
+            done.pairs += 1;
+            ask_both(both, random, done, &two, &command);
+            let supply = supply_of(random, FOR_EXPORT, &[0; 32], way);
+            let buffer = room(random, ANSWER_ROOM_BYTES);
+            answer_both(both, done, &mut two, &command, &supply, buffer);
+            agree(both, &two);
+        }
     }
 }
 

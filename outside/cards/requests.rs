@@ -1,6 +1,7 @@
 //! What a terminal sends before sealing: for each command a right request, as a well-behaved terminal makes it for the card as it is, and
 //! a wrong one. Lengths are in bytes.
 
+use crate::paths::place_of;
 use crate::states::random_path;
 use crate::templates::{key_template, wrong_key_template};
 use outside::ciphers::plain::{Block, Key};
@@ -80,7 +81,23 @@ pub fn right(random: &mut Random, card: &Card, name: Name, init_key: &Key) -> Re
         Name::Derive => request(0x00, near_path(random, &card.pinless_path).used()),
         Name::SetPinlessPath => request(0x00, near_path(random, &card.current_path).used()),
         Name::Remove => request(0x00, &[]),
+        Name::Export => right_export(random, card),
     }
+}
+
+/// A key that may go out: with its private part only where that does.
+fn right_export(random: &mut Random, card: &Card) -> Request {
+    let p1 = random.below(3) as u8;
+    let given = near_path(random, &card.current_path);
+    let (path, data) = if p1 == 0x00 {
+        (&card.current_path, &[][..])
+    } else {
+        (&given, given.used())
+    };
+    let public_only = !place_of(path.used()).is_inside() || chance(random, 40);
+    let mut request = Request::new(Name::Export, p1, data);
+    request.header[3] = u8::from(public_only);
+    request
 }
 
 /// A new PIN or PUK: now and then the old one, which is as good as any.
@@ -131,6 +148,7 @@ pub fn wrong(random: &mut Random, card: &Card, name: Name, init_key: &Key) -> Re
     match random.below(8) {
         0 => request.header[2] = pick(random, &[0, 1, 2, 3, 4, 5, 6, 0xff]),
         1 => request.header[3] = byte(random),
+        _ if name == Name::Export && chance(random, 40) => request.header[3] ^= 1,
         2 => request.data = some_bytes(random, 0, 70),
         3 => request.data = damaged(random, &request.data),
         4 if chance(random, 30) => {
@@ -157,7 +175,7 @@ fn wrong_data(random: &mut Random, card: &Card, right: &Request, init_key: &Key)
             1 => wrong_entry(random, &card.puk),
             _ => some_bytes(random, 30, 35),
         },
-        Name::Derive | Name::SetPinlessPath => {
+        Name::Derive | Name::SetPinlessPath | Name::Export => {
             let bytes = pick(random, &[0, 1, 2, 3, 4, 38, 39, 40, 41, 44]);
             random.bytes(bytes)
         }

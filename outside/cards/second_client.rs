@@ -4,8 +4,10 @@
 
 use crate::both::{hex, Both};
 use crate::directed::ready_card;
+use crate::exports::request as export;
 use crate::host::{room, supply_for, supply_of, Way};
 use crate::may_occur::{every_supplied, Situation, Supplied};
+use crate::paths::{path_at, Place};
 use crate::requests::{is_sealed_kind, right, Request};
 use crate::standing::{standing_of, Standing};
 use crate::states::random_session;
@@ -212,7 +214,20 @@ fn succeeding(random: &mut Random, card: &Card) -> Vec<Request> {
         Request::new(Name::Derive, 0x00, &path),
         Request::new(Name::Sign, 0x00, &random.bytes(32)),
     ]);
+    requests.extend(exports(random));
     requests
+}
+
+/// EXPORT of the current path and of a given one, public, and of one from which the private part goes out.
+fn exports(random: &mut Random) -> [Request; 4] {
+    let elsewhere = random.bytes(COMPONENT_BYTES);
+    let inside = path_at(random, Place::Below);
+    [
+        export(0x00, 0x01, &[]),
+        export(0x01, 0x01, &elsewhere),
+        export(0x01, 0x00, &inside),
+        export(0x02, 0x00, &inside),
+    ]
 }
 
 /// Of these, the ones that need a verified PIN in every state.
@@ -253,27 +268,34 @@ fn keeping_sealed(random: &mut Random) -> Vec<Trial> {
     };
     for request in &requests {
         add(card, request, Way::Right, SUCCESS, Standing::Verified);
-        if matches!(request.name, Name::Load | Name::Derive) {
+        if matches!(request.name, Name::Load | Name::Derive | Name::Export) {
             let status = if request.name == Name::Load { WRONG_DATA } else { DATA_INVALID };
             add(card, request, Way::Refusing, status, Standing::Verified);
         }
-        if matches!(request.name, Name::Derive | Name::Sign) {
+        if matches!(request.name, Name::Derive | Name::Sign | Name::Export) {
             add(keyless, request, Way::Right, CONDITIONS_NOT_SATISFIED, Standing::Verified);
         }
         if matches!(
             request.name,
-            Name::Change | Name::Load | Name::Derive | Name::SetPinlessPath | Name::Sign
+            Name::Change | Name::Load | Name::Derive | Name::SetPinlessPath | Name::Sign | Name::Export
         ) {
-            let wrong = Request::new(request.name, request.header[2], &[0x30; 3]);
+            let wrong = Request {
+                data: vec![0x30; 3],
+                ..*request
+            };
             add(card, &wrong, Way::Right, WRONG_DATA, Standing::Verified);
         }
+    }
+    let elsewhere = [export(0x00, 0x00, &[]), export(0x02, 0x00, &path_at(random, Place::Beside))];
+    for request in &elsewhere {
+        add(card, request, Way::Right, CONDITIONS_NOT_SATISFIED, Standing::Verified);
     }
     for request in [&mutual, &unblock] {
         add(card, request, Way::Right, CONDITIONS_NOT_SATISFIED, Standing::Verified);
     }
     requests.extend([mutual, unblock]);
     for request in &mut requests {
-        request.header[3] = 0x01;
+        request.header[3] += if request.name == Name::Export { 0x02 } else { 0x01 };
         add(card, request, Way::Right, WRONG_P1_P2, Standing::Verified);
     }
     for wrong in [&[][..], &card.pin[1..], &[&card.pin[..], b"0"].concat()] {
@@ -342,9 +364,16 @@ fn second_client(both: &mut Both, random: &mut Random, mut card: Card) {
         answers(both, random, &card, &request, SUCCESS);
         answers(both, random, &no_path, &request, CONDITIONS_NOT_SATISFIED);
     }
+    let exports = exports(random);
+    for request in &exports {
+        answers(both, random, &card, request, CONDITIONS_NOT_SATISFIED);
+    }
     let verify = Request::new(Name::Verify, 0x00, &card.pin);
     card = answers(both, random, &card, &verify, SUCCESS);
     pin_commands(both, random, &card, SUCCESS);
+    for request in &exports {
+        answers(both, random, &card, request, SUCCESS);
+    }
 }
 
 /// A refusal takes back that OPEN or SELECT closed the channel.

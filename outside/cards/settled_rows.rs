@@ -1,5 +1,5 @@
 //! The rows to settle (RULES 11.4), on the model and the library: one card from FRESH through INIT, PAIR, OPEN and MUTUAL to its status and
-//! wrong PINs, as a well-behaved terminal does it, and the rows on padding, templates and signatures. Lengths are in bytes.
+//! wrong PINs, as a well-behaved terminal does it, and the rows on padding, templates, signatures and exported keys. Lengths are in bytes.
 
 use crate::both::{hex, Both};
 use outside::model::card::{Card, Session};
@@ -103,6 +103,22 @@ impl Script<'_> {
         let wanted = format!("a04c8041{}3007020200800201019000", hex(&public_key));
         row(hex(&opened) == wanted, "SIGN with r = 128 and s = 1");
     }
+
+    /// The key at the node of the chat keys goes out with its private part, that of its parent with its public part alone.
+    fn export(&mut self, random: &mut Random) {
+        let node = [0x80, 0x00, 0x00, 0x2b, 0x80, 0x00, 0x00, 0x3c, 0x80, 0x00, 0x06, 0x2d];
+        let (public_key, private_key) = (random.bytes(65), random.bytes(32));
+        let supply = [&[1], &public_key[..], &private_key].concat();
+        let opened = self.sealed([0x80, 0xc2, 0x02, 0x00], &node, &supply);
+        let wanted = format!("a1658041{}8120{}9000", hex(&public_key), hex(&private_key));
+        row(hex(&opened) == wanted, "EXPORT at the node");
+        row(self.card.current_path.used() == node, "EXPORT with P1 02");
+        let opened = self.sealed([0x80, 0xc2, 0x01, 0x00], &node[..8], &supply);
+        row(hex(&opened) == "6985", "EXPORT of the private part above the node");
+        let opened = self.sealed([0x80, 0xc2, 0x01, 0x01], &node[..8], &supply);
+        let wanted = format!("a1438041{}9000", hex(&public_key));
+        row(hex(&opened) == wanted, "EXPORT of the public part above the node");
+    }
 }
 
 /// Padding, on the model; WALK, on both.
@@ -127,6 +143,7 @@ pub fn run(both: &mut Both, seed: u64) {
     script.wants(STATUS, &[], "a3090201030201050101009000", "status after INIT");
     script.wrong_pins();
     script.signature(random);
+    script.export(random);
     row(script.both.reset(&mut script.card) == 0, "RESET");
     row(script.plain(&[0x80, STATUS, 0x00, 0x00], &[]) == [0x69, 0x85], "status in stage 0");
 }

@@ -1,6 +1,7 @@
 //! States that the walks begin from or try beside: random sound cards in every stage, cards with one rule of soundness broken, cards with
 //! random bytes. Lengths are in bytes.
 
+use crate::paths::{path_at, EVERY_PLACE};
 use outside::ffi::treadlewisp::{card_bytes, card_of, CARD_BYTES};
 use outside::model::card::*;
 use outside::random::choice::{array, chance, digits, pick};
@@ -14,8 +15,12 @@ pub fn random_session(random: &mut Random) -> Session {
     }
 }
 
-/// A path of 0 to 10 components.
+/// A path of 0 to 10 components; often one near the node of EXPORT's private parts.
 pub fn random_path(random: &mut Random) -> Path {
+    if chance(random, 50) {
+        let place = pick(random, &EVERY_PLACE);
+        return Path::of(&path_at(random, place));
+    }
     let components = random.below(PATH_BYTES / COMPONENT_BYTES + 1);
     Path::of(&random.bytes(components * COMPONENT_BYTES))
 }

@@ -37,6 +37,8 @@ pub struct Tally {
     /// Answers that a card with a verified PIN got.
     verified: BTreeMap<VerifiedRow, usize>,
     forms: BTreeMap<(Situation, Form), usize>,
+    /// Status words of EXPORT past its data.
+    exports: BTreeMap<(Exported, u16), usize>,
     /// Supplies by the kind that was read.
     supplies: BTreeMap<(u8, Supplied), usize>,
 }
@@ -89,6 +91,9 @@ impl Tally {
             .entry((name_of(command), situation, status, answered.sealed))
             .or_default() += 1;
         *self.forms.entry((situation, form_of(command))).or_default() += 1;
+        if let Some(exported) = exported(card, command) {
+            *self.exports.entry((exported, status)).or_default() += 1;
+        }
         if let Some(comparison) = answered.comparison {
             *self.comparisons.entry(comparison).or_default() += 1;
         }
@@ -135,6 +140,13 @@ impl Tally {
             missing.extend(lacking("kind", &self.kinds, kinds(situation).iter().map(|&kind| (situation, kind))));
             missing.extend(lacking("form", &self.forms, EVERY_FORM.map(|form| (situation, form))));
         }
+        for exported in every_exported() {
+            missing.extend(lacking(
+                "export",
+                &self.exports,
+                export_words(exported).iter().map(|&status| (exported, status)),
+            ));
+        }
         for kind in 1..=MOST_KIND {
             missing.extend(lacking(
                 "supply",
@@ -164,7 +176,18 @@ impl Tally {
         let passed = self.passages.keys().filter(|row| !can_pass(row));
         let passed = passed.map(|row| format!("passage {row:?}"));
         let asked = asked.map(|row| format!("kind {row:?}"));
-        answers.chain(verified).chain(passed).chain(asked).chain(opened).collect()
+        let exported = self
+            .exports
+            .keys()
+            .filter(|(exported, status)| !export_words(*exported).contains(status));
+        let exported = exported.map(|row| format!("export {row:x?}"));
+        answers
+            .chain(verified)
+            .chain(passed)
+            .chain(asked)
+            .chain(opened)
+            .chain(exported)
+            .collect()
     }
 
     pub fn print(&self) {
@@ -212,6 +235,13 @@ impl Tally {
         println!("forms of commands, by the card's situation:");
         for situation in EVERY_SITUATION {
             print_part(&self.forms, situation);
+        }
+        println!("EXPORT past its data, by P1, P2 and the place of the path:");
+        for exported in every_exported() {
+            let of_it = self.exports.iter().filter(|((e, _), _)| *e == exported);
+            let parts = listed(of_it.map(|((_, status), count)| format!("{status:04x}: {count}")));
+            let (p1, p2, place) = exported;
+            println!("  {p1:02x} {p2:02x} {:<9}{parts}", format!("{place:?}"));
         }
     }
 

@@ -32,10 +32,11 @@ pub enum Name {
     Remove,
     SetPinlessPath,
     Sign,
+    Export,
 }
 
 /// The instruction byte of each command.
-pub const INSTRUCTIONS: [(Name, u8); 15] = [
+pub const INSTRUCTIONS: [(Name, u8); 16] = [
     (Name::Select, 0xa4),
     (Name::Init, 0xfe),
     (Name::Open, 0x10),
@@ -51,6 +52,7 @@ pub const INSTRUCTIONS: [(Name, u8); 15] = [
     (Name::Remove, 0xd3),
     (Name::SetPinlessPath, 0xc1),
     (Name::Sign, 0xc0),
+    (Name::Export, 0xc2),
 ];
 
 /// A supply: its kind, how many bytes it has, and whether the first is a flag.
@@ -65,7 +67,7 @@ const fn supply(kind: u8, bytes: usize, has_flag: bool) -> Supply {
 }
 
 /// The table of supplies.
-static SUPPLIES: [Supply; 8] = [
+static SUPPLIES: [Supply; 9] = [
     supply(FOR_INIT, 33, true),
     supply(FOR_OPEN, 113, true),
     supply(FOR_MUTUAL, 32, false),
@@ -74,6 +76,7 @@ static SUPPLIES: [Supply; 8] = [
     supply(FOR_LOAD, 33, true),
     supply(FOR_DERIVE, 1, true),
     supply(FOR_SIGN, 129, false),
+    supply(FOR_EXPORT, 98, true),
 ];
 pub const FOR_INIT: u8 = 1;
 pub const FOR_OPEN: u8 = 2;
@@ -83,6 +86,7 @@ pub const FOR_PAIR_FINAL: u8 = 5;
 pub const FOR_LOAD: u8 = 6;
 pub const FOR_DERIVE: u8 = 7;
 pub const FOR_SIGN: u8 = 8;
+pub const FOR_EXPORT: u8 = 9;
 
 /// The row of the table for this kind.
 pub fn supply_of_kind(kind: u8) -> &'static Supply {
@@ -248,9 +252,15 @@ fn name_of(card: &Card, apdu: &Apdu) -> Result<Name, End> {
     Ok(name)
 }
 
-/// Step 5, with the P1 that the command lists.
+/// Step 5, with the P1 that the command lists, for a command whose P2 is 00.
 pub fn require_p1(apdu: &Apdu, listed: &[u8]) -> Result<(), End> {
-    require(listed.contains(&apdu.p1()) && apdu.p2() == 0x00, WRONG_P1_P2)
+    require_p1_p2(apdu, listed, &[0x00])
+}
+
+/// Step 5, with the P1 and the P2 that the command lists, one apart from the other.
+pub fn require_p1_p2(apdu: &Apdu, listed_p1: &[u8], listed_p2: &[u8]) -> Result<(), End> {
+    let right = listed_p1.contains(&apdu.p1()) && listed_p2.contains(&apdu.p2());
+    require(right, WRONG_P1_P2)
 }
 
 pub const SLOT_INDICES: [u8; SLOTS] = [0, 1, 2, 3, 4];

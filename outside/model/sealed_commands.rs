@@ -14,6 +14,15 @@ const SEED_BYTES: usize = 64;
 const HASH_BYTES: usize = 32;
 const NUMBER_BYTES: usize = 32;
 
+/// EXPORT's P1: which path.
+const GIVEN_PATH: u8 = 0x01;
+const GIVEN_PATH_THEN_CURRENT: u8 = 0x02;
+/// EXPORT's P2: what goes out.
+const PRIVATE_AND_PUBLIC: u8 = 0x00;
+const PUBLIC_ONLY: u8 = 0x01;
+/// The node of the chat keys (EIP-1581), m/43'/60'/1581': private parts go out from here down.
+const CHAT_NODE: [u8; 3 * COMPONENT_BYTES] = [0x80, 0x00, 0x00, 0x2b, 0x80, 0x00, 0x00, 0x3c, 0x80, 0x00, 0x06, 0x2d];
+
 /// Steps 4 to 6.
 pub fn run(card: &mut Card, name: Name, apdu: &Apdu, caller: &Caller) -> Outcome {
     let in_stage = card.stage == AUTHENTICATED || (name == Name::Mutual && card.stage == OPENED);
@@ -32,7 +41,7 @@ fn opened(card: &mut Card, name: Name, apdu: &Apdu, data: &[u8], caller: &Caller
     if name == Name::Mutual {
         return mutual(card, apdu, data, caller);
     }
-    require_p1(apdu, listed_p1(name))?;
+    require_p1_p2(apdu, listed_p1(name), listed_p2(name))?;
     match name {
         Name::Unpair => unpair(card, apdu.p1()),
         Name::Status => get_status(card, apdu.p1()),
@@ -44,6 +53,7 @@ fn opened(card: &mut Card, name: Name, apdu: &Apdu, data: &[u8], caller: &Caller
         Name::Remove => remove(card),
         Name::SetPinlessPath => set_pinless_path(card, data),
         Name::Sign => sign(card, data, caller),
+        Name::Export => export(card, apdu, data, caller),
         Name::Select | Name::Init | Name::Open | Name::Mutual | Name::Pair => unreachable!("not of this kind"),
     }
 }
@@ -54,6 +64,14 @@ fn listed_p1(name: Name) -> &'static [u8] {
         Name::Status => &[0x00, 0x01],
         Name::Change => &[0x00, 0x01, 0x02],
         Name::Load => &[0x01, 0x02, 0x03],
+        Name::Export => &[0x00, GIVEN_PATH, GIVEN_PATH_THEN_CURRENT],
+        _ => &[0x00],
+    }
+}
+
+fn listed_p2(name: Name) -> &'static [u8] {
+    match name {
+        Name::Export => &[PRIVATE_AND_PUBLIC, PUBLIC_ONLY],
         _ => &[0x00],
     }
 }
@@ -238,4 +256,31 @@ fn sign(card: &Card, data: &[u8], caller: &Caller) -> Outcome {
     let signature = field(0x30, &[der_integer(r), der_integer(s)].concat());
     let inner = [field(0x80, public_key), signature].concat();
     Ok(Reply::success(field(0xa0, &inner)))
+}
+
+fn export(card: &mut Card, apdu: &Apdu, data: &[u8], caller: &Caller) -> Outcome {
+    require(card.key_kind == EXTENDED_KEY, CONDITIONS_NOT_SATISFIED)?;
+    require_pin(card)?;
+    let path = exported_path(card, apdu.p1(), data).ok_or(End::Status(WRONG_DATA))?;
+    let with_private = apdu.p2() == PRIVATE_AND_PUBLIC;
+    require(!with_private || path.used().starts_with(&CHAT_NODE), CONDITIONS_NOT_SATISFIED)?;
+    let supply = caller.supply(FOR_EXPORT, data)?;
+    require(supply[0] == YES, DATA_INVALID)?;
+    let (public_key, private_key) = supply[1..].split_at(POINT_BYTES);
+    let mut inner = field(0x80, public_key);
+    if with_private {
+        inner.extend(field(0x81, private_key));
+    }
+    if apdu.p1() == GIVEN_PATH_THEN_CURRENT {
+        card.current_path = path;
+    }
+    Ok(Reply::success(field(0xa1, &inner)))
+}
+
+/// The path whose key is exported, if the data are right: the current one takes none, the given one is a path as in DERIVE.
+fn exported_path(card: &Card, p1: u8, data: &[u8]) -> Option<Path> {
+    match p1 {
+        GIVEN_PATH | GIVEN_PATH_THEN_CURRENT => is_path_length(data.len()).then(|| Path::of(data)),
+        _ => data.is_empty().then_some(card.current_path),
+    }
 }

@@ -43,6 +43,7 @@ pub fn supply_text(kind: u8) -> &'static str {
         6 => "LOAD: 33 bytes: flag, key UID 32",
         7 => "DERIVE: 1 byte: flag",
         8 => "SIGN: 129 bytes: public key 65, r 32, s 32",
+        9 => "EXPORT: 98 bytes: flag, public key 65, private key 32",
         _ => panic!("no rule has the kind {kind}"),
     }
 }

@@ -1,4 +1,5 @@
-//! The numbers that a command is made of: class, instruction and P1. P2 is 00 for all commands, and P1 where nothing is named here.
+//! The numbers that a command is made of: class, instruction, P1 and P2. P1 and P2 are 00 where nothing is named here; P2 is a choice for
+//! [`EXPORT`] alone.
 
 /// The class of SELECT.
 pub const CLASS_SELECT: u8 = 0x00;
@@ -35,6 +36,71 @@ pub const REMOVE: u8 = 0xD3;
 pub const SET_PINLESS_PATH: u8 = 0xC1;
 /// SIGN, sealed.
 pub const SIGN: u8 = 0xC0;
+/// EXPORT KEY, sealed: a public key goes out, and the private key beside it only for paths that begin with [`EIP1581_PATH`].
+///
+/// It needs an extended key and a verified PIN; a PIN-less path does not help. P1 names the path, P2 what goes out. The data are the path,
+/// 4 bytes a component as for [`DERIVE`], and none for [`P1_EXPORT_CURRENT`]. The answer is A1 holding 80, the public key of 65 bytes, and,
+/// for [`P2_EXPORT_PRIVATE_AND_PUBLIC`], 81, the private key of 32 bytes. Where a private key is asked for elsewhere the answer is 6985, and
+/// no supply is read; the host then need not work out that key. Of the card nothing changes but the channel's IV and, with
+/// [`P1_EXPORT_DERIVE_AND_MAKE_CURRENT`] and 9000, the current path.
+///
+/// ```
+/// use treadlewisp::*;
+///
+/// // A card with an extended key, taken from its stored record; its PIN is 024680.
+/// let slots = [&[0x01][..], &[0x52; 32], &[0x00; 4 * SLOT_BYTES]].concat();
+/// let fields: [(u8, &[u8]); 12] = [
+///     (0x10, &[0x01]),
+///     (0x11, &[0x11; UID_BYTES]),
+///     (0x12, &[0x04; PUBLIC_KEY_BYTES]),
+///     (0x20, b"024680"),
+///     (0x21, b"918273645546"),
+///     (0x22, &[0x51; 32]),
+///     (0x23, &[PIN_TRIES, PUK_TRIES]),
+///     (0x24, &slots),
+///     (0x30, &[KeyKind::Extended as u8]),
+///     (0x31, &[0x71; 32]),
+///     (0x32, &[]),
+///     (0x33, &[]),
+/// ];
+/// let record: Vec<u8> = fields.iter().flat_map(|(tag, content)| [&[*tag, 0x00, content.len() as u8], *content].concat()).collect();
+/// let mut card = Card::read(&record)?;
+///
+/// // OPEN. The supply is the host's: flag, both keys, salt and IV.
+/// let mut buffer = [0; ANSWER_ROOM_BYTES];
+/// let open = [&[command::CLASS_CARD, command::OPEN, 0x00, 0x00, 65][..], &[0x04; 65]].concat();
+/// card.answer(&open, &[&[0x01], &[0x61; 32][..], &[0x62; 32], &[0x91; 32], &[0x63; 16]].concat(), &mut buffer)?;
+/// let mut terminal = Session::new(&[0x61; 32], &[0x62; 32], &[0x63; 16]);
+///
+/// // From SEAL to UNSEAL: what the card answers inside the channel.
+/// let mut send = |ins: u8, p1: u8, p2: u8, data: &[u8], supply: &[u8]| -> Result<Vec<u8>, Refusal> {
+///     let mut sealed = [0; SEAL_ROOM_BYTES];
+///     let sealed_bytes = terminal.seal(&[command::CLASS_CARD, ins, p1, p2], data, &mut sealed)?;
+///     let mut response = [0; ANSWER_ROOM_BYTES];
+///     let response_bytes = card.answer(&sealed[..sealed_bytes], supply, &mut response)?;
+///     let mut opened = [0; UNSEAL_ROOM_BYTES];
+///     let opened_bytes = terminal.unseal(&response[..response_bytes], &mut opened)?;
+///     Ok(opened[..opened_bytes].to_vec())
+/// };
+/// send(command::MUTUAL, 0x00, 0x00, &[0x0E; 32], &[0x92; 32])?;
+/// assert_eq!(send(command::VERIFY, 0x00, 0x00, b"024680", &[])?, [0x90, 0x00]);
+///
+/// // The first chat key, m/43'/60'/1581'/0', both parts. The supply: flag, public key 65, private key 32.
+/// let chat = [&command::EIP1581_PATH[..], &[0x80, 0x00, 0x00, 0x00]].concat();
+/// let supply = [&[0x01], &[0x04; 65][..], &[0x77; 32]].concat();
+/// assert_eq!(supply.len(), SupplyKind::Export.bytes());
+/// let both = send(command::EXPORT, command::P1_EXPORT_DERIVE, command::P2_EXPORT_PRIVATE_AND_PUBLIC, &chat, &supply)?;
+/// assert_eq!(both, [&[0xA1, 101, 0x80, 65], &[0x04; 65][..], &[0x81, 32], &[0x77; 32], &[0x90, 0x00]].concat());
+///
+/// // Elsewhere the private key does not go out, and the public key does.
+/// let wallet = [0x80, 0x00, 0x00, 0x2C, 0x80, 0x00, 0x00, 0x3C];
+/// let refused = send(command::EXPORT, command::P1_EXPORT_DERIVE, command::P2_EXPORT_PRIVATE_AND_PUBLIC, &wallet, &supply)?;
+/// assert_eq!(StatusWord::of(&refused), Some(StatusWord::CONDITIONS_NOT_MET));
+/// let public = send(command::EXPORT, command::P1_EXPORT_DERIVE, command::P2_EXPORT_PUBLIC_ONLY, &wallet, &supply)?;
+/// assert_eq!(public, [&[0xA1, 67, 0x80, 65], &[0x04; 65][..], &[0x90, 0x00]].concat());
+/// # Ok::<(), Refusal>(())
+/// ```
+pub const EXPORT: u8 = 0xC2;
 
 /// P1 of SELECT.
 pub const P1_SELECT: u8 = 0x04;
@@ -58,6 +124,20 @@ pub const P1_LOAD_PLAIN: u8 = 0x01;
 pub const P1_LOAD_EXTENDED: u8 = 0x02;
 /// P1 of LOAD for a seed of 64 bytes.
 pub const P1_LOAD_SEED: u8 = 0x03;
+/// P1 of EXPORT for the current path; there are no data.
+pub const P1_EXPORT_CURRENT: u8 = 0x00;
+/// P1 of EXPORT for the path in the data; the current path stays.
+pub const P1_EXPORT_DERIVE: u8 = 0x01;
+/// P1 of EXPORT for the path in the data, which is the current path after 9000.
+pub const P1_EXPORT_DERIVE_AND_MAKE_CURRENT: u8 = 0x02;
+
+/// P2 of EXPORT for both keys.
+pub const P2_EXPORT_PRIVATE_AND_PUBLIC: u8 = 0x00;
+/// P2 of EXPORT for the public key alone.
+pub const P2_EXPORT_PUBLIC_ONLY: u8 = 0x01;
+
+/// The path m/43'/60'/1581' (EIP-1581), 12 bytes: EXPORT gives a private key only for it and for paths that begin with it.
+pub const EIP1581_PATH: [u8; 12] = [0x80, 0x00, 0x00, 0x2B, 0x80, 0x00, 0x00, 0x3C, 0x80, 0x00, 0x06, 0x2D];
 
 /// The data of SELECT, 15 bytes.
 pub const APPLICATION_ID: &[u8; 15] = b"StatusWalletApp";

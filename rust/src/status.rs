@@ -23,9 +23,9 @@ impl StatusWord {
     pub const WRONG_LENGTH: StatusWord = StatusWord(0x6700);
     /// The command does not open, or a cryptogram differs.
     pub const SECURITY_NOT_MET: StatusWord = StatusWord(0x6982);
-    /// DERIVE: the path leads to no key.
+    /// DERIVE and EXPORT: the path leads to no key.
     pub const REFERENCE_INVALID: StatusWord = StatusWord(0x6984);
-    /// The card is not in a state for this command.
+    /// The card is not in a state for this command; EXPORT also where the private key of this path does not go out.
     pub const CONDITIONS_NOT_MET: StatusWord = StatusWord(0x6985);
     /// The command's data are wrong.
     pub const WRONG_DATA: StatusWord = StatusWord(0x6A80);

@@ -24,11 +24,14 @@ pub enum SupplyKind {
     Derive = 7,
     /// SIGN: public key 65, r 32, s 32; 129 bytes.
     Sign = 8,
+    /// EXPORT: flag, public key 65, private key 32; 98 bytes, also where the public key goes out alone: the last 32 are then not read. With
+    /// P1 00 ASK hands out no data; the path is the card's current one.
+    Export = 9,
 }
 
 impl SupplyKind {
     /// All kinds, in the order of their numbers.
-    pub const ALL: [SupplyKind; 9] = [
+    pub const ALL: [SupplyKind; 10] = [
         SupplyKind::None,
         SupplyKind::Init,
         SupplyKind::Open,
@@ -38,14 +41,15 @@ impl SupplyKind {
         SupplyKind::Load,
         SupplyKind::Derive,
         SupplyKind::Sign,
+        SupplyKind::Export,
     ];
 
-    /// The kind's number, 0 to 8.
+    /// The kind's number, 0 to 9.
     pub const fn number(self) -> u8 {
         self as u8
     }
 
-    /// The kind with this number, if it is 0 to 8.
+    /// The kind with this number, if it is 0 to 9.
     pub const fn from_number(number: u8) -> Option<SupplyKind> {
         match number {
             0 => Some(SupplyKind::None),
@@ -57,6 +61,7 @@ impl SupplyKind {
             6 => Some(SupplyKind::Load),
             7 => Some(SupplyKind::Derive),
             8 => Some(SupplyKind::Sign),
+            9 => Some(SupplyKind::Export),
             _ => None,
         }
     }
@@ -72,12 +77,16 @@ impl SupplyKind {
             SupplyKind::PairFinal => 64,
             SupplyKind::Derive => 1,
             SupplyKind::Sign => 129,
+            SupplyKind::Export => 98,
         }
     }
 
     /// Whether the supply's first byte is a flag.
     pub const fn has_flag(self) -> bool {
-        matches!(self, SupplyKind::Init | SupplyKind::Open | SupplyKind::Load | SupplyKind::Derive)
+        matches!(
+            self,
+            SupplyKind::Init | SupplyKind::Open | SupplyKind::Load | SupplyKind::Derive | SupplyKind::Export
+        )
     }
 
     /// The name of the command that reads this supply; none for kind 0.
@@ -92,6 +101,7 @@ impl SupplyKind {
             SupplyKind::Load => Some("LOAD"),
             SupplyKind::Derive => Some("DERIVE"),
             SupplyKind::Sign => Some("SIGN"),
+            SupplyKind::Export => Some("EXPORT"),
         }
     }
 }

@@ -228,6 +228,67 @@ fn the_constants_of_the_engine() {
     hold(&constants, "", &engine);
 }
 
+/// Class, instruction, P1 and P2 of the commands, and the length of each supply.
+#[test]
+fn the_numbers_of_commands_and_supplies_in_the_header() {
+    use treadlewisp::command::*;
+    let header = header();
+    let instructions = named![
+        SELECT,
+        INIT,
+        OPEN,
+        MUTUAL,
+        PAIR,
+        UNPAIR,
+        GET_STATUS,
+        VERIFY,
+        CHANGE,
+        UNBLOCK,
+        LOAD,
+        DERIVE,
+        REMOVE,
+        SET_PINLESS_PATH,
+        SIGN,
+        EXPORT,
+    ];
+    let others = named![
+        CLASS_SELECT,
+        CLASS_CARD,
+        P1_SELECT,
+        P1_PAIR_FIRST,
+        P1_PAIR_FINAL,
+        P1_STATUS_TRIES,
+        P1_STATUS_PATH,
+        P1_CHANGE_PIN,
+        P1_CHANGE_PUK,
+        P1_CHANGE_SECRET,
+        P1_LOAD_PLAIN,
+        P1_LOAD_EXTENDED,
+        P1_LOAD_SEED,
+        P1_EXPORT_CURRENT,
+        P1_EXPORT_DERIVE,
+        P1_EXPORT_DERIVE_AND_MAKE_CURRENT,
+        P2_EXPORT_PRIVATE_AND_PUBLIC,
+        P2_EXPORT_PUBLIC_ONLY,
+    ];
+    hold(&instructions, "TW_INS_", &header);
+    hold(&others, "TW_", &header);
+    let count = |fronts: &[&str]| {
+        header
+            .keys()
+            .filter(|name| fronts.iter().any(|front| name.starts_with(front)))
+            .count()
+    };
+    assert_eq!(count(&["TW_INS_"]), instructions.len());
+    assert_eq!(count(&["TW_CLASS_", "TW_P1_", "TW_P2_"]), others.len());
+    for kind in SupplyKind::ALL {
+        let Some(command_name) = kind.command_name() else { continue };
+        let name = format!("TW_SUPPLY_{}", command_name.to_uppercase().replace(' ', "_"));
+        assert_eq!(value(&name, &header), usize::from(kind.number()), "{name}");
+        assert_eq!(value(&format!("{name}_BYTES"), &header), kind.bytes(), "{name}_BYTES");
+    }
+}
+
 #[test]
 fn the_offsets_of_the_header() {
     let header = header();

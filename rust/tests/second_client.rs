@@ -60,6 +60,7 @@ fn every_way_to_lose_the_channel_ends_verification() {
         command::REMOVE,
         command::SET_PINLESS_PATH,
         command::SIGN,
+        command::EXPORT,
     ];
     for instruction in sealed_kind {
         let mut forged = verified().seal(instruction, 0x00, &[0x0E; KEY_BYTES]);

@@ -107,9 +107,9 @@ fn numbers_of_refusals_and_supplies() {
         let refusal = Refusal::from_number(number);
         assert_eq!(refusal.map(Refusal::number), (1..=8).contains(&number).then_some(number));
         let kind = SupplyKind::from_number(number);
-        assert_eq!(kind.map(SupplyKind::number), (number <= 8).then_some(number));
+        assert_eq!(kind.map(SupplyKind::number), (number <= 9).then_some(number));
     }
-    assert_eq!(SupplyKind::ALL.map(SupplyKind::bytes), [0, 33, 113, 32, 96, 64, 33, 1, 129]);
+    assert_eq!(SupplyKind::ALL.map(SupplyKind::bytes), [0, 33, 113, 32, 96, 64, 33, 1, 129, 98]);
     assert_eq!(SUPPLY_MAX_BYTES, 129);
     for kind in SupplyKind::ALL {
         assert_eq!(supply(kind).len(), kind.bytes());
@@ -118,6 +118,7 @@ fn numbers_of_refusals_and_supplies() {
     let error: Box<dyn std::error::Error> = Refusal::Room.into();
     assert_eq!(error.to_string(), "refusal 2: the buffer is smaller than the operation asks for");
     assert_eq!(SupplyKind::Sign.to_string(), "supply for SIGN, 129 bytes");
+    assert_eq!(SupplyKind::Export.to_string(), "supply for EXPORT, 98 bytes");
 }
 
 #[test]

@@ -20,6 +20,7 @@ pub const ENC_KEY: [u8; KEY_BYTES] = [0x61; KEY_BYTES];
 pub const MAC_KEY: [u8; KEY_BYTES] = [0x62; KEY_BYTES];
 pub const SEED_IV: [u8; IV_BYTES] = [0x63; IV_BYTES];
 pub const KEY_UID: [u8; KEY_BYTES] = [0x71; KEY_BYTES];
+pub const PRIVATE_KEY: [u8; KEY_BYTES] = [0x72; KEY_BYTES];
 const INIT_KEY: [u8; KEY_BYTES] = [0x81; KEY_BYTES];
 const INIT_IV: [u8; IV_BYTES] = [0x82; IV_BYTES];
 const SALT: [u8; KEY_BYTES] = [0x91; KEY_BYTES];
@@ -76,6 +77,7 @@ pub fn supply(kind: SupplyKind) -> Vec<u8> {
         SupplyKind::Load => vec![yes, &KEY_UID],
         SupplyKind::Derive => vec![yes],
         SupplyKind::Sign => vec![&POINT, &[0; 31], &[0x80], &[0; 31], &[0x01]],
+        SupplyKind::Export => vec![yes, &POINT, &PRIVATE_KEY],
     };
     parts.concat()
 }
@@ -94,6 +96,7 @@ pub fn sealed_response(plaintext: &[u8], lr_more_bytes: usize) -> Vec<u8> {
 }
 
 /// A card, and the terminal's end of its channel.
+#[derive(Clone)]
 pub struct Life {
     pub card: Card,
     pub terminal: Session,
@@ -138,7 +141,12 @@ impl Life {
 
     /// SEAL, ASK, ANSWER, UNSEAL; gives the response's plaintext.
     pub fn sealed(&mut self, instruction: u8, p1: u8, data: &[u8]) -> Vec<u8> {
-        let command = self.seal(instruction, p1, data);
+        self.sealed_with_header(card_header(instruction, p1), data)
+    }
+
+    /// As [`Life::sealed`], with a whole header.
+    pub fn sealed_with_header(&mut self, header: [u8; HEADER_BYTES], data: &[u8]) -> Vec<u8> {
+        let command = self.seal_with_header(header, data);
         let response = self.plain(&command);
         let mut opened = vec![FILL; UNSEAL_ROOM_BYTES];
         let count = self.terminal.unseal(&response, &mut opened).expect("UNSEAL");
@@ -155,8 +163,11 @@ impl Life {
     }
 
     pub fn seal(&mut self, instruction: u8, p1: u8, data: &[u8]) -> Vec<u8> {
+        self.seal_with_header(card_header(instruction, p1), data)
+    }
+
+    pub fn seal_with_header(&mut self, header: [u8; HEADER_BYTES], data: &[u8]) -> Vec<u8> {
         let mut command = vec![FILL; SEAL_ROOM_BYTES];
-        let header = card_header(instruction, p1);
         let count = self.terminal.seal(&header, data, &mut command).expect("SEAL");
         assert!(command[count..].iter().all(|&b| b == FILL));
         command.truncate(count);
