@@ -25,9 +25,9 @@ extern "C" {
 /* The version: one number for this header, the library, the Rust crate and the crates that they are proved from. CHANGELOG.md says what it
    promises about the card's layout and the stored record. */
 #define TW_VERSION_MAJOR 0
-#define TW_VERSION_MINOR 3
+#define TW_VERSION_MINOR 4
 #define TW_VERSION_PATCH 0
-#define TW_VERSION "0.3.0"
+#define TW_VERSION "0.4.0"
 
 /* Numbers that follow from others are written as their sums; docs/LAYOUT.md has them worked out, and rust/tests/layout.rs holds both against
    each other. */
