@@ -41,7 +41,8 @@ fn next_word(w: &[u32; 64], t: usize) -> u32
     add(second, sha_words::small_sigma_1(w[t - 2]))
 }
 
-// The message schedule of a block. From word 16 on a step of the loop is eight words: the compiler writes them out, and no word waits for memory.
+// The message schedule of a block. From word 16 on a step of the loop is eight words: the compiler writes them out, and what it has just made is
+// still in registers.
 pub fn schedule_of(m: &[u8]) -> [u32; 64]
     requires { ⌜ length (now m) ≡ 64 ⌝ }
     ensures { λ r. ⌜ r ≡ schedule (now (m .entry)) ⌝ }
