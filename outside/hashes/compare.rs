@@ -1,11 +1,12 @@
 //! The program hashes: holds the proved library sha_c to the plain implementation on pseudo-random messages, of every length up to ten blocks and
 //! around the borders of longer ones, and every wrong room to its number. With the name of a folder it also writes a message of each length up to
-//! four blocks there, and the library's digests as `sha256sum --check` reads them. The first difference is printed and ends the run with a status
-//! that is not 0. Lengths are in bytes.
+//! four blocks there, and the library's digests as `sha256sum --check` reads them; with the name of a file besides, every message that it hashed and
+//! the library's digest, for `hashlib_check.py`. The first difference is printed and ends the run with a status that is not 0. Lengths are in bytes.
 
 use outside::ffi::sha_c;
 use outside::hashes::plain::{self, BLOCK_BYTES, DIGEST_BYTES};
 use outside::random::Random;
+use std::io::{self, BufWriter, Write};
 use std::path::Path;
 use std::{env, fs, process};
 
@@ -53,16 +54,21 @@ fn digest(message: &[u8]) -> Vec<u8> {
     digest
 }
 
-/// A message of that length, somewhere in a buffer, so that its first byte lies at any alignment.
-fn compare(random: &mut Random, bytes: usize) {
+/// A message of that length, somewhere in a buffer, so that its first byte lies at any alignment. Its length in 8 bytes, high byte first, the message
+/// and the library's digest go to `written`.
+fn compare(random: &mut Random, bytes: usize, written: &mut dyn Write) -> io::Result<()> {
     let start = random.below(16);
     let buffer = random.bytes(start + bytes);
     let message = &buffer[start..];
+    let digest = digest(message);
     expect(
-        digest(message) == plain::sha256(message),
+        digest == plain::sha256(message),
         bytes,
         "another digest than the plain implementation's",
     );
+    written.write_all(&(bytes as u64).to_be_bytes())?;
+    written.write_all(message)?;
+    written.write_all(&digest)
 }
 
 fn border_length(random: &mut Random) -> usize {
@@ -86,7 +92,7 @@ fn wrong_rooms(random: &mut Random) -> usize {
 }
 
 /// A message of each length, and the list of digests.
-fn write_sums(random: &mut Random, folder: &Path) -> std::io::Result<()> {
+fn write_sums(random: &mut Random, folder: &Path) -> io::Result<()> {
     let mut sums = String::new();
     for bytes in 0..=WRITTEN_LENGTHS {
         let message = random.bytes(bytes);
@@ -100,24 +106,41 @@ fn write_sums(random: &mut Random, folder: &Path) -> std::io::Result<()> {
     fs::write(folder.join("SHA256SUMS"), sums)
 }
 
-fn main() {
-    let mut random = Random::new(SEED);
+/// All messages; answers how many of them have lengths around block borders.
+fn compare_all(random: &mut Random, written: &mut dyn Write) -> io::Result<usize> {
     for bytes in 0..=EVERY_LENGTH {
         for _ in 0..TIMES {
-            compare(&mut random, bytes);
+            compare(random, bytes, written)?;
         }
     }
     let left = MESSAGES - (EVERY_LENGTH + 1) * TIMES;
     for _ in 0..left {
-        let bytes = border_length(&mut random);
-        compare(&mut random, bytes);
+        let bytes = border_length(random);
+        compare(random, bytes, written)?;
     }
+    written.flush()?;
+    Ok(left)
+}
+
+fn run(folder: Option<&Path>, file: Option<&Path>) -> io::Result<()> {
+    let mut random = Random::new(SEED);
+    let left = match file {
+        Some(file) => compare_all(&mut random, &mut BufWriter::new(fs::File::create(file)?))?,
+        None => compare_all(&mut random, &mut io::sink())?,
+    };
     let refused = wrong_rooms(&mut random);
     println!("hashes: {MESSAGES} messages, {TIMES} of each length to {EVERY_LENGTH} bytes and {left} around block borders to {MOST_BLOCKS} blocks; {refused} wrong rooms refused; no difference");
-    if let Some(folder) = env::args_os().nth(1) {
-        if let Err(error) = write_sums(&mut random, Path::new(&folder)) {
-            println!("{}: {error}", Path::new(&folder).display());
-            process::exit(1);
-        }
+    match folder {
+        Some(folder) => write_sums(&mut random, folder),
+        None => Ok(()),
+    }
+}
+
+fn main() {
+    let names: Vec<_> = env::args_os().skip(1).collect();
+    let mut paths = names.iter().map(Path::new);
+    if let Err(error) = run(paths.next(), paths.next()) {
+        println!("hashes: {error}");
+        process::exit(1);
     }
 }

@@ -5,7 +5,6 @@ ghost use Prim.Native.Nat.{_≤_};
 ghost use lib.ListN.{length};
 use crate::report;
 use octets::BLOCK_BYTES;
-use text_hex::hex;
 use text_hex::text;
 use text_hex::text::DECRYPT;
 use text_hex::text::ENCRYPT;
@@ -45,26 +44,6 @@ pub fn is_empty(e: Entry) -> bool {
         & text::is_none(e.iv)
         & text::is_none(e.plain)
         & text::is_none(e.cipher)
-}
-
-// Reads the hexadecimal text of a span into all of `out`; answers whether that is what is there.
-fn read_hex(s: &[u8], x: TextSpan, out: &mut [u8]) -> bool {
-    let start = x.start;
-    let end = x.end;
-    if end < start {
-        return false;
-    }
-    if s.len() < end {
-        return false;
-    }
-    let digits = end - start;
-    if digits % 2 != 0 {
-        return false;
-    }
-    if digits / 2 != out.len() {
-        return false;
-    }
-    hex::decode(&s[start..end], out)
 }
 
 // The length in bytes of a text that the entry may have; 0 where it may not.
@@ -132,7 +111,7 @@ fn read_iv(s: &[u8], mode: u8, x: TextSpan, iv: &mut [u8; 16]) -> bool {
     if mode == ECB {
         return text::is_none(x);
     }
-    read_hex(s, x, iv)
+    text::read_hex(s, x, iv)
 }
 
 // Puts what one direction makes of `given` into `got`.
@@ -207,10 +186,10 @@ fn try_texts(
 {
     let mut key = [0u8; 32];
     let mut iv = [0u8; 16];
-    let key_read = read_hex(s, e.key, &mut key);
+    let key_read = text::read_hex(s, e.key, &mut key);
     let iv_read = read_iv(s, mode, e.iv, &mut iv);
-    let plain_read = read_hex(s, e.plain, plain);
-    let cipher_read = read_hex(s, e.cipher, cipher);
+    let plain_read = text::read_hex(s, e.plain, plain);
+    let cipher_read = text::read_hex(s, e.cipher, cipher);
     let is_counted = !text::is_none(e.count);
     let is_read = is_counted & key_read & iv_read & plain_read & cipher_read;
     if !is_read {

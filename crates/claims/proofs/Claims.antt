@@ -8,6 +8,7 @@ use Rattle.claims.proofs.Ciphers.{ciphers}
 use Rattle.claims.proofs.Templates.{templates}
 use Rattle.claims.proofs.Trips.{trips}
 use Rattle.claims.proofs.Verified.{verified}
+use Rattle.claims.proofs.Export.{export}
 use Rattle.claims.proofs.Rows.{rows}
 use Rattle.claims.proofs.RowsMet.{rows-met}
 use Rattle.claims.proofs.WrongEngines.{wrong-engines}
@@ -22,6 +23,7 @@ claims = record {
   trips = trips;
   together = together;
   verified = verified;
+  export = export;
   rows = rows;
   rowsmet = rows-met;
   wrongengines = wrong-engines;

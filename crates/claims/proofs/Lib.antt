@@ -12,5 +12,8 @@ pub mod Ciphers
 pub mod Templates
 pub mod Trips
 pub mod Verified
+pub mod Elsewhere
+pub mod Exporting
+pub mod Export
 pub mod Secrecy
 pub mod Claims

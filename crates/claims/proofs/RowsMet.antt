@@ -9,7 +9,7 @@ use native.Mathlib.Omega.{arith}
 use borrow.Author.Tests.{leb-true}
 use lib.Dec.{leb}
 use lib.ListN.{length, replicate}
-use Rattle.octets.specs.Bytes.{Bytes}
+use Rattle.octets.specs.Bytes.{Bytes, Block}
 use Rattle.octets.proofs.Lists.{bytes-replicate}
 use Rattle.channel_rules.specs.Terminal.{Out, sealedCommand}
 use Rattle.card.specs.declared.Card.{Card}
@@ -24,7 +24,7 @@ use Rattle.rules.specs.declared.Instruction.the-variants as ins
 use Rattle.rules.specs.declared.StatusKind.the-variants as status
 use Rattle.rules.specs.declared.Command.the-variants as command
 use Rattle.rules.specs.Supplies.{suits}
-use Rattle.rules.specs.Commands.{filledWith, statusReply, ruleOf}
+use Rattle.rules.specs.Commands.{filledWith, keyWith, statusReply, ruleOf}
 use Rattle.rules.specs.Rows.{rowOf, isPlain}
 use Rattle.rules.specs.Channel.{sessionOf}
 use Rattle.rules.specs.Steps.{isInitialised}
@@ -163,11 +163,9 @@ initialises = record {
   done = ap isInitialised init-is;
 }
 
-abbrev statusCard : Card
-statusCard = inChannel 2 (stage2-reached .iv) 0 noKeys
-
-status-typed : Typed statusCard
-status-typed = record {
+-- the cards in stage 2 that lists of calls reach have what the types say
+pub channel-typed : (iv : List ℕ) → Block iv → (verified kind : ℕ) → Typed (inChannel 2 iv verified (keyWith kind (zeros 32)))
+channel-typed iv block verified kind = record {
   shaped = record {
     uid = refl;
     «public_key» = refl;
@@ -181,9 +179,12 @@ status-typed = record {
     current = refl;
     pinless = refl;
   };
-  keyed = session-keyed (stage2-reached .iv) (stage2-reached .block);
+  keyed = session-keyed iv block;
   path = bytes-replicate 40 0 (omega arith);
 }
+
+abbrev statusCard : Card
+statusCard = inChannel 2 (stage2-reached .iv) 0 noKeys
 
 abbrev statusTurn : Turn
 statusTurn = turnOf 0xF2 [] (header-bytes 0xF2 refl) tt (omega arith)
@@ -193,7 +194,7 @@ reads : unsealedBy statusCard statusTurn .bytes
 unfolding ruleOf suits statusReply
 reads =
     listed2 statusCard statusTurn (names statusCard ins.Status 0 0 (reached-sound (stage2-reached .iv) .0) refl refl)
-    (reached-sound (stage2-reached .iv) .0) status-typed refl (command.Status status.Application) refl (λ v. refl) .turn .plain
+    (reached-sound (stage2-reached .iv) .0) (channel-typed (stage2-reached .iv) (stage2-reached .block) 0 0) refl (command.Status status.Application) refl (λ v. refl) .turn .plain
 
 pub rows-met : RowsMet
 rows-met = record {

@@ -8,6 +8,7 @@ use Rattle.claims.specs.Ciphers.{Ciphers}
 use Rattle.claims.specs.Templates.{Templates}
 use Rattle.claims.specs.Trips.{Trips}
 use Rattle.claims.specs.Verified.{Verified}
+use Rattle.claims.specs.Export.{Export}
 use Rattle.claims.specs.Rows.{Rows}
 use Rattle.claims.specs.RowsMet.{RowsMet}
 use Rattle.claims.specs.WrongEngines.{WrongEngines}
@@ -26,6 +27,8 @@ pub record Claims : Type 0 where
   pub together : Together
   -- verification ends with the channel (RULES 6.2)
   pub verified : Verified
+  -- a private key goes out of EIP-1581's subtree alone (RULES 6.19)
+  pub export : Export
   -- the rows to settle and that what they suppose is met (RULES 11.4); and the wrong engines that the rules shut out (RULES 11.5)
   pub rows : Rows
   pub rowsmet : RowsMet

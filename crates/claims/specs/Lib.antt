@@ -4,6 +4,7 @@ pub mod Ciphers
 pub mod Templates
 pub mod Trips
 pub mod Verified
+pub mod Export
 pub mod Rows
 pub mod RowsMet
 pub mod WrongEngines

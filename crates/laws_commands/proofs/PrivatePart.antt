@@ -1,4 +1,4 @@
--- A command that lets no private key out does not depend on the private key of EXPORT's supply: two supplies of its length, 98 bytes, that agree
+-- A command that is not EXPORT with P2 00 does not depend on the private key of EXPORT's supply: two supplies of its length, 98 bytes, that agree
 -- in flag and public key, the first 66, have the form for it both or neither, and then it gives both the same reply.
 -- Assumes nothing.
 use mathlib.Core.Path.{_≡_, refl, sym, ap, _∙_}
@@ -8,6 +8,7 @@ use Prim.Native.Nat.{ℕ}
 use lib.Dec.{eqb}
 use lib.ListN.{length, take, drop}
 use Rattle.card.specs.declared.Card.{Card}
+use Rattle.rules.specs.declared.ExportPath.{ExportPath}
 use Rattle.rules.specs.declared.ExportPart.the-variants as exportPart
 use Rattle.rules.specs.declared.Supply.{Supply}
 use Rattle.rules.specs.declared.Command.{Command}
@@ -15,7 +16,6 @@ use Rattle.rules.specs.declared.Command.the-variants as command
 use Rattle.rules.specs.Supplies.{flagOf, suits, exportPublic}
 use Rattle.rules.specs.Commands.{ruleOf, exportReply}
 use Rattle.rules.specs.Steps.{supplyOf, replyOf}
-use Rattle.laws_commands.specs.PrivatePart.{forPrivate}
 
 -- ---- flag and public key are in the first 66 bytes
 flag-of : (s : List ℕ) → flagOf s ≡ flagOf (take 66 s)
@@ -32,7 +32,7 @@ unfolding suits
 unsuited k s n l z e = rw (z, l, e)
 
 module _ (c : Card) (d s t : List ℕ) (l : length s ≡ 98) (m : length t ≡ 98) (e : take 66 s ≡ take 66 t) where
-  abbrev Alike : Command → Type 0
+  abbrev pub Alike : Command → Type 0
   Alike k = (suits (supplyOf k) s ≡ suits (supplyOf k) t) × (suits (supplyOf k) s ≡ true → replyOf k c d s ≡ replyOf k c d t)
 
   flag-same : flagOf s ≡ flagOf t
@@ -48,27 +48,23 @@ module _ (c : Card) (d s t : List ℕ) (l : length s ≡ 98) (m : length t ≡ 9
       let ut = unsuited (supplyOf k) t 98 m z n in
       (us ∙ sym ut, λ h. absurd (false≢true (sym us ∙ h)))
 
-  alike : (k : Command) → forPrivate k ≡ false → Alike k
+  pub unless-private : (k : Command) → ((which : ExportPath) → k ≡ command.Export which exportPart.PrivateAndPublic → ⊥) → Alike k
   unfolding ruleOf suits exportReply
-  alike command.Select p = (refl, λ h. refl)
-  alike command.Init p = other command.Init refl refl
-  alike (command.Open i) p = other (command.Open i) refl refl
-  alike command.Mutual p = other command.Mutual refl refl
-  alike command.PairFirst p = other command.PairFirst refl refl
-  alike command.PairFinal p = other command.PairFinal refl refl
-  alike (command.Unpair i) p = (refl, λ h. refl)
-  alike (command.Status which) p = (refl, λ h. refl)
-  alike command.Verify p = (refl, λ h. refl)
-  alike (command.Change which) p = (refl, λ h. refl)
-  alike command.Unblock p = (refl, λ h. refl)
-  alike (command.Load form) p = other (command.Load form) refl refl
-  alike command.Derive p = other command.Derive refl refl
-  alike command.Remove p = (refl, λ h. refl)
-  alike command.SetPinless p = (refl, λ h. refl)
-  alike command.Sign p = other command.Sign refl refl
-  alike (command.Export which exportPart.PrivateAndPublic) p = absurd (false≢true (sym p))
-  alike (command.Export which exportPart.PublicOnly) p = (rw (flag-same, l, m), λ h. rw (flag-same, public-same))
-
-pub unless-private : (k : Command) (c : Card) (d s t : List ℕ) → length s ≡ 98 → length t ≡ 98 → take 66 s ≡ take 66 t → forPrivate k ≡ false
-    → (suits (supplyOf k) s ≡ suits (supplyOf k) t) × (suits (supplyOf k) s ≡ true → replyOf k c d s ≡ replyOf k c d t)
-unless-private k c d s t l m e p = alike c d s t l m e k p
+  unless-private command.Select p = (refl, λ h. refl)
+  unless-private command.Init p = other command.Init refl refl
+  unless-private (command.Open i) p = other (command.Open i) refl refl
+  unless-private command.Mutual p = other command.Mutual refl refl
+  unless-private command.PairFirst p = other command.PairFirst refl refl
+  unless-private command.PairFinal p = other command.PairFinal refl refl
+  unless-private (command.Unpair i) p = (refl, λ h. refl)
+  unless-private (command.Status which) p = (refl, λ h. refl)
+  unless-private command.Verify p = (refl, λ h. refl)
+  unless-private (command.Change which) p = (refl, λ h. refl)
+  unless-private command.Unblock p = (refl, λ h. refl)
+  unless-private (command.Load form) p = other (command.Load form) refl refl
+  unless-private command.Derive p = other command.Derive refl refl
+  unless-private command.Remove p = (refl, λ h. refl)
+  unless-private command.SetPinless p = (refl, λ h. refl)
+  unless-private command.Sign p = other command.Sign refl refl
+  unless-private (command.Export which exportPart.PrivateAndPublic) p = absurd (p which refl)
+  unless-private (command.Export which exportPart.PublicOnly) p = (rw (flag-same, l, m), λ h. rw (flag-same, public-same))

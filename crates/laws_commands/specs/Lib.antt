@@ -1,3 +1,2 @@
 pub mod Verified
 pub mod Lawful
-pub mod PrivatePart

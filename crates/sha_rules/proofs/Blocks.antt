@@ -2,7 +2,7 @@
 -- Assumes nothing.
 use mathlib.Core.Path.{_≡_, sym, ap, ap₂, _∙_}
 use mathlib.Core.List.{List, [], _∷_, _++_, append-assoc}
-use Prim.Native.Nat.{ℕ, zero, suc, _+_, _*_, _/_, _%_, _<_}
+use Prim.Native.Nat.{ℕ, zero, suc, _+_, _*_, _/_, _%_, _≤_}
 use native.Mathlib.Nat.{zero-add, suc-add}
 use native.Mathlib.Omega.{arith}
 use lib.ListN.{length, take, drop, replicate, length-append, length-replicate, length-drop, take-append-drop}
@@ -11,12 +11,12 @@ use Rattle.sha_rules.specs.Constants.{H⁰}
 use Rattle.sha_rules.specs.Padding.{zeroBytes, paddingBytes, bigEndian, lengthInBits, padding, pad}
 use Rattle.sha_rules.specs.Hash.{compress, blocks, digest, sha256}
 
--- ---- zeroBytes: 5.1.1 asks for the least number k of zero bits with 8 * l + 1 + k = 448 modulo 512
+-- ---- zeroBytes: 5.1.1 asks for the least number k of zero bits with 8 * l + 1 + k = 448 modulo 512, and 7 of them are in the byte 80
 pub zero-bits : (l : ℕ) → (8 * l + 1 + (7 + 8 * zeroBytes l)) % 512 ≡ 448
 zero-bits l = omega arith
 
-pub zero-bits-least : (l : ℕ) → 7 + 8 * zeroBytes l < 512
-zero-bits-least l = omega arith
+pub zero-bits-least : (l k : ℕ) → (8 * l + 1 + k) % 512 ≡ 448 → 7 + 8 * zeroBytes l ≤ k
+zero-bits-least l k e = omega arith
 
 -- ---- pad
 pub length-padding : (l : ℕ) → length (padding l) ≡ paddingBytes l

@@ -1,5 +1,5 @@
--- FIPS 180-4, section 5.1.1: padding (RULES 7.9). A message is a list of bytes, l bytes long; the length that the padding holds counts bits.
--- The standard's 1 bit and the 7 zero bits after it are the byte 80.
+-- FIPS 180-4, section 5.1.1: padding (RULES 7.9). A message is a list of bytes, l bytes long, where the standard's l counts bits; the length that
+-- the padding holds counts bits here too. The standard's 1 bit and the first 7 of its k zero bits are the byte 80.
 use mathlib.Core.List.{List, _∷_, _++_}
 use Prim.Native.Nat.{ℕ, _+_, _-_, _*_, _/_, _%_, _^_}
 use lib.ListN.{length, replicate}

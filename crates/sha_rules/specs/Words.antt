@@ -5,18 +5,18 @@ use lib.Bits.{bitAnd, bitOr, bitXor}
 
 infixl 58 _⊕_
 infixl 60 _⊞_
--- 2.2.2: exclusive-or and complement
+-- 2.2.2 and 3.2, 1: exclusive-or and complement
 abbrev pub _⊕_ : ℕ → ℕ → ℕ
 x ⊕ y = bitXor x y
 
 abbrev pub complement : ℕ → ℕ
 complement x = 2 ^ 32 - 1 - x
 
--- 3.2, 1: addition modulo 2^32
+-- 3.2, 2: addition modulo 2^32
 unfoldable pub _⊞_ : ℕ → ℕ → ℕ
 x ⊞ y = (x + y) % 2 ^ 32
 
--- 3.2, 2 and 3: SHR^n(x), and ROTR^n(x), where the n bits that a shift to the right loses come in at the left
+-- 3.2, 3 and 4: SHR^n(x), and ROTR^n(x), where the n bits that a shift to the right loses come in at the left
 abbrev pub shr : ℕ → ℕ → ℕ
 shr n x = x / 2 ^ n
 

@@ -11,6 +11,8 @@ const BLOCK_WORDS: usize = 16;
 
 const SCHEDULE_WORDS: usize = 64;
 
+const STEP_WORDS: usize = 8;
+
 // The word of four bytes, the highest first.
 fn join(a: u8, b: u8, c: u8, d: u8) -> u32
     ensures { λ r. ⌜ r ≡ a * 2 ^ 24 + b * 2 ^ 16 + c * 2 ^ 8 + d ⌝ }
@@ -28,18 +30,19 @@ fn block_word(m: &[u8], t: usize) -> u32
     join(m[i], m[i + 1], m[i + 2], m[i + 3])
 }
 
-// Word t of a schedule, from the words before it.
+// Word t of a schedule, from the words before it. The nearest of them comes last, so that word t waits for one sum after it.
 fn next_word(w: &[u32; 64], t: usize) -> u32
     requires { ⌜ 16 ≤ t ⌝ }
     requires { ⌜ t < 64 ⌝ }
     ensures { λ r. ⌜ r ≡ scheduleWord (now (w .entry)) t ⌝ }
 {
-    let first = add(sha_words::small_sigma_1(w[t - 2]), w[t - 7]);
+    let first = add(w[t - 16], w[t - 7]);
     let second = add(first, sha_words::small_sigma_0(w[t - 15]));
-    add(second, w[t - 16])
+    add(second, sha_words::small_sigma_1(w[t - 2]))
 }
 
-// The message schedule of a block.
+// The message schedule of a block. From word 16 on a step of the loop is eight words: the compiler writes them out, and what it has just made is
+// still in registers.
 pub fn schedule_of(m: &[u8]) -> [u32; 64]
     requires { ⌜ length (now m) ≡ 64 ⌝ }
     ensures { λ r. ⌜ r ≡ schedule (now (m .entry)) ⌝ }
@@ -51,9 +54,14 @@ pub fn schedule_of(m: &[u8]) -> [u32; 64]
         t += 1;
     }
     while t < SCHEDULE_WORDS {
-        let next = next_word(&w, t);
-        w[t] = next;
-        t += 1;
+        let mut i = 0;
+        while i < STEP_WORDS {
+            let at = t + i;
+            let next = next_word(&w, at);
+            w[at] = next;
+            i += 1;
+        }
+        t += STEP_WORDS;
     }
     w
 }

@@ -60,14 +60,6 @@ pub fn with_fault(t: Tally) -> Tally {
     }
 }
 
-fn starts_with(line: &[u8], name: &[u8]) -> bool {
-    let n = name.len();
-    if line.len() < n {
-        return false;
-    }
-    octets::same(&line[..n], name)
-}
-
 fn line_kind(line: &[u8]) -> u8 {
     if line.len() == 0 {
         return BLANK;
@@ -75,13 +67,13 @@ fn line_kind(line: &[u8]) -> u8 {
     if line[0] == b'#' || line[0] == b'[' {
         return COMMENT;
     }
-    if starts_with(line, b"Len = ") {
+    if text::starts_with(line, b"Len = ") {
         return BITS;
     }
-    if starts_with(line, b"Msg = ") {
+    if text::starts_with(line, b"Msg = ") {
         return MESSAGE;
     }
-    if starts_with(line, b"MD = ") {
+    if text::starts_with(line, b"MD = ") {
         return DIGEST;
     }
     UNKNOWN

@@ -2,7 +2,6 @@
 // A length in the file is in bits and a multiple of 8; a message has up to 128 bytes, a digest 32 bytes.
 ghost use Prim.Native.Nat.{_≤_};
 use sha_hash::DIGEST_BYTES;
-use text_hex::hex;
 use text_hex::text;
 use text_hex::text::TextSpan;
 
@@ -29,26 +28,6 @@ pub fn no_entry() -> Entry {
 
 pub fn is_empty(e: Entry) -> bool {
     text::is_none(e.bits) & text::is_none(e.message) & text::is_none(e.digest)
-}
-
-// Reads the hexadecimal text of a span into all of `out`; answers whether that is what is there.
-fn read_hex(s: &[u8], x: TextSpan, out: &mut [u8]) -> bool {
-    let start = x.start;
-    let end = x.end;
-    if end < start {
-        return false;
-    }
-    if s.len() < end {
-        return false;
-    }
-    let digits = end - start;
-    if digits % 2 != 0 {
-        return false;
-    }
-    if digits / 2 != out.len() {
-        return false;
-    }
-    hex::decode(&s[start..end], out)
 }
 
 // The number that a span spells, in bits.
@@ -99,17 +78,17 @@ fn malformed(name: &[u8]) -> bool {
 fn read_message(s: &[u8], x: TextSpan, message: &mut [u8]) -> bool {
     if message.len() == 0 {
         let mut nothing = [1u8; 1];
-        let is_read = read_hex(s, x, &mut nothing);
+        let is_read = text::read_hex(s, x, &mut nothing);
         return is_read && nothing[0] == 0;
     }
-    read_hex(s, x, message)
+    text::read_hex(s, x, message)
 }
 
 // Tries an entry whose message has the length of `message`.
 fn try_message(name: &[u8], s: &[u8], e: Entry, message: &mut [u8]) -> bool {
     let mut expected = [0u8; DIGEST_BYTES];
     let message_read = read_message(s, e.message, message);
-    let digest_read = read_hex(s, e.digest, &mut expected);
+    let digest_read = text::read_hex(s, e.digest, &mut expected);
     let is_read = message_read & digest_read;
     if !is_read {
         return malformed(name);

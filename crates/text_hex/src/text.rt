@@ -2,6 +2,7 @@
 ghost use Prim.Native.Nat.{_<_, _≤_};
 ghost use lib.ListN.{length};
 ghost use Rattle.text_hex.specs.Places.{First};
+use crate::hex;
 
 // A part of the file: from byte `start` up to byte `end`, which is not in it. No value starts at byte 0, so 0 to 0 means none.
 pub struct TextSpan {
@@ -93,7 +94,8 @@ pub fn value_start(s: &[u8], at: usize, end: usize) -> usize
     end
 }
 
-fn starts_with(line: &[u8], name: &[u8]) -> bool {
+// Whether a line begins with these bytes.
+pub fn starts_with(line: &[u8], name: &[u8]) -> bool {
     let n = name.len();
     if line.len() < n {
         return false;
@@ -135,4 +137,24 @@ pub fn line_kind(line: &[u8]) -> u8 {
         return DECRYPT;
     }
     value_kind(line)
+}
+
+// Reads the hexadecimal text of a part of the file into all of `out`; answers whether that is what is there.
+pub fn read_hex(s: &[u8], x: TextSpan, out: &mut [u8]) -> bool {
+    let start = x.start;
+    let end = x.end;
+    if end < start {
+        return false;
+    }
+    if s.len() < end {
+        return false;
+    }
+    let digits = end - start;
+    if digits % 2 != 0 {
+        return false;
+    }
+    if digits / 2 != out.len() {
+        return false;
+    }
+    hex::decode(&s[start..end], out)
 }

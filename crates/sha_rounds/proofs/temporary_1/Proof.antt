@@ -3,7 +3,7 @@
 use borrow.Author.Needs.{needs}
 use Rattle.sha_rules.specs.Words.{Ch, Σ₁}
 use Rattle.sha_rules.specs.Hash.{T₁}
-use Rattle.sha_rounds.proofs.Orders.{in-order}
+use Rattle.sha_rules.proofs.Sums.{five-in-order}
 use Rattle.sha_rounds.proofs.temporary_1.Statement.{statement}
 use Rattle.sha_rounds.proofs.temporary_1.Tie as tie
 
@@ -28,7 +28,7 @@ add-requires-4 c κs = search needs
 returns : tie.Need-returns
 unfolding T₁
 returns c = let a = c .before .before .before .before .before .before .args in
-    rw (c .add4 .ensures, c .before .big-sigma-1 .ensures, c .before .before .add3 .ensures, c .before .before .before .ch .ensures, c .before .before .before .before .add2 .ensures, c .before .before .before .before .before .add .ensures) (in-order (a .h) (Σ₁ (a .e)) (Ch (a .e) (a .f) (a .g)) (a .k) (a .w))
+    rw (c .add4 .ensures, c .before .big-sigma-1 .ensures, c .before .before .add3 .ensures, c .before .before .before .ch .ensures, c .before .before .before .before .add2 .ensures, c .before .before .before .before .before .add .ensures) (five-in-order (a .h) (Σ₁ (a .e)) (Ch (a .e) (a .f) (a .g)) (a .k) (a .w))
 
 pub temporary-1-spec : {M : Type 1} → statement M
 temporary-1-spec =
