@@ -1,4 +1,4 @@
-// The templates that SELECT, GET STATUS and SIGN answer: definitions, tags and laws of them all, and the writers of the two short ones,
+// The templates that SELECT, GET STATUS, SIGN and EXPORT answer: definitions, tags and laws of them all, and the writers of the two short ones,
 // SELECT's before INIT and GET STATUS's, from plain values into a buffer.
 // Every length is in bytes.
 // Proved: each writer leaves in the buffer exactly the bytes that the definition of its template gives, and touches no other; and WALK
