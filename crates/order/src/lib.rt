@@ -143,7 +143,7 @@ fn step_5(i: Instruction, over: bool, card: Card, cmd: &[u8], data: &[u8]) -> Wa
     let loss = order_rows::loss_of(i);
     let begun = order_steps::begun(loss, card);
     let lost = order_steps::failed(loss, p1, begun);
-    let Choice::Listed(k) = order_rows::choose(i, p1, cmd[3]) else {
+    let Choice::Listed(k) = order_choices::choose(i, p1, cmd[3]) else {
         return ends(over, lost, rules::WRONG_PARAMETERS);
     };
     step_6(over, begun, lost, k, data)

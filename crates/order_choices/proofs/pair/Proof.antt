@@ -1,8 +1,8 @@
--- GET STATUS's two values of P1, with P2 00, and no other.
+-- PAIR's two values of P1, with P2 00, and no other.
 -- Assumes nothing.
 use borrow.Author.Tests.{ne-eqb}
-use Rattle.order_rows.proofs.status.Statement.{statement}
-use Rattle.order_rows.proofs.status.Tie as tie
+use Rattle.order_choices.proofs.pair.Statement.{statement}
+use Rattle.order_choices.proofs.pair.Tie as tie
 
 returns : tie.Need-returns
 returns c = rw (ne-eqb (c .before .args .p2) 0 (c .if1 .taken))
@@ -16,5 +16,5 @@ returns-3 c = rw (c .before .if1 .left, c .match .keys2)
 returns-4 : tie.Need-returns-4
 returns-4 c = let p1 = c .before .before .args .p1 in rw (c .before .if1 .left, ne-eqb p1 0 (c .match .rest .0 .1), ne-eqb p1 1 (c .match .rest .1))
 
-pub status-spec : {M : Type 1} → statement M
-status-spec = tie.close (tie.spec returns returns-2 returns-3 returns-4)
+pub pair-spec : {M : Type 1} → statement M
+pair-spec = tie.close (tie.spec returns returns-2 returns-3 returns-4)

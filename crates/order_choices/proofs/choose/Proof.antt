@@ -1,8 +1,8 @@
 -- Each instruction with its own list of P1 and P2.
 -- Assumes nothing.
 use borrow.Author.Needs.{needs}
-use Rattle.order_rows.proofs.choose.Statement.{statement}
-use Rattle.order_rows.proofs.choose.Tie as tie
+use Rattle.order_choices.proofs.choose.Statement.{statement}
+use Rattle.order_choices.proofs.choose.Tie as tie
 
 enum-told : tie.Need-enum-told
 enum-told c = search needs
