@@ -1,11 +1,16 @@
-//! Finds `libtreadlewisp.a` and links it: in the folder that TREADLEWISP_LIB_DIR names (a relative one counts from this package), or else
-//! in the repository's `target/staticlib`.
+//! Finds `libtreadlewisp.a` and links it, and with the feature `sha256` also `libsha_c.a`: in the folder that TREADLEWISP_LIB_DIR names (a
+//! relative one counts from this package), or else in the repository's `target/staticlib`.
 
 use std::env;
 use std::path::{Path, PathBuf};
 use std::process::exit;
 
-const LIBRARY_FILE: &str = "libtreadlewisp.a";
+/// A library, and what makes it in the repository.
+type Library = (&'static str, &'static str);
+
+const ENGINE: Library = ("treadlewisp", "tools/library");
+const HASH: Library = ("sha_c", "tools/archive sha_c");
+const HASH_FEATURE: &str = "CARGO_FEATURE_SHA256";
 const FOLDER_VARIABLE: &str = "TREADLEWISP_LIB_DIR";
 const DEFAULT_FOLDER: &str = "../target/staticlib";
 
@@ -14,16 +19,23 @@ fn main() {
     println!("cargo:rerun-if-env-changed={FOLDER_VARIABLE}");
     require_machine();
     let folder = library_folder();
-    let file = folder.join(LIBRARY_FILE);
+    println!("cargo:rustc-link-search=native={}", folder.display());
+    link(&folder, ENGINE);
+    if env::var_os(HASH_FEATURE).is_some() {
+        link(&folder, HASH);
+    }
+}
+
+fn link(folder: &Path, (name, maker): Library) {
+    let file = folder.join(format!("lib{name}.a"));
     if !file.is_file() {
         fail(&format!(
-            "{} is missing. Make it with tools/library in the repository, or name the folder that holds it in {FOLDER_VARIABLE}.",
+            "{} is missing. Make it with {maker} in the repository, or name the folder that holds it in {FOLDER_VARIABLE}.",
             file.display()
         ));
     }
     println!("cargo:rerun-if-changed={}", file.display());
-    println!("cargo:rustc-link-search=native={}", folder.display());
-    println!("cargo:rustc-link-lib=static=treadlewisp");
+    println!("cargo:rustc-link-lib=static={name}");
 }
 
 fn library_folder() -> PathBuf {
@@ -32,13 +44,13 @@ fn library_folder() -> PathBuf {
     Path::new(&package).join(named.unwrap_or_else(|| DEFAULT_FOLDER.into()))
 }
 
-/// The library holds x86-64 code for Linux alone.
+/// The libraries hold x86-64 code for Linux alone.
 fn require_machine() {
     let machine = env::var("CARGO_CFG_TARGET_ARCH").unwrap_or_default();
     let system = env::var("CARGO_CFG_TARGET_OS").unwrap_or_default();
     if machine != "x86_64" || system != "linux" {
         fail(&format!(
-            "{LIBRARY_FILE} is for x86_64 linux, and this build is for {machine} {system}."
+            "the library is for x86_64 linux, and this build is for {machine} {system}."
         ));
     }
 }

@@ -1,6 +1,6 @@
-//! The functions of `include/treadlewisp.h`, and all of this crate's unsafe code.
+//! The functions of `include/treadlewisp.h`, with the feature `sha256` that of `include/sha_c.h`, and all of this crate's unsafe code.
 //!
-//! What the header asks of a caller holds at every call here, because the arguments are references to Rust values:
+//! What the headers ask of a caller holds at every call here, because the arguments are references to Rust values:
 //! - a reference or slice is not null, a slice's not even when it is empty, and is valid for its whole length, which is under 2^63 bytes;
 //! - what is behind `&mut` overlaps nothing else that the call is given, and no other thread uses it;
 //! - what is behind `&` is written by no one, as no type here has interior mutability;
@@ -12,6 +12,8 @@ use crate::card::{Asked, Card};
 use crate::lengths::*;
 use crate::refusal::Refusal;
 use crate::session::Session;
+#[cfg(feature = "sha256")]
+use crate::sha256::DIGEST_BYTES;
 use crate::supply::SupplyKind;
 
 /// `tw_asked`.
@@ -51,6 +53,11 @@ extern "C" {
     fn tw_walk(input: *const u8, input_bytes: usize) -> Report;
     fn tw_write(card: *const Card, buf: *mut u8, buf_bytes: usize) -> Report;
     fn tw_read(card: *mut Card, record: *const u8, record_bytes: usize) -> u8;
+}
+
+#[cfg(feature = "sha256")]
+extern "C" {
+    fn tw_sha256(message: *const u8, message_bytes: usize, digest: *mut u8, digest_bytes: usize) -> u8;
 }
 
 /// What a refusal's number says. The library is proved to give 0 to 8 alone; any other number would come from another library, and stops
@@ -148,6 +155,21 @@ pub(crate) fn write(card: &Card, buffer: &mut [u8]) -> Result<usize, Refusal> {
 pub(crate) fn read(card: &mut Card, record: &[u8]) -> Result<(), Refusal> {
     // SAFETY: the card is its whole record to write, borrowed alone; the record is given with its length, to read.
     done(unsafe { tw_read(card, record.as_ptr(), record.len()) })
+}
+
+/// `TW_HASH_DONE`.
+#[cfg(feature = "sha256")]
+const HASH_DONE: u8 = 0;
+
+/// The library is proved to be done wherever the room is that of a digest. Another number would come from another library, and no digest is
+/// made up for it.
+#[cfg(feature = "sha256")]
+pub(crate) fn sha256(message: &[u8]) -> [u8; DIGEST_BYTES] {
+    let mut digest = [0; DIGEST_BYTES];
+    // SAFETY: the message is given with its length, to read; the digest with its length, to write, and it is borrowed alone.
+    let told = unsafe { tw_sha256(message.as_ptr(), message.len(), digest.as_mut_ptr(), digest.len()) };
+    assert_eq!(told, HASH_DONE, "libsha_c.a is not the proved library");
+    digest
 }
 
 pub(crate) fn card_of(bytes: [u8; CARD_BYTES]) -> Card {

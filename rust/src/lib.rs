@@ -62,10 +62,17 @@
 //!
 //! `docs/RULES.md`, sections 3.9, 9.7 and 7.6, has an example of each.
 //!
+//! # SHA-256
+//!
+//! The engine takes the results of hashes in supplies and hashes nothing itself. For its host there is a proved SHA-256 (FIPS 180-4),
+//! `sha256(message: &[u8]) -> [u8; 32]`, in a library of its own, `sha_c`. The feature `sha256` has it; it is off by default, as whoever
+//! uses the engine alone needs no second library.
+//!
 //! # Building
 //!
 //! The library `libtreadlewisp.a` is linked from the repository's `target/staticlib`, where `tools/library` puts it, or from the folder
-//! that the environment variable `TREADLEWISP_LIB_DIR` names (a relative one counts from this package). It is for x86-64 Linux.
+//! that the environment variable `TREADLEWISP_LIB_DIR` names (a relative one counts from this package). It is for x86-64 Linux. With the
+//! feature `sha256`, `libsha_c.a` is linked too, from the same folder; `tools/library` puts it there, and `tools/archive sha_c` makes it alone.
 
 #![deny(unsafe_code, unsafe_op_in_unsafe_fn, missing_docs)]
 
@@ -77,6 +84,8 @@ mod lengths;
 mod parts;
 mod refusal;
 mod session;
+#[cfg(feature = "sha256")]
+mod sha256;
 mod status;
 mod supply;
 
@@ -85,6 +94,8 @@ pub use lengths::*;
 pub use parts::{KeyKind, Path, Slot, Stage};
 pub use refusal::Refusal;
 pub use session::Session;
+#[cfg(feature = "sha256")]
+pub use sha256::{sha256, DIGEST_BYTES};
 pub use status::StatusWord;
 pub use supply::SupplyKind;
 

@@ -3,11 +3,12 @@
 -- Assumes nothing.
 use mathlib.Core.Path.{_≡_, refl, sym, ap, _∙_, subst}
 use mathlib.Core.Bool.{Bool, true, false, _&&_, not, cond, false≢true}
-use mathlib.Core.List.{List}
+use mathlib.Core.List.{List, _++_}
 use Prim.Native.Nat.{ℕ}
 use borrow.Author.Tests.{eqb-true}
 use lib.Dec.{ltb, eqb}
-use lib.ListN.{length, take}
+use lib.ListN.{length, take, drop, take-append-drop}
+use Rattle.octets.proofs.Lists.{same-eq}
 use Rattle.template_rules.proofs.HeadFacts.{by-test}
 use Rattle.refusals.specs.Refusals.{unsound, noRoom, wrongSupply, answerRoom}
 use Rattle.card.specs.declared.Keys.{Keys}
@@ -18,6 +19,7 @@ use Rattle.card.proofs.Tests.{both}
 use Rattle.rules.specs.declared.Loss.{Loss}
 use Rattle.rules.specs.declared.Loss.the-variants as loss
 use Rattle.rules.specs.declared.ExportPath.{ExportPath}
+use Rattle.rules.specs.declared.ExportPath.the-variants as exportPath
 use Rattle.rules.specs.declared.ExportPart.the-variants as exportPart
 use Rattle.rules.specs.declared.Command.{Command}
 use Rattle.rules.specs.declared.Command.the-variants as command
@@ -32,7 +34,7 @@ use Rattle.rules.specs.Engine.{AnswerOut, answered, answerRefused, withSupply, 
 use Rattle.laws_commands.proofs.Checks.{by-verdict}
 use Rattle.laws_commands.proofs.Arrival.{At, by-opened, by-step5, by-pastStep1}
 use Rattle.laws_commands.proofs.PrivatePart.{unless-private}
-use Rattle.claims.specs.Export.{LetsOut}
+use Rattle.claims.specs.Export.{chatNode, Begins, askedPath, LetsOut}
 
 -- ---- steps 1 to 5 keep the keys, and verify nothing
 module _ (c : Card) (cmd : List ℕ) where
@@ -67,6 +69,18 @@ module _ (c : Card) (cmd : List ℕ) where
   arrived-kept a e = subst Went e (by-pastStep1 Went cmd (step1 cmd c) (λ w. tt) tt
       (λ x. by-step5 Went (x .instruction) cmd (x .opened) tt (λ k l. begun-kept (rowOf (x .instruction) .loss) (x .opened .card) (opened-kept x))))
 
+-- ---- the path that the rule judges is the one asked for, and begins so exactly if the rule's test holds
+pub asked-is : (which : ExportPath) (c : Card) (d : List ℕ) → exportedPath which (c .keys) d ≡ askedPath which c d
+asked-is exportPath.Current c d = refl
+asked-is exportPath.Given c d = refl
+asked-is exportPath.MakeCurrent c d = refl
+
+begins-so : (path : List ℕ) → inEip1581 path ≡ true → Begins path
+begins-so path e = (drop 12 path, sym (take-append-drop 12 path) ∙ ap (λ (x : List ℕ). x ++ drop 12 path) (same-eq (take 12 path) chatNode e))
+
+pub begun-so : (path : List ℕ) → Begins path → inEip1581 path ≡ true
+begun-so path b = ap inEip1581 (b .1)
+
 -- ---- step 6, where the checks of EXPORT with P2 00 hold
 module _ (c : Card) (cmd : List ℕ) (a : Arrived) (there : arrival c cmd ≡ goes a) (which : ExportPath)
     (asks : a .command ≡ command.Export which exportPart.PrivateAndPublic) where
@@ -84,7 +98,8 @@ module _ (c : Card) (cmd : List ℕ) (a : Arrived) (there : arrival c cmd ≡ go
         asks = asks;
         verified = k .1 (l .1);
         extended = ap (λ (x : Keys). x .kind) (sym (k .0)) ∙ eqb-true (a .card .keys .kind) 2 (l .0);
-        path = ap (λ (x : Keys). inEip1581 (exportedPath which x (a .data′))) (sym (k .0)) ∙ v .1 .1 .0;
+        path = begins-so (askedPath which c (a .data′))
+            (ap inEip1581 (sym (ap (λ (x : Keys). exportedPath which x (a .data′)) (k .0) ∙ asked-is which c (a .data′))) ∙ v .1 .1 .0);
       }
 
 -- ---- ANSWER

@@ -16,7 +16,7 @@ use Rattle.template_rules.specs.Template.{field}
 use Rattle.template_rules.proofs.HeadFacts.{by-test}
 use Rattle.template_answers.specs.Answers.{exportedPair}
 use Rattle.card.specs.declared.Card.{Card}
-use Rattle.card.specs.State.{zeros}
+use Rattle.card.specs.State.{zeros, withKeys}
 use Rattle.card.specs.Slots.{isZero}
 use Rattle.card.specs.Sound.{isSound}
 use Rattle.card.proofs.Tests.{the-second}
@@ -32,17 +32,18 @@ use Rattle.rules.specs.declared.Command.the-variants as command
 use Rattle.rules.specs.declared.Verdict.{Verdict}
 use Rattle.rules.specs.Words.{success, word, Hold, Reply}
 use Rattle.rules.specs.Supplies.{exportSupply, suits, saysYes, exportPublic, exportPrivate}
-use Rattle.rules.specs.Commands.{eip1581Node, exportChecks, exportReply, keyWith, ruleOf}
+use Rattle.rules.specs.Commands.{inEip1581, exportChecks, keysAfterExport, exportReply, keyWith, ruleOf}
 use Rattle.rules.specs.Rows.{rowOf, isPlain}
-use Rattle.rules.specs.Channel.{plainText}
+use Rattle.rules.specs.Channel.{withMac, plainText}
 use Rattle.rules.specs.Steps.{claOf, insOf, p1Of, p2Of, nameOf, isInitialised, checksOf}
 use Rattle.laws_commands.proofs.Checks.{by-verdict-below, held}
 use Rattle.laws_exchange.specs.Opens.{outcomeBy, outcome}
 use Rattle.laws_exchange.specs.Exchange.{Typed, Turn, answeredBy, unsealedBy, Names, listed, opened, Exchange, InStage2}
 use Rattle.laws_exchange.proofs.Exchanges.{known, staged, listed2}
 use Rattle.laws_two_runs.proofs.Reached.{inChannel, kind2-reached, reached-sound}
-use Rattle.claims.specs.Export.{p1Byte, p2Byte, exportHeader, Supposed, Ended, exported, failed, Reads, besideNode}
+use Rattle.claims.specs.Export.{chatNode, askedPath, p1Byte, p2Byte, exportHeader, Supposed, cardAfter, Ended, exported, failed, Reads, besideNode}
 use Rattle.claims.proofs.RowsMet.{channel-typed}
+use Rattle.claims.proofs.Elsewhere.{asked-is, begun-so}
 
 -- ---- the command that the header names
 abbrev Asked : ExportPath → ExportPart → Command
@@ -55,6 +56,12 @@ export-listed exportPath.MakeCurrent exportPart.PrivateAndPublic = refl
 export-listed exportPath.Current exportPart.PublicOnly = refl
 export-listed exportPath.Given exportPart.PublicOnly = refl
 export-listed exportPath.MakeCurrent exportPart.PublicOnly = refl
+
+-- the card of the rule's reply is the one said of it
+after-is : (which : ExportPath) (c : Card) (d : List ℕ) → withKeys c (keysAfterExport which (c .keys) d) ≡ cardAfter which c d
+after-is exportPath.Current c d = refl
+after-is exportPath.Given c d = refl
+after-is exportPath.MakeCurrent c d = refl
 
 export-sealed : isPlain ins.Export ≡ false
 export-sealed = refl
@@ -94,7 +101,7 @@ module _ (c : Card) (t : Turn) (which : ExportPath) (what : ExportPart) (sound :
         by-verdict-below Ends exportSupply success (checksOf (Asked which what) (opened c t) (t .data′))
         (omega arith, (omega arith, (omega arith, tt)))
         (λ h. by-test (λ (r : Reply). Exchange c t r → Ended c t which what) (saysYes (t .supply))
-        (λ y x. exported (x .plain) (x .card))
+        (λ y x. exported (x .plain) (x .card ∙ ap (λ (n : Card). withMac n (unsealedBy c t .session .iv)) (after-is which c (t .data′))))
         (λ y x. failed 0x6984 (below 0x6984 (omega arith)) (x .plain) (x .card)))
         (λ w l x. failed w (below w l) (x .plain) (x .card))
         (turn .turn)
@@ -125,7 +132,7 @@ module _ (c : Card) (t : Turn) (which : ExportPath) (public private : List ℕ) 
 
   holds : Hold (exportChecks (c .pins) (c .keys) which exportPart.PrivateAndPublic (t .data′))
   unfolding exportChecks
-  holds = (rw (p .extended, p .verified), (p .form, (p .path, tt)))
+  holds = (rw (p .extended, p .verified), (p .form, (ap inEip1581 (asked-is which c (t .data′)) ∙ begun-so (askedPath which c (t .data′)) (p .path), tt)))
 
   right : suits exportSupply (t .supply) ≡ true
   unfolding suits
@@ -205,11 +212,11 @@ path-bytes x h =
 header-bytes : (p1 p2 : ℕ) → p1 ≤ 255 → p2 ≤ 255 → Bytes (0x80 ∷ 0xC2 ∷ p1 ∷ p2 ∷ [])
 header-bytes p1 p2 h g = (omega arith, (omega arith, (omega (arith, h), (omega (arith, g), tt))))
 
-pub node-reads : Reads exportPath.Given exportPart.PrivateAndPublic eip1581Node
+pub node-reads : Reads exportPath.Given exportPart.PrivateAndPublic chatNode
     (0xA1 ∷ 0x65 ∷ 0x80 ∷ 0x41 ∷ (zeros 65 ++ (0x81 ∷ 0x20 ∷ (zeros 32 ++ (0x90 ∷ 0x00 ∷ [])))))
 unfolding ruleOf exportChecks exportReply
 node-reads =
-    reads-with exportPath.Given exportPart.PrivateAndPublic eip1581Node (header-bytes 1 0 (omega arith) (omega arith)) (path-bytes 0x80 (omega arith))
+    reads-with exportPath.Given exportPart.PrivateAndPublic chatNode (header-bytes 1 0 (omega arith) (omega arith)) (path-bytes 0x80 (omega arith))
     (omega arith) _ refl
 
 pub beside-public : Reads exportPath.MakeCurrent exportPart.PublicOnly besideNode (0xA1 ∷ 0x43 ∷ 0x80 ∷ 0x41 ∷ (zeros 65 ++ (0x90 ∷ 0x00 ∷ [])))

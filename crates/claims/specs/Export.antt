@@ -6,7 +6,7 @@ use mathlib.Core.Bool.{true}
 use mathlib.Core.List.{List, [], _∷_, _++_}
 use lib.ListN.{length, take}
 use Rattle.card.specs.declared.Card.{Card}
-use Rattle.card.specs.State.{zeros, freshOf, withKeys}
+use Rattle.card.specs.State.{zeros, freshOf, withKeys, pathBytes, pathOf}
 use Rattle.card.specs.Sound.{isSound}
 use Rattle.rules.specs.declared.ExportPath.{ExportPath}
 use Rattle.rules.specs.declared.ExportPath.the-variants as exportPath
@@ -15,15 +15,27 @@ use Rattle.rules.specs.declared.ExportPart.the-variants as exportPart
 use Rattle.rules.specs.declared.Command.the-variants as command
 use Rattle.rules.specs.Words.{success, word, Hold}
 use Rattle.rules.specs.Supplies.{exportSupply, suits}
-use Rattle.rules.specs.Commands.{isVerified, isExportData, exportedPath, eip1581Node, inEip1581, exportChecks, exportedKeys, keysAfterExport}
+use Rattle.rules.specs.Commands.{isVerified, isExportData, withCurrent, exportChecks, exportedKeys}
 use Rattle.rules.specs.Channel.{withMac}
 use Rattle.rules.specs.Steps.{goes, Arrived, arrival}
 use Rattle.rules.specs.Engine.{answerOut}
 use Rattle.laws_exchange.specs.Exchange.{Typed, Turn, answeredBy, unsealedBy}
 use Rattle.laws_two_runs.specs.Runs.{Call, endOf}
 
--- ---- a command that lets a private key out: it opens as EXPORT with P2 00, the PIN is verified, the key is extended, and the path whose keys are
--- asked for, the current one for P1 00 and the given one for 01 and 02, is EIP-1581's node or below it
+-- ---- EIP-1581's node, 8000002B 8000003C 8000062D: a path that begins so is that node, where nothing follows, or below it
+abbrev pub chatNode : List ℕ
+chatNode = 0x80 ∷ 0x00 ∷ 0x00 ∷ 0x2B ∷ 0x80 ∷ 0x00 ∷ 0x00 ∷ 0x3C ∷ 0x80 ∷ 0x00 ∷ 0x06 ∷ 0x2D ∷ []
+
+abbrev pub Begins : List ℕ → Type 0
+Begins path = (rest : List ℕ) × (path ≡ chatNode ++ rest)
+
+-- the path whose keys are asked for: the current one for P1 00, the given one for 01 and 02. It is said here a second time, apart from the rule
+abbrev pub askedPath : ExportPath → Card → List ℕ → List ℕ
+askedPath exportPath.Current c d = pathBytes (c .keys .current)
+askedPath exportPath.Given c d = d
+askedPath exportPath.MakeCurrent c d = d
+
+-- ---- a command that lets a private key out: it opens as EXPORT with P2 00, the PIN is verified, the key is extended, and the path begins so
 pub record LetsOut (c : Card) (cmd : List ℕ) : Type 0 where
   pub arrived : Arrived
   pub which : ExportPath
@@ -31,7 +43,7 @@ pub record LetsOut (c : Card) (cmd : List ℕ) : Type 0 where
   pub asks : arrived .command ≡ command.Export which exportPart.PrivateAndPublic
   pub verified : isVerified (c .pins) ≡ true
   pub extended : c .keys .kind ≡ 2
-  pub path : inEip1581 (exportedPath which (c .keys) (arrived .data′)) ≡ true
+  pub path : Begins (askedPath which c (arrived .data′))
 
 -- ---- a turn of SEAL, ANSWER and UNSEAL with an EXPORT: its header, 80 C2 P1 P2
 abbrev pub p1Byte : ExportPath → ℕ
@@ -57,13 +69,19 @@ pub record Supposed (c : Card) (t : Turn) (which : ExportPath) (public private :
   pub private32 : length private ≡ 32
   pub verified : isVerified (c .pins) ≡ true
   pub extended : c .keys .kind ≡ 2
-  pub path : inEip1581 (exportedPath which (c .keys) (t .data′)) ≡ true
+  pub path : Begins (askedPath which c (t .data′))
+
+-- ---- the card that an EXPORT with 9000 leaves, but for the channel's IV: with P1 02 the given path is current
+abbrev pub cardAfter : ExportPath → Card → List ℕ → Card
+cardAfter exportPath.Current c d = c
+cardAfter exportPath.Given c d = c
+cardAfter exportPath.MakeCurrent c d = withKeys c (withCurrent (c .keys) (pathOf d))
 
 -- ---- how an EXPORT that opens ends. With 9000 and the keys: the given path is current after P1 02, and nothing else of the card has moved but the
 -- channel's IV. With another status word and no data: nothing has moved but the IV
 pub data Ended (c : Card) (t : Turn) (which : ExportPath) (what : ExportPart) : Type 0 where
   exported : unsealedBy c t .bytes ≡ exportedKeys what (t .supply) ++ word success
-      → answeredBy c t .card ≡ withMac (withKeys c (keysAfterExport which (c .keys) (t .data′))) (unsealedBy c t .session .iv)
+      → answeredBy c t .card ≡ withMac (cardAfter which c (t .data′)) (unsealedBy c t .session .iv)
       → Ended c t which what
   failed : (w : ℕ) → (w ≡ success → ⊥) → unsealedBy c t .bytes ≡ word w → answeredBy c t .card ≡ withMac c (unsealedBy c t .session .iv)
       → Ended c t which what
@@ -97,7 +115,7 @@ pub record Export : Type 0 where
       → (Hold (exportChecks (c .pins) (c .keys) which what (t .data′)) → suits exportSupply (t .supply) ≡ true)
       → Ended c t which what
   -- and these occur: the keys of the node; the public key alone beside it; and 6985 for the private key there
-  pub node : Reads exportPath.Given exportPart.PrivateAndPublic eip1581Node
+  pub node : Reads exportPath.Given exportPart.PrivateAndPublic chatNode
       (0xA1 ∷ 0x65 ∷ 0x80 ∷ 0x41 ∷ (zeros 65 ++ (0x81 ∷ 0x20 ∷ (zeros 32 ++ (0x90 ∷ 0x00 ∷ [])))))
   pub besidepublic : Reads exportPath.MakeCurrent exportPart.PublicOnly besideNode (0xA1 ∷ 0x43 ∷ 0x80 ∷ 0x41 ∷ (zeros 65 ++ (0x90 ∷ 0x00 ∷ [])))
   pub beside : Reads exportPath.Given exportPart.PrivateAndPublic besideNode (0x69 ∷ 0x85 ∷ [])

@@ -1,6 +1,10 @@
 -- The chain is that of EXPORT's checks.
 -- Assumes nothing.
-use Rattle.rules.specs.Commands.{exportChecks}
+use mathlib.Core.Path.{refl}
+use mathlib.Core.Bool.{_&&_}
+use lib.Dec.{eqb}
+use Rattle.rules.specs.Commands.{isVerified, isExportData, exportedPath, mayGoOut, exportChecks}
+use Rattle.command_export.proofs.CheckFacts.{check-then}
 use borrow.Author.Needs.{needs}
 use Rattle.command_export.proofs.export_verdict.Statement.{statement}
 use Rattle.command_export.proofs.export_verdict.Tie as tie
@@ -23,17 +27,21 @@ must-requires-2 c κs = search needs
 must-requires-3 : tie.Need-must-requires-3
 must-requires-3 c κs = search needs
 
+-- check by check: its test is the rule's, and so is what comes after it
 returns : tie.Need-returns
 unfolding exportChecks
 returns c =
-    rw (
-      ← c .before .before .before .before .before .is-export-data .ensures,
-      ← c .before .before .before .before .may-go-out .ensures,
-      ← c .before .before .before .reads .ensures,
-      ← c .before .before .must .ensures,
-      ← c .before .must2 .ensures,
-    )
-    (c .must3 .ensures)
+    let b2 = c .before .before in
+    let b3 = b2 .before in
+    let b4 = b3 .before in
+    let b5 = b4 .before in
+    let a = b5 .before .before .before .before .args in
+    let allowed = eqb (a .keys .kind) 2 && isVerified (a .pins) in
+    let formed = isExportData (a .which) (a .«data» .now) in
+    let out = mayGoOut (a .what) (exportedPath (a .which) (a .keys) (a .«data» .now)) in
+    check-then 0x6985 allowed allowed (c .before .must2 .result) (c .must3 .ensures) refl
+    (check-then 0x6A80 (b5 .is-export-data .result) formed (b2 .must .result) (c .before .must2 .ensures) (b5 .is-export-data .ensures)
+    (check-then 0x6985 (b4 .may-go-out .result) out (b3 .reads .result) (b2 .must .ensures) (b4 .may-go-out .ensures) (b3 .reads .ensures)))
 
 pub export-verdict-spec : {M : Type 1} → statement M
 export-verdict-spec =

@@ -23,10 +23,10 @@ returns : tie.Need-returns
 returns c = rw (c .enum-told .given .1) (c .before .before .before .is-there .ensures)
 
 returns-2 : tie.Need-returns-2
-returns-2 c = search needs
+returns-2 c = rw (c .enum-told2 .given .1) (c .before .before .in-eip-1581 .ensures)
 
 returns-3 : tie.Need-returns-3
-returns-3 c = search needs
+returns-3 c = rw (c .enum-told3 .given .1) (c .before .before .in-eip-1581 .ensures)
 
 pub exports-there-spec : {M : Type 1} → statement M
 exports-there-spec =

@@ -1,6 +1,7 @@
 -- The three components are those of the node; a path with fewer is not there.
 -- Assumes nothing.
-use mathlib.Core.Path.{sym}
+use mathlib.Core.Path.{sym, ap₂, _∙_}
+use mathlib.Core.Bool.{_&&_}
 use native.Mathlib.Omega.{arith}
 use Rattle.command_export.proofs.PathFacts.{eip-short, eip-long}
 use borrow.Author.Needs.{needs}
@@ -21,8 +22,8 @@ is-hardened-requires-3 c κs = search needs
 
 returns-2 : tie.Need-returns-2
 returns-2 c =
-    rw (c .before .before .is-hardened .ensures, c .before .is-hardened2 .ensures, c .is-hardened3 .ensures)
-    (sym (eip-long (c .before .before .before .before .before .args .path .now) (omega (arith, c .before .before .before .if1 .left))))
+    ap₂ _&&_ (c .before .before .is-hardened .ensures) (ap₂ _&&_ (c .before .is-hardened2 .ensures) (c .is-hardened3 .ensures))
+    ∙ sym (eip-long (c .before .before .before .before .before .args .path .now) (omega (arith, c .before .before .before .if1 .left)))
 
 pub in-eip-1581-spec : {M : Type 1} → statement M
 in-eip-1581-spec =

@@ -1,5 +1,6 @@
 -- By cases on P1, each with its own test.
 -- Assumes nothing.
+use mathlib.Core.Path.{refl}
 use borrow.Author.Needs.{needs}
 use Rattle.command_export.proofs.is_export_data.Statement.{statement}
 use Rattle.command_export.proofs.is_export_data.Tie as tie
@@ -20,7 +21,7 @@ is-path-requires-2 : tie.Need-is-path-requires-2
 is-path-requires-2 c κs = search needs
 
 returns : tie.Need-returns
-returns c = rw (c .enum-told .given .1)
+returns c = rw (c .enum-told .given .1) refl
 
 returns-2 : tie.Need-returns-2
 returns-2 c = rw (c .before .enum-told2 .given .1) (c .is-path .ensures)

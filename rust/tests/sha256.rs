@@ -1,0 +1,82 @@
+//! SHA-256 against the standard's examples, the published short messages, and the plain implementation of outside/ at each length around the
+//! borders of blocks. Lengths are in bytes.
+
+use std::fs;
+
+use treadlewisp::{sha256, DIGEST_BYTES};
+
+#[path = "../../outside/hashes/plain.rs"]
+mod plain;
+
+use plain::BLOCK_BYTES;
+
+/// A file of the repository.
+fn text(path: &str) -> String {
+    let file = format!("{}/../{path}", env!("CARGO_MANIFEST_DIR"));
+    fs::read_to_string(&file).unwrap_or_else(|why| panic!("{file}: {why}"))
+}
+
+/// Bytes in hexadecimal.
+fn hex(bytes: &[u8]) -> String {
+    bytes.iter().map(|byte| format!("{byte:02x}")).collect()
+}
+
+fn bytes_of(hex: &str) -> Vec<u8> {
+    let byte = |at: usize| u8::from_str_radix(&hex[at..at + 2], 16).expect(hex);
+    (0..hex.len()).step_by(2).map(byte).collect()
+}
+
+/// The second has 56 bytes and is padded to two blocks.
+#[test]
+fn the_examples_of_the_standard() {
+    let million = vec![b'a'; 1_000_000];
+    let examples: [(&[u8], &str); 3] = [
+        (b"abc", "ba7816bf8f01cfea414140de5dae2223b00361a396177a9cb410ff61f20015ad"),
+        (
+            b"abcdbcdecdefdefgefghfghighijhijkijkljklmklmnlmnomnopnopq",
+            "248d6a61d20638b8e5c026930c3e6039a33ce45964ff2167f6ecedd419db06c1",
+        ),
+        (&million, "cdc76e5c9914fb9281a1c7e284d73e67f1809a48a497200e046d39ccc7112cd0"),
+    ];
+    for (message, digest) in examples {
+        assert_eq!(hex(&sha256(message)), digest, "{} bytes", message.len());
+    }
+}
+
+/// NIST's short messages, one of each length to a block. `Len` is in bits there; no bytes are written as one, 00.
+#[test]
+fn the_published_short_messages() {
+    let text = text("crates/sha_vectors/data/SHA256ShortMsg.rsp");
+    let values = |name: &str| -> Vec<&str> { text.lines().filter_map(|line| line.strip_prefix(name)).map(str::trim).collect() };
+    let (bits, messages, digests) = (values("Len = "), values("Msg = "), values("MD = "));
+    assert_eq!([bits.len(), messages.len(), digests.len()], [BLOCK_BYTES + 1; 3]);
+    for (length, bits) in bits.iter().enumerate() {
+        assert_eq!(bits.parse(), Ok(8 * length));
+        let message = &bytes_of(messages[length])[..length];
+        assert_eq!(hex(&sha256(message)), digests[length], "{length} bytes");
+    }
+}
+
+/// Every length to four blocks and around the borders of longer messages, from eight places in memory.
+#[test]
+fn each_length_around_the_borders_of_blocks() {
+    const PLACES: usize = 8;
+    const MOST_BYTES: usize = 40 * BLOCK_BYTES;
+    let borders = (5..40).flat_map(|blocks| [blocks * BLOCK_BYTES - 8, blocks * BLOCK_BYTES]);
+    let lengths = (0..=4 * BLOCK_BYTES).chain(borders.flat_map(|border| border - 2..=border + 2));
+    // no period of a power of two
+    let memory: Vec<u8> = (0..MOST_BYTES + PLACES).map(|at| (at * at % 251) as u8).collect();
+    for length in lengths {
+        for place in 0..PLACES {
+            let message = &memory[place..][..length];
+            let digest: [u8; DIGEST_BYTES] = sha256(message);
+            assert_eq!(hex(&digest), hex(&plain::sha256(message)), "{length} bytes from {place} on");
+        }
+    }
+}
+
+#[test]
+fn the_length_that_the_header_names() {
+    let named = format!("#define TW_DIGEST_BYTES {DIGEST_BYTES}");
+    assert!(text("include/sha_c.h").lines().any(|line| line == named), "{named}");
+}
