@@ -1,3 +1,5 @@
 pub mod Replies
 pub mod Calls
 pub mod Counts
+pub mod Verified
+pub mod Guard

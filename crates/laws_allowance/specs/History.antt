@@ -7,11 +7,13 @@ use mathlib.Core.Option.{Option, none, some}
 use lib.ListN.{drop}
 use Rattle.card.specs.declared.Card.{Card}
 use Rattle.card.specs.Slots.{someOf}
+use Rattle.card.specs.Sound.{isSound}
 use Rattle.rules.specs.declared.SecretKind.{SecretKind}
 use Rattle.rules.specs.declared.SecretKind.the-variants as secret
 use Rattle.rules.specs.declared.Command.{Command}
 use Rattle.rules.specs.declared.Command.the-variants as command
 use Rattle.rules.specs.Rules.{Secret, pin, puk}
+use Rattle.rules.specs.Steps.{isInitialised}
 use Rattle.rules.specs.Comparison.{Comparison}
 use Rattle.laws_two_runs.specs.Runs.{Call, endOf}
 use Rattle.laws_allowance.specs.Events.{Event, succeededAt, eventsOf}
@@ -85,9 +87,11 @@ countOf t (e ∷ more) = cond (t e) 1 0 + countOf t more
 abbrev pub guesses : Secret → List Event → ℕ
 guesses s events = countOf (wrong s) (drop 1 (fromLatest (restarts s) events))
 
--- ---- a history: a call that gives 9000 for INIT, which is on a sound card that is not initialised, and then any calls
+-- ---- a history: a sound card that is not initialised, a call that gives 9000 for INIT on it, and then any calls
 pub record History : Type 0 where
   pub card : Card
+  pub sound : isSound card ≡ true
+  pub fresh : isInitialised card ≡ false
   pub first : Call
   pub init : succeededAt card first ≡ some command.Init
   pub calls : List Call

@@ -1,3 +1,4 @@
 pub mod Events
 pub mod History
 pub mod Tries
+pub mod Guard
