@@ -35,7 +35,7 @@ use Rattle.laws_two_runs.proofs.Order.{by-arrival}
 use Rattle.laws_allowance.specs.Events.{givenBy, wordBy, givenAt6, givenPast, given, succeededAt}
 use Rattle.laws_allowance.specs.History.{History, cardAfter}
 use Rattle.laws_allowance.specs.Guard.{OnPinlessPath, Guard}
-use Rattle.laws_allowance.proofs.Replies.{by-verdict-errors, errors}
+use Rattle.laws_allowance.proofs.Replies.{given-is, by-verdict-errors, errors}
 use Rattle.laws_allowance.proofs.Verified.{verified-guarded}
 
 -- ---- a command that gave 9000: its checks held, on a card with the keys of the one that the call was given, and verified only if that was
@@ -45,9 +45,6 @@ pub record Held (c : Card) (k : Command) : Type 0 where
   pub checks : Hold (checksOf k card data′)
   pub keys : card .keys ≡ c .keys
   pub verified : isVerified (card .pins) ≡ true → isVerified (c .pins) ≡ true
-
-given-is : (w : ℕ) (i k : Command) → givenBy i w ≡ some k → i ≡ k
-given-is w i k = by-test (λ (o : Option Command). o ≡ some k → i ≡ k) (eqb w success) (λ _ e. cc) (λ _ e. never k e)
 
 module _ (c : Card) (cmd s : List ℕ) (k : Command) where
   -- what the steps leave of keys and verification

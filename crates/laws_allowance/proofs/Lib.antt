@@ -3,3 +3,5 @@ pub mod Calls
 pub mod Counts
 pub mod Verified
 pub mod Guard
+pub mod Init
+pub mod Told

@@ -31,6 +31,7 @@ use Rattle.rules.specs.Rules.{Secret, pin, puk}
 use Rattle.rules.specs.Commands.{selectChecks, selectReply, initChecks, isContent, initContent, initWith, initReply, openChecks, openReply, mutualChecks, mutualReply, pairFirstChecks, pairFirstReply, pairFinalChecks, pairInto, pairFinalReply, unpairChecks, unpairReply, statusReply, verifyChecks, verifyReply, changeChecks, changeReply, unblockChecks, unblockReply, loadChecks, loadReply, deriveChecks, deriveReply, removeChecks, removeReply, pinlessChecks, pinlessReply, signChecks, signReply, exportChecks, exportReply, ruleOf}
 use Rattle.rules.specs.Steps.{checksOf}
 use Rattle.rules.specs.Comparison.{Comparison}
+use Rattle.laws_commands.proofs.Checks.{never}
 use Rattle.laws_allowance.specs.Events.{givenBy, Event}
 use Rattle.laws_allowance.specs.History.{setBy, isSet}
 use Rattle.laws_allowance.specs.Tries.{triesAfter, Leaves}
@@ -42,6 +43,10 @@ madeBy (some s) right = some (record { of = s; right = right })
 
 abbrev pub did : Option Comparison → Option Command → Event
 did m g = record { compared = m; succeeded = g; in2 = false }
+
+-- a command that gives 9000 is the one at its checks
+pub given-is : (w : ℕ) (i k : Command) → givenBy i w ≡ some k → i ≡ k
+given-is w i k = by-test (λ (o : Option Command). o ≡ some k → i ≡ k) (eqb w success) (λ _ e. cc) (λ _ e. never k e)
 
 -- ---- no comparison and nothing set: the tries stay
 abbrev pub Kept : Pins → Pins → Type 0

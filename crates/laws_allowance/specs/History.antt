@@ -102,6 +102,11 @@ eventsIn h = eventsOf (h .card) (h .first ∷ h .calls)
 abbrev pub cardAfter : History → Card
 cardAfter h = endOf (h .card) (h .first ∷ h .calls)
 
+-- a card that a history leads to
+pub record Historic (c : Card) : Type 0 where
+  pub history : History
+  pub ends : cardAfter history ≡ c
+
 -- ---- what is claimed of tries: guesses and tries left are as many as there were
 pub record Allowance (h : History) : Type 0 where
   pub pins : guesses pin (eventsIn h) + cardAfter h .pins .«pin_tries» ≡ 3

@@ -2,3 +2,4 @@ pub mod Events
 pub mod History
 pub mod Tries
 pub mod Guard
+pub mod Told
