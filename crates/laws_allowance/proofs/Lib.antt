@@ -5,3 +5,5 @@ pub mod Verified
 pub mod Guard
 pub mod Init
 pub mod Told
+pub mod Turns
+pub mod NotCompared

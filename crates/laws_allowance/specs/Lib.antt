@@ -3,3 +3,4 @@ pub mod History
 pub mod Tries
 pub mod Guard
 pub mod Told
+pub mod NotCompared
