@@ -1,0 +1,6 @@
+pub mod Events
+pub mod History
+pub mod Tries
+pub mod Guard
+pub mod Told
+pub mod NotCompared
