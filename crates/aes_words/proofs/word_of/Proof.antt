@@ -1,0 +1,34 @@
+-- The bytes of the word are those that it was made of.
+-- Assumes nothing.
+use Rattle.aes_words.specs.Words.{word}
+use Rattle.aes_words.proofs.Words.{word-bytes}
+use borrow.Author.Needs.{needs}
+use Rattle.aes_words.proofs.word_of.Statement.{statement}
+use Rattle.aes_words.proofs.word_of.Tie as tie
+
+mul-result : tie.Need-mul-result
+mul-result c = search needs
+
+add-result : tie.Need-add-result
+add-result c = search needs
+
+mul-result-2 : tie.Need-mul-result-2
+mul-result-2 c = search needs
+
+add-result-2 : tie.Need-add-result-2
+add-result-2 c = search needs
+
+mul-result-3 : tie.Need-mul-result-3
+mul-result-3 c = search needs
+
+add-result-3 : tie.Need-add-result-3
+add-result-3 c = search needs
+
+returns : tie.Need-returns
+unfolding word
+returns c = word-bytes (c .args .a) (c .args .b) (c .args .c) (c .args .d) (search needs) (search needs) (search needs) (search needs)
+
+pub word-of-spec : {M : Type 1} → statement M
+word-of-spec =
+    tie.close
+    (tie.spec mul-result add-result mul-result-2 add-result-2 mul-result-3 add-result-3 returns)
