@@ -14,7 +14,7 @@ use Rattle.octets.proofs.Lists.{bytes-replicate}
 use Rattle.card.specs.declared.Pins.{Pins}
 use Rattle.card.specs.declared.Keys.{Keys}
 use Rattle.card.specs.declared.Card.{Card}
-use Rattle.card.specs.State.{zeros, noKeys, pathOf}
+use Rattle.card.specs.State.{zeros, noKeys, pathBytes, pathOf}
 use Rattle.card.specs.Slots.{allOf}
 use Rattle.rules.specs.declared.Instruction.{Instruction}
 use Rattle.rules.specs.declared.Instruction.the-variants as ins
@@ -179,3 +179,45 @@ exports = succeeds (pinsWith 3 5 1) extended (command.Export exportPath.Given ex
     (sent-gives (pinsWith 3 5 1) extended ins.Export refl 1 (command.Export exportPath.Given exportPart.PrivateAndPublic) refl
     (header-bytes 0xC2 1 refl refl) eip1581Node (1 ∷ zeros 97) node-bytes (omega arith, digits 97 0 refl) (omega arith) refl refl
     (λ iv. (refl, (refl, (refl, tt)))) (λ iv. refl) loaded-reached)
+
+-- ---- on a PIN-less path: SET PIN-LESS PATH and DERIVE with 00000001, then 222222 as PIN, then SIGN
+abbrev path : List ℕ
+path = 0 ∷ 0 ∷ 0 ∷ 1 ∷ []
+
+path-bytes : Bytes path
+path-bytes = (omega arith, (omega arith, (omega arith, (omega arith, tt))))
+
+abbrev pinlessKeys : Keys
+pinlessKeys = withPinless extended (pathOf path)
+
+abbrev onPinless : Keys
+onPinless = withCurrent pinlessKeys (pathOf path)
+
+pinless-reached : Reached (pinsWith 3 5 1) pinlessKeys
+unfolding ruleOf suits pinlessChecks pinlessReply
+pinless-reached = moves (pinsWith 3 5 1) (pinsWith 3 5 1) extended pinlessKeys ins.SetPinless refl 0 command.SetPinless refl
+    (header-bytes 0xC1 0 refl refl) path [] path-bytes tt (omega arith) (λ iv _. refl) (λ iv. refl) loaded-reached
+
+derived-reached : Reached (pinsWith 3 5 1) onPinless
+unfolding ruleOf suits deriveChecks deriveReply
+derived-reached = moves (pinsWith 3 5 1) (pinsWith 3 5 1) pinlessKeys onPinless ins.Derive refl 0 command.Derive refl (header-bytes 0xD1 0 refl refl)
+    path (1 ∷ []) path-bytes (omega arith, tt) (omega arith) (λ iv _. refl) (λ iv. refl) pinless-reached
+
+wronged-reached : Reached (pinsWith 2 5 0) onPinless
+unfolding ruleOf verifyChecks verifyReply
+wronged-reached = wrong-pin (pinsWith 3 5 1) (pinsWith 2 5 0) onPinless (λ iv. refl) derived-reached
+
+pub signs-unguarded : SignsUnguarded
+unfolding ruleOf suits signChecks signReply
+signs-unguarded =
+    let g : Gives (pinsWith 2 5 0) onPinless command.Sign =
+    sent-gives (pinsWith 2 5 0) onPinless ins.Sign refl 0 command.Sign refl (header-bytes 0xC0 0 refl refl) (zeros 32) (zeros 129) (digits 32 0 refl)
+    (digits 129 0 refl) (omega arith) refl refl (λ iv. (refl, (refl, tt))) (λ iv. refl) wronged-reached in
+    record {
+      history = g .history;
+      call = g .call′;
+      gives = g .gives;
+      on = subst (λ (k : Keys). (k .pinless .len ≡ 0 → ⊥) × (pathBytes (k .current) ≡ pathBytes (k .pinless))) (sym (g .keys′))
+          (λ z. omega (arith, z), refl);
+      unguarded = sym (verified-guarded (g .history)) ∙ ap isVerified (g .pins);
+    }
