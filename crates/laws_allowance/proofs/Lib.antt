@@ -7,3 +7,5 @@ pub mod Init
 pub mod Told
 pub mod Turns
 pub mod NotCompared
+pub mod Reached
+pub mod Examples

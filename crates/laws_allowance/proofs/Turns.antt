@@ -13,7 +13,6 @@ use lib.ListN.{length}
 use Rattle.octets.specs.Bytes.{Bytes}
 use Rattle.refusals.specs.Refusals.{noRefusal}
 use Rattle.channel_rules.specs.Terminal.{Out, sealedCommand}
-use Rattle.card.specs.declared.Pins.{Pins}
 use Rattle.card.specs.declared.Card.{Card}
 use Rattle.card.specs.State.{zeros}
 use Rattle.card.specs.Sound.{isSound}
@@ -22,7 +21,7 @@ use Rattle.rules.specs.declared.Command.{Command}
 use Rattle.rules.specs.Words.{success, Hold}
 use Rattle.rules.specs.Supplies.{suits}
 use Rattle.rules.specs.Rows.{rowOf, isPlain}
-use Rattle.rules.specs.Channel.{sessionOf}
+use Rattle.rules.specs.Channel.{sessionOf, withMac}
 use Rattle.rules.specs.Steps.{goes, Arrived, arrival, checksOf, supplyOf, replyOf}
 use Rattle.rules.specs.Engine.{answerOut}
 use Rattle.laws_commands.proofs.Checks.{held}
@@ -116,8 +115,9 @@ module _ (c : Card) (r : Live c) (i : Instruction) (over : isPlain i ≡ false) 
       stage = ap (λ (n : Card). n .channel .stage) next-is ∙ done .stays;
     }
 
-    pub pins-next : nextAt c call .pins ≡ outcome k (opened c turn) d u .card .pins
-    pins-next = ap (λ (n : Card). n .pins) (next-is ∙ done .turn .card)
+    -- the card of the reply, with another IV
+    pub card-next : (iv : List ℕ) × (nextAt c call ≡ withMac (outcome k (opened c turn) d u .card) iv)
+    card-next = (_, next-is ∙ done .turn .card)
 
     -- where its checks hold and the reply says 9000, it gives 9000
     pub gives-9000 : Hold (checksOf k (arrived .card) d) → replyOf k (arrived .card) d u .status ≡ success → succeededAt c call ≡ some k

@@ -4,3 +4,4 @@ pub mod Tries
 pub mod Guard
 pub mod Told
 pub mod NotCompared
+pub mod Examples
