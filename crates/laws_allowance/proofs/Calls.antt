@@ -17,13 +17,13 @@ use Rattle.sound.specs.declared.Answer.{Answer}
 use Rattle.sound.specs.Reset.{resetAnswer}
 use Rattle.rules.specs.declared.Command.{Command}
 use Rattle.rules.specs.declared.Verdict.{Verdict}
-use Rattle.rules.specs.Words.{success, wrongParameters, Hold, Reply, fails}
+use Rattle.rules.specs.Words.{wrongParameters, Hold, Reply, fails}
 use Rattle.rules.specs.Supplies.{suits}
 use Rattle.rules.specs.Rules.{Secret, pin, puk, outcomeOf}
 use Rattle.rules.specs.Rows.{rowOf, isPlain}
 use Rattle.rules.specs.Commands.{ruleOf}
 use Rattle.rules.specs.Channel.{Outgoing, tell}
-use Rattle.rules.specs.Steps.{Step, goes, step1, p1Of, p2Of, Opened, Arrived, arrival, checksOf, supplyOf, replyOf, byVerdict, step6, finish, decide}
+use Rattle.rules.specs.Steps.{Step, goes, step1, p1Of, Opened, Arrived, arrival, checksOf, supplyOf, replyOf, byVerdict, step6, finish, decide}
 use Rattle.rules.specs.Engine.{AnswerOut, answerOut}
 use Rattle.rules.specs.Comparison.{Comparison, compared, comparedBy, comparedAt6, comparedPast, comparison}
 use Rattle.laws_commands.proofs.Arrival.{At, cardAt, lostAt, arrivedAt, by-step5, by-opened, by-pastStep1}

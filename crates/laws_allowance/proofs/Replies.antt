@@ -12,7 +12,6 @@ use borrow.Author.Tests.{eqb-true, eqb-false, not-true}
 use Rattle.template_rules.proofs.HeadFacts.{by-test}
 use Rattle.card.specs.declared.Pins.{Pins}
 use Rattle.card.specs.declared.Card.{Card}
-use Rattle.card.specs.Slots.{isZero}
 use Rattle.card_slots.specs.declared.Free.{Free}
 use Rattle.card_slots.specs.declared.Free.the-variants as free
 use Rattle.card_slots.specs.Free.{firstFree}
