@@ -17,13 +17,13 @@ use Rattle.sound.specs.declared.Answer.{Answer}
 use Rattle.sound.specs.Reset.{resetAnswer}
 use Rattle.rules.specs.declared.Command.{Command}
 use Rattle.rules.specs.declared.Verdict.{Verdict}
-use Rattle.rules.specs.Words.{success, wrongParameters, Hold, Reply, fails}
+use Rattle.rules.specs.Words.{wrongParameters, Hold, Reply, fails}
 use Rattle.rules.specs.Supplies.{suits}
 use Rattle.rules.specs.Rules.{Secret, pin, puk, outcomeOf}
 use Rattle.rules.specs.Rows.{rowOf, isPlain}
 use Rattle.rules.specs.Commands.{ruleOf}
 use Rattle.rules.specs.Channel.{Outgoing, tell}
-use Rattle.rules.specs.Steps.{Step, goes, step1, p1Of, p2Of, Opened, Arrived, arrival, checksOf, supplyOf, replyOf, byVerdict, step6, finish, decide}
+use Rattle.rules.specs.Steps.{Step, goes, step1, p1Of, Opened, Arrived, arrival, checksOf, supplyOf, replyOf, byVerdict, step6, finish, decide}
 use Rattle.rules.specs.Engine.{AnswerOut, answerOut}
 use Rattle.rules.specs.Comparison.{Comparison, compared, comparedBy, comparedAt6, comparedPast, comparison}
 use Rattle.laws_commands.proofs.Arrival.{At, cardAt, lostAt, arrivedAt, by-step5, by-opened, by-pastStep1}
@@ -32,7 +32,7 @@ use Rattle.laws_two_runs.specs.Runs.{Call, ask, answer, reset, comparisonAt, ne
 use Rattle.laws_two_runs.proofs.Order.{pins-at, same-compared}
 use Rattle.laws_allowance.specs.Events.{givenBy, wordBy, givenAt6, givenPast, given, succeededAt, Event, eventAt}
 use Rattle.laws_allowance.specs.Tries.{triesAfter, Leaves}
-use Rattle.laws_allowance.proofs.Replies.{madeBy, did, Kept, nothing-set, replies, by-verdict-errors, errors}
+use Rattle.laws_allowance.proofs.Replies.{madeBy, did, not-given, Kept, nothing-set, replies, by-verdict-errors, errors}
 
 -- ---- the same from pins with the same tries, and for an event that did the same
 from-kept : (e : Event) (p p′ q : Pins) → Kept p p′ → Leaves e p′ q → Leaves e p q
@@ -110,7 +110,9 @@ module _ (c : Card) (cmd : List ℕ) where
         Leaves (did (comparedBy (a .card .pins) a v) (givenBy k (wordBy a s v))) (c .pins) (byVerdict a v .answer s .card .pins))
         (supplyOf k) (checksOf k (a .card) (a .data′)) (errors k (a .card) (a .data′))
         (λ h. tell-leaves _ (c .pins) (a .over) (replyOf k (a .card) (a .data′) s) (reply-leaves s h))
-        (λ w e. tell-leaves _ (c .pins) (a .over) (fails (a .lost) w) (rw e (idle (c .pins) (a .lost .pins) (lost-same x))))
+        (λ w e. tell-leaves (did none (givenBy k w)) (c .pins) (a .over) (fails (a .lost) w)
+        (subst (λ (g : Option Command). Leaves (did none g) (c .pins) (a .lost .pins)) (sym (not-given k w e))
+        (idle (c .pins) (a .lost .pins) (lost-same x))))
 
   -- ---- the whole order of checks
   abbrev Past : Step Arrived → Type 0

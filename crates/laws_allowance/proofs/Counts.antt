@@ -1,8 +1,8 @@
 -- Guesses and tries left are as many as there were, over every history: at each call the tries go down by one where a guess is added, and are full
 -- where the count restarts.
 -- Assumes nothing.
-use mathlib.Core.Path.{_≡_, refl, sym, ap, _∙_, subst}
-use mathlib.Core.Bool.{Bool, true, false, _&&_, _||_, not, cond, false≢true}
+use mathlib.Core.Path.{_≡_, refl, ap, _∙_}
+use mathlib.Core.Bool.{Bool, true, false, _||_, not, cond, false≢true}
 use mathlib.Core.List.{List, [], _∷_}
 use mathlib.Core.Option.{Option, none, some}
 use Prim.Native.Nat.{ℕ, _+_, _-_}
@@ -16,7 +16,7 @@ use Rattle.rules.specs.Rules.{Secret, pin, puk}
 use Rattle.rules.specs.Comparison.{Comparison}
 use Rattle.laws_two_runs.specs.Runs.{Call, nextAt, endOf}
 use Rattle.laws_allowance.specs.Events.{Event, eventAt, eventsOf}
-use Rattle.laws_allowance.specs.History.{isOf, isWrong, restarts, wrong, fromLatest, countOf, guesses, History, eventsIn, cardAfter, Allowance}
+use Rattle.laws_allowance.specs.History.{isOf, isWrong, restarts, wrong, fromLatest, countOf, guesses, History, Allowance}
 use Rattle.laws_allowance.specs.Tries.{fullTries, triesAfter, compares, Leaves}
 use Rattle.laws_allowance.proofs.Calls.{call-leaves}
 

@@ -1,7 +1,7 @@
 -- No claim is empty: three wrong PINs and then five wrong PUKs, what is no comparison there, and calls with 9000 that the guard is about.
 -- Assumes nothing.
 use mathlib.Core.Path.{_≡_, refl, sym, ap, _∙_, subst}
-use mathlib.Core.Bool.{Bool, true, false}
+use mathlib.Core.Bool.{true, false}
 use mathlib.Core.List.{List, [], _∷_}
 use mathlib.Core.Option.{none, some}
 use Prim.Native.Nat.{ℕ, _+_, _≤_}
@@ -31,12 +31,11 @@ use Rattle.laws_exchange.specs.Opens.{outcome}
 use Rattle.laws_two_runs.specs.Runs.{Call, answer}
 use Rattle.laws_allowance.specs.Events.{succeededAt, eventAt}
 use Rattle.laws_allowance.specs.History.{History, cardAfter}
-use Rattle.laws_allowance.specs.Guard.{OnPinlessPath}
 use Rattle.laws_allowance.specs.Examples.{Guessed, Uncompared, Succeeds, SignsUnguarded}
 use Rattle.laws_allowance.proofs.Counts.{allowance}
 use Rattle.laws_allowance.proofs.Verified.{verified-guarded}
 use Rattle.laws_allowance.proofs.NotCompared.{not-compared}
-use Rattle.laws_allowance.proofs.Turns.{Live, cmd, call, arrived, arrives, gives-9000}
+use Rattle.laws_allowance.proofs.Turns.{cmd, call, arrived, arrives, gives-9000}
 use Rattle.laws_allowance.proofs.Reached.{pinsWith, cardOf, Reached, opened-reached, loaded-reached, header-bytes, moves}
 
 digits : (n d : ℕ) → leb d 255 ≡ true → Bytes (replicate n d)

@@ -1,10 +1,10 @@
 -- SIGN and EXPORT with P2 00 give 9000 only past their checks, which ask for a verified PIN: on the card that the call was given, since no step verifies
 -- it, and there it is verified exactly if the history says so.
 -- Assumes nothing.
-use mathlib.Core.Path.{_≡_, refl, sym, ap, _∙_, subst}
-use mathlib.Core.Bool.{Bool, true, false, _&&_, _||_, false≢true}
+use mathlib.Core.Path.{_≡_, refl, sym, _∙_, subst}
+use mathlib.Core.Bool.{Bool, true, false, _||_, false≢true}
 use mathlib.Core.List.{List}
-use mathlib.Core.Option.{Option, none, some}
+use mathlib.Core.Option.{Option, some}
 use Prim.Native.Nat.{ℕ}
 use borrow.Author.Tests.{eqb-false, not-true}
 use lib.Dec.{eqb}
@@ -22,7 +22,7 @@ use Rattle.rules.specs.declared.ExportPart.the-variants as exportPart
 use Rattle.rules.specs.declared.Command.{Command}
 use Rattle.rules.specs.declared.Command.the-variants as command
 use Rattle.rules.specs.declared.Verdict.{Verdict}
-use Rattle.rules.specs.Words.{success, Hold}
+use Rattle.rules.specs.Words.{Hold}
 use Rattle.rules.specs.Rows.{rowOf}
 use Rattle.rules.specs.Commands.{isVerified, hasKey, isSet, onPinlessPath, signChecks, exportChecks, ruleOf}
 use Rattle.rules.specs.Steps.{Step, step1, Opened, Arrived, checksOf, supplyOf, replyOf}

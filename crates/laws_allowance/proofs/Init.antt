@@ -1,7 +1,7 @@
 -- A call that makes an initialised card of one that was not gives 9000 for INIT: no other command does so, and no step. Every list of calls from a
 -- sound card before INIT to an initialised one has a history in it.
 -- Assumes nothing.
-use mathlib.Core.Path.{_≡_, refl, sym, ap, _∙_, subst}
+use mathlib.Core.Path.{_≡_, refl, sym, ap, _∙_}
 use mathlib.Core.Bool.{Bool, true, false, _&&_, not, cond, false≢true}
 use mathlib.Core.List.{List, [], _∷_}
 use mathlib.Core.Option.{Option, none, some}

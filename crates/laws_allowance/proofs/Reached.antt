@@ -1,6 +1,6 @@
 -- Cards in stage 2 that histories lead to, by their pins and keys: one sealed command leads from one to the next.
 -- Assumes nothing.
-use mathlib.Core.Path.{_≡_, refl, sym, ap, _∙_, subst}
+use mathlib.Core.Path.{_≡_, refl, ap, _∙_, subst}
 use mathlib.Core.Bool.{true, false}
 use mathlib.Core.List.{List, [], _∷_}
 use mathlib.Core.Option.{some}
@@ -15,8 +15,6 @@ use Rattle.card.specs.declared.Pins.{Pins}
 use Rattle.card.specs.declared.Keys.{Keys}
 use Rattle.card.specs.declared.Card.{Card}
 use Rattle.card.specs.State.{slotCount, zeros, freeSlot, noKeys, withPins}
-use Rattle.card.specs.Slots.{allOf, someOf}
-use Rattle.card.specs.Sound.{isSound}
 use Rattle.card.proofs.SoundFacts.{fresh-sound}
 use Rattle.card.proofs.ShapeFacts.{keys-long-replicate}
 use Rattle.rules.specs.declared.Instruction.{Instruction}
@@ -30,7 +28,7 @@ use Rattle.rules.specs.Steps.{isInitialised, checksOf, supplyOf}
 use Rattle.laws_commands.proofs.Changed.{keys-set}
 use Rattle.laws_exchange.specs.Opens.{outcome}
 use Rattle.laws_exchange.specs.Exchange.{Typed}
-use Rattle.laws_two_runs.specs.Runs.{nextAt, endOf}
+use Rattle.laws_two_runs.specs.Runs.{nextAt}
 use Rattle.laws_two_runs.proofs.Reached.{fresh, Reachable, inChannel, session-keyed, stage2-reached, kind2-reached, reached-sound}
 use Rattle.laws_allowance.specs.History.{Historic}
 use Rattle.laws_allowance.proofs.Init.{in-history}

@@ -1,7 +1,7 @@
 -- What each command does with the tries, one line a command: INIT and CHANGE set them where they give 9000, VERIFY and UNBLOCK by how their comparison
 -- came out, and no other command changes them; and no check of a command has the status word 9000.
 -- Assumes nothing.
-use mathlib.Core.Path.{_≡_, refl}
+use mathlib.Core.Path.{_≡_, refl, ap}
 use mathlib.Core.Bool.{Bool, true, false, cond, false≢true}
 use mathlib.Core.List.{List, [], _∷_}
 use mathlib.Core.Option.{Option, none, some}
@@ -12,7 +12,6 @@ use borrow.Author.Tests.{eqb-true, eqb-false, not-true}
 use Rattle.template_rules.proofs.HeadFacts.{by-test}
 use Rattle.card.specs.declared.Pins.{Pins}
 use Rattle.card.specs.declared.Card.{Card}
-use Rattle.card.specs.Slots.{isZero}
 use Rattle.card_slots.specs.declared.Free.{Free}
 use Rattle.card_slots.specs.declared.Free.the-variants as free
 use Rattle.card_slots.specs.Free.{firstFree}
@@ -47,6 +46,10 @@ did m g = record { compared = m; succeeded = g; in2 = false }
 -- a command that gives 9000 is the one at its checks
 pub given-is : (w : ℕ) (i k : Command) → givenBy i w ≡ some k → i ≡ k
 given-is w i k = by-test (λ (o : Option Command). o ≡ some k → i ≡ k) (eqb w success) (λ _ e. cc) (λ _ e. never k e)
+
+-- and with another status word none does
+pub not-given : (k : Command) (w : ℕ) → eqb w success ≡ false → givenBy k w ≡ none
+not-given k w e = ap (λ (b : Bool). cond b (some k) none) e
 
 -- ---- no comparison and nothing set: the tries stay
 abbrev pub Kept : Pins → Pins → Type 0

@@ -1,7 +1,7 @@
 -- Where ANSWER is not refused, its answer is one reply told, with the status word that the event reads: no step that stops has the status word 9000.
 -- Assumes nothing.
 use mathlib.Core.Path.{_≡_, refl, ap, _∙_}
-use mathlib.Core.Bool.{Bool, true, false, not, cond}
+use mathlib.Core.Bool.{Bool, true, false, cond}
 use mathlib.Core.List.{List}
 use mathlib.Core.Option.{Option, none, some}
 use Prim.Native.Nat.{ℕ}
@@ -23,10 +23,10 @@ use Rattle.rules.specs.Words.{success, wrongLength, conditionsNotMet, securityN
 use Rattle.rules.specs.Supplies.{suits}
 use Rattle.rules.specs.Rows.{rowOf, isPlain}
 use Rattle.rules.specs.Channel.{withMac, Outgoing, tell}
-use Rattle.rules.specs.Steps.{Step, goes, stops, then, stopsWith, step1, dataOf, byForm, claOf, insOf, p1Of, p2Of, nameOf, isInitialised, byName, Opened, byOpening, inStage, openedBy, step4, begun, failed, Arrived, byChoice, step5, pastStep1, arrival, checksOf, supplyOf, replyOf, byVerdict, step6, finish, decide}
+use Rattle.rules.specs.Steps.{Step, goes, stops, then, stopsWith, step1, dataOf, byForm, claOf, insOf, p1Of, p2Of, nameOf, isInitialised, byName, Opened, byOpening, inStage, openedBy, step4, Arrived, byChoice, step5, pastStep1, arrival, checksOf, supplyOf, replyOf, byVerdict, step6, finish, decide}
 use Rattle.rules.specs.Engine.{AnswerOut, answered, answerOut}
 use Rattle.laws_commands.proofs.Checks.{never}
-use Rattle.laws_allowance.specs.Events.{givenBy, wordBy, givenAt6, givenPast, given}
+use Rattle.laws_allowance.specs.Events.{givenBy, wordBy, givenPast, given}
 use Rattle.laws_allowance.specs.Told.{isGiven, Came, Told}
 use Rattle.laws_allowance.proofs.Replies.{given-is}
 

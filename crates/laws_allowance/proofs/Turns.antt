@@ -2,13 +2,12 @@
 -- messages; nothing of AES is computed.
 -- Assumes nothing.
 use mathlib.Core.Path.{_≡_, refl, sym, ap, _∙_, subst}
-use mathlib.Core.Bool.{true, false, cond}
+use mathlib.Core.Bool.{true, false}
 use mathlib.Core.List.{List, [], _∷_, _++_}
 use mathlib.Core.Option.{some}
 use Prim.Native.Nat.{ℕ, _≤_}
 use native.Mathlib.Omega.{arith}
 use borrow.Author.Tests.{eq-eqb}
-use lib.Dec.{eqb}
 use lib.ListN.{length}
 use Rattle.octets.specs.Bytes.{Bytes}
 use Rattle.refusals.specs.Refusals.{noRefusal}
@@ -32,7 +31,7 @@ use Rattle.laws_exchange.proofs.Exchanges.{names, opens2, listed2}
 use Rattle.laws_two_runs.specs.Runs.{Call, answer, nextAt, endOf}
 use Rattle.laws_two_runs.proofs.TwoRuns.{next-sound}
 use Rattle.laws_allowance.specs.Events.{given, succeededAt}
-use Rattle.laws_allowance.specs.History.{History, cardAfter, Historic}
+use Rattle.laws_allowance.specs.History.{Historic}
 
 -- ---- a card in stage 2 that turns can be had with
 pub record Live (c : Card) : Type 0 where

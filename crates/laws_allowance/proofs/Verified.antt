@@ -5,8 +5,6 @@ use mathlib.Core.Path.{_≡_, refl, sym, ap, _∙_}
 use mathlib.Core.Bool.{Bool, true, false, _&&_, _||_, not, cond, false≢true}
 use mathlib.Core.List.{List, [], _∷_}
 use mathlib.Core.Option.{Option, none, some}
-use Prim.Native.Nat.{ℕ}
-use native.Mathlib.Omega.{arith}
 use borrow.Author.Tests.{eqb-true}
 use lib.Dec.{eqb}
 use Rattle.card.specs.declared.Card.{Card}
@@ -26,7 +24,7 @@ use Rattle.laws_two_runs.proofs.Verification.{not-verified, verification}
 use Rattle.laws_allowance.specs.Events.{Event, eventAt, eventsOf}
 use Rattle.laws_allowance.specs.History.{fromLatest, History, eventsIn, cardAfter}
 use Rattle.laws_allowance.specs.Tries.{compares}
-use Rattle.laws_allowance.specs.Guard.{isMade, cameRight, rightFirst, stillOpen, isGuarded}
+use Rattle.laws_allowance.specs.Guard.{isMade, cameRight, stillOpen, isGuarded}
 use Rattle.laws_allowance.proofs.Calls.{call-leaves}
 
 -- ---- one call

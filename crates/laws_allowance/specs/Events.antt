@@ -42,7 +42,7 @@ succeededAt c (ask cmd buf) = none
 succeededAt c (answer cmd s buf) = cond (eqb (answerOut c cmd s (length buf) .refusal) noRefusal) (given c cmd s) none
 succeededAt c reset = none
 
--- ---- what a call did
+-- ---- what a call did: the comparison that it made, if any; the command that it gave 9000 for, if any; whether the card that it left is in stage 2
 pub record Event : Type 0 where
   pub compared : Option Comparison
   pub succeeded : Option Command

@@ -2,14 +2,12 @@
 -- Every length is in bytes.
 use Prim.Native.Nat.{ℕ}
 use mathlib.Core.Path.{_≡_}
-use mathlib.Core.Bool.{true, false}
+use mathlib.Core.Bool.{false}
 use mathlib.Core.List.{List}
 use mathlib.Core.Option.{none, some}
 use Rattle.rules.specs.declared.Command.{Command}
-use Rattle.rules.specs.declared.ExportPath.the-variants as exportPath
-use Rattle.rules.specs.declared.ExportPart.the-variants as exportPart
 use Rattle.rules.specs.declared.Command.the-variants as command
-use Rattle.rules.specs.Rules.{Secret, pin, puk}
+use Rattle.rules.specs.Rules.{pin, puk}
 use Rattle.rules.specs.Steps.{goes, Arrived, arrival}
 use Rattle.laws_two_runs.specs.Runs.{Call, answer}
 use Rattle.laws_allowance.specs.Events.{succeededAt, eventAt}

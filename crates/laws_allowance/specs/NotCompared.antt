@@ -9,7 +9,7 @@ use Rattle.card.specs.declared.Card.{Card}
 use Rattle.rules.specs.declared.Command.the-variants as command
 use Rattle.rules.specs.Commands.{isUnblocking}
 use Rattle.rules.specs.Steps.{Arrived}
-use Rattle.laws_two_runs.specs.Runs.{Call, answer}
+use Rattle.laws_two_runs.specs.Runs.{answer}
 use Rattle.laws_allowance.specs.Events.{eventAt}
 
 -- ANSWER with a command that steps 1 to 5 brought to its checks as `a`

@@ -5,11 +5,10 @@ use mathlib.Core.Bool.{true, false, cond, Bool}
 use mathlib.Core.Option.{Option, none, some}
 use Rattle.card.specs.declared.Pins.{Pins}
 use Rattle.card.specs.State.{pinTries, pukTries}
-use Rattle.rules.specs.declared.Command.{Command}
 use Rattle.rules.specs.Rules.{Secret, pin, puk}
 use Rattle.rules.specs.Comparison.{Comparison}
 use Rattle.laws_allowance.specs.Events.{Event}
-use Rattle.laws_allowance.specs.History.{isOf, isWrong, restarts, wrong}
+use Rattle.laws_allowance.specs.History.{isOf, restarts, wrong}
 
 abbrev pub fullTries : Secret → ℕ
 fullTries pin = pinTries
