@@ -9,3 +9,4 @@ pub mod Turns
 pub mod NotCompared
 pub mod Reached
 pub mod Examples
+pub mod Latest

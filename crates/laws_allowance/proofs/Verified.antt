@@ -2,7 +2,7 @@
 -- the law of verification. A wrong PUK is compared with no PIN tries left alone, and no sound card has a verified PIN there.
 -- Assumes nothing.
 use mathlib.Core.Path.{_≡_, refl, sym, ap, _∙_}
-use mathlib.Core.Bool.{Bool, true, false, _&&_, _||_, not, cond, false≢true}
+use mathlib.Core.Bool.{Bool, true, false, _&&_, _||_, not, cond}
 use mathlib.Core.List.{List, [], _∷_}
 use mathlib.Core.Option.{Option, none, some}
 use borrow.Author.Tests.{eqb-true}
@@ -26,6 +26,7 @@ use Rattle.laws_allowance.specs.History.{fromLatest, History, eventsIn, 
 use Rattle.laws_allowance.specs.Tries.{compares}
 use Rattle.laws_allowance.specs.Guard.{isMade, cameRight, stillOpen, isGuarded}
 use Rattle.laws_allowance.proofs.Calls.{call-leaves}
+use Rattle.laws_allowance.proofs.Latest.{none-latest}
 
 -- ---- one call
 -- a sound card without PIN tries has no verified PIN
@@ -106,14 +107,8 @@ fresh-unverified h =
 
 -- where no call compares, there is no latest one
 none-made : (es : List Event) → someOf made es ≡ false → isGuarded es ≡ false
-unfolding someOf fromLatest
-none-made [] e = refl
-none-made (x ∷ es) e = go (made x) (someOf made es) e
-  where
-    go : (now later : Bool) → (now || later) ≡ false → stillOpen (cond later (fromLatest made es) (cond now (x ∷ es) [])) ≡ false
-    go true later z = absurd (false≢true (sym z))
-    go false true z = absurd (false≢true (sym z))
-    go false false z = refl
+unfolding allOf
+none-made es e = ap stillOpen (none-latest made es e)
 
 from-unverified : (es : List Event) → verifiedFrom false es ≡ isGuarded es
 from-unverified es = go (someOf made es) refl

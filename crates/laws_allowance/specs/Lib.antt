@@ -1,5 +1,6 @@
 pub mod Events
 pub mod History
+pub mod Latest
 pub mod Tries
 pub mod Guard
 pub mod Told
