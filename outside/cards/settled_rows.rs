@@ -1,5 +1,6 @@
 //! The rows to settle (RULES 11.4), on the model and the library: one card from FRESH through INIT, PAIR, OPEN and MUTUAL to its status and
-//! wrong PINs, as a well-behaved terminal does it, and the rows on padding, templates, signatures and exported keys. Lengths are in bytes.
+//! wrong PINs, as a well-behaved terminal does it, and the rows on padding, templates and signatures; beside them, exported keys (RULES
+//! 6.19). Lengths are in bytes.
 
 use crate::both::{hex, Both};
 use outside::model::card::{Card, Session};
