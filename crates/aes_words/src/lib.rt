@@ -25,7 +25,7 @@ pub fn block_words(s: [u8; 16]) -> [u32; 4]
 }
 
 // The lowest byte of a number.
-fn low(x: u32) -> u8
+pub fn low(x: u32) -> u8
     ensures { λ r. ⌜ r ≡ x % 256 ⌝ }
 {
     (x % 256) as u8
