@@ -1,24 +1,10 @@
-// Blocks of 16 bytes in a slice as four words of 32 bits: read, written in place, and their exclusive-or.
+// Blocks of four words of 32 bits: their exclusive-or, and their bytes written over a slice of 16 bytes.
 // Proved: each has, or leaves in the slice, the bytes of the definition.
 ghost use mathlib.Core.Path.{_≡_};
 ghost use lib.ListN.{length};
 ghost use Rattle.octets.specs.Bytes.{xorBytes};
 ghost use Rattle.aes_words.specs.Words.{bytesOf};
 use aes_words::low;
-use aes_words::word_of;
-
-// The words of the block that a slice of 16 bytes holds.
-pub fn words(s: &[u8]) -> [u32; 4]
-    requires { ⌜ length (now s) ≡ 16 ⌝ }
-    ensures { λ r. ⌜ bytesOf r ≡ now (s .entry) ⌝ }
-{
-    [
-        word_of(s[0], s[1], s[2], s[3]),
-        word_of(s[4], s[5], s[6], s[7]),
-        word_of(s[8], s[9], s[10], s[11]),
-        word_of(s[12], s[13], s[14], s[15]),
-    ]
-}
 
 // The exclusive-or of two blocks of words.
 pub fn xor_words(a: [u32; 4], b: [u32; 4]) -> [u32; 4]

@@ -28,7 +28,7 @@ fn encrypt_part(
     ensures { λ r. ⌜ bytesOf r ≡ encryptBlock (cipher (bytesOf (now (w .entry)))) (bytesOf prev) (now (part .entry)) ⌝ }
     ensures { λ r. ⌜ now (part .exit) ≡ bytesOf r ⌝ }
 {
-    let plain = aes_word_blocks::words(part);
+    let plain = aes_words::slice_words(part);
     let ciphertext = aes_word_encrypt::encrypt_words(
         t0,
         t1,
@@ -98,7 +98,7 @@ fn last_block(
     let mut i = 0;
     while i < end {
         let next = i + BLOCK_BYTES;
-        let plain = aes_word_blocks::words(&xs[i..next]);
+        let plain = aes_words::slice_words(&xs[i..next]);
         let c = aes_word_encrypt::encrypt_words(
             t0,
             t1,

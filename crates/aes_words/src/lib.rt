@@ -3,6 +3,7 @@
 ghost use mathlib.Core.Path.{_≡_};
 ghost use mathlib.Core.List.{[], _∷_};
 ghost use Prim.Native.Nat.{_%_};
+ghost use lib.ListN.{length};
 ghost use Rattle.aes_words.specs.Words.{wordBytes, bytesOf};
 
 // The word of four bytes.
@@ -12,9 +13,10 @@ pub fn word_of(a: u8, b: u8, c: u8, d: u8) -> u32
     a as u32 + 256 * (b as u32 + 256 * (c as u32 + 256 * (d as u32)))
 }
 
-// The four words of a block.
-pub fn block_words(s: [u8; 16]) -> [u32; 4]
-    ensures { λ r. ⌜ bytesOf r ≡ s ⌝ }
+// The four words of the block that a slice of 16 bytes holds.
+pub fn slice_words(s: &[u8]) -> [u32; 4]
+    requires { ⌜ length (now s) ≡ 16 ⌝ }
+    ensures { λ r. ⌜ bytesOf r ≡ now (s .entry) ⌝ }
 {
     [
         word_of(s[0], s[1], s[2], s[3]),
@@ -22,6 +24,13 @@ pub fn block_words(s: [u8; 16]) -> [u32; 4]
         word_of(s[8], s[9], s[10], s[11]),
         word_of(s[12], s[13], s[14], s[15]),
     ]
+}
+
+// The four words of a block.
+pub fn block_words(s: [u8; 16]) -> [u32; 4]
+    ensures { λ r. ⌜ bytesOf r ≡ s ⌝ }
+{
+    slice_words(&s)
 }
 
 // The lowest byte of a number.

@@ -10,8 +10,8 @@ use borrow.Author.Needs.{needs}
 use Rattle.aes_word_cbc.proofs.encrypt_part.Statement.{statement}
 use Rattle.aes_word_cbc.proofs.encrypt_part.Tie as tie
 
-words-requires : tie.Need-words-requires
-words-requires c κs = search needs
+slice-words-requires : tie.Need-slice-words-requires
+slice-words-requires c κs = search needs
 
 xor-words-requires : tie.Need-xor-words-requires
 xor-words-requires c κs = search needs
@@ -28,7 +28,7 @@ same-length c = search needs
 returns : tie.Need-returns
 returns c = let st = c .before .before .before .before .before .before .before .before .before .before in
     let w : List ℕ = bytesOf (st .args .w .now) in (
-      c .before .before .before .before .encrypt-words .ensures ∙ ap (cipher w) (c .before .before .before .before .before .xor-words .ensures ∙ ap (λ (x : List ℕ). xorBytes x (bytesOf (st .args .prev))) (c .before .before .before .before .before .before .words .ensures)),
+      c .before .before .before .before .encrypt-words .ensures ∙ ap (cipher w) (c .before .before .before .before .before .xor-words .ensures ∙ ap (λ (x : List ℕ). xorBytes x (bytesOf (st .args .prev))) (c .before .before .before .before .before .before .slice-words .ensures)),
       c .before .before .put-words .ensures,
     )
 
@@ -36,7 +36,7 @@ pub encrypt-part-spec : {M : Type 1} → statement M
 encrypt-part-spec =
     tie.close
     (tie.spec
-    words-requires
+    slice-words-requires
     xor-words-requires
     encrypt-words-requires
     put-words-requires

@@ -36,17 +36,17 @@ loop-holds c = (rw sub-zero, omega arith, omega arith, search needs)
 add-next : tie.Need-add-next Inv-loop μ-loop
 add-next c = search needs
 
-sub-words : tie.Need-sub-words Inv-loop μ-loop
-sub-words c = search needs
+sub-slice-words : tie.Need-sub-slice-words Inv-loop μ-loop
+sub-slice-words c = search needs
 
-part-words-start : tie.Need-part-words-start Inv-loop μ-loop
-part-words-start c = search needs
+part-slice-words-start : tie.Need-part-slice-words-start Inv-loop μ-loop
+part-slice-words-start c = search needs
 
-part-words-end : tie.Need-part-words-end Inv-loop μ-loop
-part-words-end c = search needs
+part-slice-words-end : tie.Need-part-slice-words-end Inv-loop μ-loop
+part-slice-words-end c = search needs
 
-words-requires : tie.Need-words-requires Inv-loop μ-loop
-words-requires c κs = simp (length-take, length-drop) (omega arith)
+slice-words-requires : tie.Need-slice-words-requires Inv-loop μ-loop
+slice-words-requires c κs = simp (length-take, length-drop) (omega arith)
 
 xor-words-requires : tie.Need-xor-words-requires Inv-loop μ-loop
 xor-words-requires c κs = search needs
@@ -63,7 +63,7 @@ loop-again c = let st = c .before .before .before .before .before .before .befor
     let w : List ℕ = bytesOf (st .args .w .now) in (
       mac-turn (cipher w) (bytesOf (l .prev)) (bytesOf (c .encrypt-words .result)) (st .args .xs .now) (l .i) (l .i + 16 - l .i) (length (st .args .xs .now))
           (omega arith) (omega arith) (long (l .prev) (l .inv .3)) (long (c .encrypt-words .result) (search needs))
-          (c .encrypt-words .ensures ∙ ap (cipher w) (c .before .xor-words .ensures ∙ ap (λ (x : List ℕ). xorBytes x (bytesOf (l .prev))) (c .before .before .words .ensures)))
+          (c .encrypt-words .ensures ∙ ap (cipher w) (c .before .xor-words .ensures ∙ ap (λ (x : List ℕ). xorBytes x (bytesOf (l .prev))) (c .before .before .slice-words .ensures)))
           ∙ l .inv .0,
       omega arith,
       omega arith,
@@ -89,10 +89,10 @@ last-block-spec =
     block-words-requires
     loop-holds
     add-next
-    sub-words
-    part-words-start
-    part-words-end
-    words-requires
+    sub-slice-words
+    part-slice-words-start
+    part-slice-words-end
+    slice-words-requires
     xor-words-requires
     encrypt-words-requires
     loop-less

@@ -5,8 +5,8 @@ use mathlib.Core.List.{List, _++_}
 use Prim.Native.Nat.{ℕ}
 use Rattle.octets.proofs.Lists.{tabulated}
 use borrow.Author.Needs.{needs}
-use Rattle.aes_word_blocks.proofs.words.Statement.{statement}
-use Rattle.aes_word_blocks.proofs.words.Tie as tie
+use Rattle.aes_words.proofs.slice_words.Statement.{statement}
+use Rattle.aes_words.proofs.slice_words.Tie as tie
 
 shared-slice-read-word-of : tie.Need-shared-slice-read-word-of
 shared-slice-read-word-of c = search needs
@@ -74,8 +74,8 @@ returns c = ap₂ (λ (p q : List ℕ). p ++ q) (c .before .before .before .befo
     (ap₂ (λ (p q : List ℕ). p ++ q) (c .before .before .before .before .before .word-of3 .ensures) (ap₂ (λ (p q : List ℕ). p ++ q) (c .word-of4 .ensures) refl)))
     ∙ sym (tabulated 16 (c .before .before .before .before .before .before .before .before .before .before .before .before .before .before .before .before .before .before .before .before .before .args .s .now) (c .before .before .before .before .before .before .before .before .before .before .before .before .before .before .before .before .before .before .before .before .before .pre))
 
-pub words-spec : {M : Type 1} → statement M
-words-spec =
+pub slice-words-spec : {M : Type 1} → statement M
+slice-words-spec =
     tie.close
     (tie.spec
     shared-slice-read-word-of
