@@ -177,12 +177,12 @@ walk-refuses s = record { numbers = numbers (walkOf s); nothing = nothing (walkO
   where
     numbers : (w : Walked) → (report w .refusal ≡ 0) ⊎ ((report w .refusal ≡ 4) ⊎ (report w .refusal ≡ 5))
     numbers (walked.Fields n) = inl refl
-    numbers (walked.Refused fault.Malformed) = inr (inl refl)
-    numbers (walked.Refused fault.TooDeep) = inr (inr refl)
+    numbers (walked.Refused fault.Malformed k) = inr (inl refl)
+    numbers (walked.Refused fault.TooDeep k) = inr (inr refl)
 
     nothing : (w : Walked) → (report w .refusal ≡ 0 → ⊥) → report w .count ≡ 0
     nothing (walked.Fields n) h = absurd (h refl)
-    nothing (walked.Refused f) h = refl
+    nothing (walked.Refused f k) h = refl
 
 pub refusals : Refusals
 refusals = record {
