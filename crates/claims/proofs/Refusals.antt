@@ -23,7 +23,9 @@ use Rattle.card.specs.Sizes.{slotBytes, slotCount}
 use Rattle.sound.specs.declared.Answer.{Answer}
 use Rattle.sound.specs.Reset.{resetAnswer}
 use Rattle.record_rules.specs.Parse.{fit, content, slotsFrom, cardOf}
+use Rattle.record_rules.specs.Forms.{forms}
 use Rattle.record_rules.specs.Answers.{writeRefusal, readAnswer}
+use Rattle.record_rules.proofs.FormFacts.{found}
 use Rattle.record_rules.proofs.ReadFacts.{read-cases, read-refuses}
 use Rattle.laws_engine.proofs.Refusals.{ask-unsound, ask-room, ask-numbers, answer-unsound, answer-room, answer-supply, answer-numbers}
 use Rattle.claims.specs.Refusals.{ResetRefuses, WriteRefuses, IsRecord, ReadRefuses, SealRefuses, WalkRefuses, Refusals}
@@ -115,7 +117,7 @@ read-refusal : (s : List ℕ) → ReadRefuses s
 read-refusal s = ⊎-elim
     (λ t.
     let z : readAnswer s .refusal ≡ 0 = ap (λ (a : Answer). a .refusal) (t .0) in
-    let is : IsRecord s = (cardOf s, read-shaped s, t .1 .sound, t .1 .written) in
+    let is : IsRecord s = (cardOf s, read-shaped s, t .1 .sound, found s (cardOf s) forms (t .1 .tested)) in
     record {
       taken = (λ h. is, λ h. z);
       refused = (λ h. absurd (omega arith), λ n. absurd (n is));
@@ -175,12 +177,12 @@ walk-refuses s = record { numbers = numbers (walkOf s); nothing = nothing (walkO
   where
     numbers : (w : Walked) → (report w .refusal ≡ 0) ⊎ ((report w .refusal ≡ 4) ⊎ (report w .refusal ≡ 5))
     numbers (walked.Fields n) = inl refl
-    numbers (walked.Refused fault.Malformed) = inr (inl refl)
-    numbers (walked.Refused fault.TooDeep) = inr (inr refl)
+    numbers (walked.Refused fault.Malformed k) = inr (inl refl)
+    numbers (walked.Refused fault.TooDeep k) = inr (inr refl)
 
     nothing : (w : Walked) → (report w .refusal ≡ 0 → ⊥) → report w .count ≡ 0
     nothing (walked.Fields n) h = absurd (h refl)
-    nothing (walked.Refused f) h = refl
+    nothing (walked.Refused f k) h = refl
 
 pub refusals : Refusals
 refusals = record {

@@ -12,7 +12,7 @@ use lib.ListN.{length, take, drop, length-append}
 use lib.Seq.{take-at, drop-at}
 use Rattle.aes_padding.specs.Padding.{paddedBytes, pad, unpad}
 use Rattle.aes_padding.proofs.Laws.{length-pad}
-use Rattle.template_walk.specs.Walk.{fieldWith, fieldsOf, valueOf}
+use Rattle.template_walk.specs.Walk.{fieldWith, fieldsOf, templateOf}
 use Rattle.template_answers.specs.Answers.{signature}
 use Rattle.card.specs.declared.Pins.{Pins}
 use Rattle.card.specs.declared.Keys.{Keys}
@@ -125,7 +125,7 @@ sign-parts c d key l =
 
 -- ---- the table
 pub rows : Rows
-unfolding fieldsOf fieldWith valueOf
+unfolding fieldsOf fieldWith templateOf
 rows = record {
   padnothing = pad-nothing;
   padblock = pad-block;

@@ -23,7 +23,7 @@ use Rattle.sound.specs.declared.Answer.{Answer}
 use Rattle.refusals.specs.Refusals.{unsound}
 use Rattle.sound.specs.Reset.{refused, done, resetAnswer}
 use Rattle.record_rules.specs.Answers.{writeRefusal}
-use Rattle.record_rules.proofs.ReadFacts.{read-write, write-read, read-sound, record-length}
+use Rattle.record_rules.proofs.ReadFacts.{read-write, write-read, one-card, read-sound, record-length}
 use Rattle.laws_engine.proofs.Sound.{answer-sound}
 use Rattle.laws_engine.proofs.Rooms.{answer-most, ask-most}
 use Rattle.laws_walk.proofs.Walking.{counts-fields, walk-encodes}
@@ -104,6 +104,7 @@ trips = record {
   records = record {
     readwrite = λ c room w h. read-write c room w h ∙ sym (reset-is c (written-sound c room h));
     writeread = write-read;
+    onecard = one-card;
   };
   walks = record {
     joined = joined;

@@ -20,8 +20,8 @@ use Rattle.card.specs.State.{zeros, freshOf}
 use Rattle.card.specs.Sound.{isSound}
 use Rattle.card.specs.Shape.{Shaped}
 use Rattle.sound.specs.Reset.{resetAnswer}
-use Rattle.record_rules.specs.Fields.{recordOf}
 use Rattle.record_rules.specs.Lengths.{writeRoom}
+use Rattle.record_rules.specs.Forms.{forms, InForm}
 use Rattle.record_rules.specs.Answers.{writeRefusal, readAnswer}
 use Rattle.record_write.specs.declared.Written.{Written}
 use Rattle.record_write.specs.Wrote.{WroteRecord}
@@ -65,9 +65,9 @@ pub record WriteRefuses (c : Card) (room : ℕ) : Type 0 where
   pub nothing : (before after : List ℕ) (r : Written) → WroteRecord c r before after → (r .refusal ≡ 0 → ⊥)
       → (r .count ≡ 0) × (after ≡ before)
 
--- ---- READ: 8. What is taken is the record of a sound card, what is refused is that of none
+-- ---- READ: 8. What is taken is the record of a sound card in one of the forms that READ takes, what is refused is that of none
 abbrev pub IsRecord : List ℕ → Type 0
-IsRecord s = (c : Card) × Shaped c × (isSound c ≡ true) × (recordOf c ≡ s)
+IsRecord s = (c : Card) × Shaped c × (isSound c ≡ true) × InForm s c forms
 
 pub record ReadRefuses (s : List ℕ) : Type 0 where
   pub taken : readAnswer s .refusal ≡ 0 ↔ IsRecord s

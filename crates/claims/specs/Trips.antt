@@ -13,12 +13,13 @@ use Rattle.channel_rules.specs.Terminal.{plainSuccess, sealedResponse, unsealOu
 use Rattle.template_walk.specs.Walk.{WALK}
 use Rattle.template_answers.specs.Answers.{preInitialised, applicationInfo, status, signature, exportedPublic, exportedPair}
 use Rattle.card.specs.declared.Card.{Card}
-use Rattle.card.specs.State.{freshOf}
+use Rattle.card.specs.State.{freshOf, resetOf}
 use Rattle.card.specs.Sound.{isSound}
 use Rattle.card.specs.Shape.{Shaped}
 use Rattle.sound.specs.Reset.{resetAnswer}
 use Rattle.record_rules.specs.Fields.{recordOf}
 use Rattle.record_rules.specs.Lengths.{recordFresh, recordLeast, recordMost, writeRoom}
+use Rattle.record_rules.specs.Forms.{forms, InForm}
 use Rattle.record_rules.specs.Answers.{writeRefusal, writeBytes, readAnswer}
 use Rattle.rules.specs.Supplies.{suits}
 use Rattle.rules.specs.Steps.{goes, Arrived, arrival, decide}
@@ -51,11 +52,14 @@ pub record Responses : Type 0 where
   pub example : (unsealOut zeroSession (sealedResponse zeroSession (0x90 ∷ 0x00 ∷ [])) 223 .refusal ≡ 0)
       × (unsealOut zeroSession (oldResponse zeroSession (0x90 ∷ 0x00 ∷ [])) 223 .refusal ≡ 7)
 
--- ---- the stored record (RULES 10.5): READ of WRITE is RESET, WRITE of READ is the record
+-- ---- the stored record (RULES 10.5): READ of WRITE is RESET, WRITE of READ is the record, and no bytes are, in the forms that READ takes, the
+-- records of two cards that RESET leaves different
 pub record Records : Type 0 where
   pub readwrite : (c : Card) (room : ℕ) → Shaped c → writeRefusal c room ≡ 0 → readAnswer (writeBytes c room) ≡ resetAnswer c
   pub writeread : (s : List ℕ) (room : ℕ) → readAnswer s .refusal ≡ 0 → writeRoom ≤ room
       → (writeRefusal (readAnswer s .card) room ≡ 0) × (writeBytes (readAnswer s .card) room ≡ s)
+  pub onecard : (s : List ℕ) (c d : Card) → Shaped c → Shaped d → isSound c ≡ true → isSound d ≡ true → InForm s c forms → InForm s d forms
+      → resetOf c ≡ resetOf d
 
 -- ---- WALK (RULES 11.2): fields one after the other add up, and each template that a command answers has the fields that it is made of, where
 -- each length fits its byte: its parts are at most as long as those of a card and of a supply

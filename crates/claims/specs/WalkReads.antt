@@ -10,7 +10,8 @@ use Rattle.octets.specs.Bytes.{Bytes}
 use Rattle.template_rules.specs.Template.{isTemplate}
 use Rattle.template_walk.specs.declared.Fault.{Fault}
 use Rattle.template_walk.specs.declared.Fault.the-variants.{Malformed, TooDeep}
-use Rattle.template_walk.specs.Walk.{WALK}
+use Rattle.template_walk.specs.declared.Walked.the-variants.{Refused}
+use Rattle.template_walk.specs.Walk.{walkOf, WALK}
 use Rattle.template_answers.specs.Answers.{preInitialised, applicationInfo, status, signature, exportedPublic, exportedPair}
 use Rattle.laws_walk.specs.Trees.{Trees, encode, Lawful, Octets, Encodes, Holds}
 use Rattle.laws_walk.specs.Faults.{FirstFault}
@@ -30,6 +31,8 @@ pub record WalkFaults : Type 0 where
   pub onecase : (s : List ℕ) → ((n : ℕ) × Holds s n) ⊎ (((k : ℕ) × FirstFault s Malformed k) ⊎ ((k : ℕ) × FirstFault s TooDeep k))
   pub apart : (s : List ℕ) (n : ℕ) (f : Fault) (k : ℕ) → Holds s n → FirstFault s f k → ⊥
   pub oneplace : (s : List ℕ) (f g : Fault) (j k : ℕ) → FirstFault s f j → FirstFault s g k → (f ≡ g) × (j ≡ k)
+  -- WALK's answer has that fault and its place
+  pub place : (s : List ℕ) (f : Fault) (k : ℕ) → walkOf s ≡ Refused f k ↔ FirstFault s f k
   -- the place is that of a byte of the input; of a template that is too deep it is that of a template's tag
   pub atbyte : (s : List ℕ) (f : Fault) (k : ℕ) → FirstFault s f k → k < length s
   pub attemplate : (s : List ℕ) (k : ℕ) → FirstFault s TooDeep k → isTemplate (getD s k 0) ≡ true

@@ -15,13 +15,16 @@ use Rattle.template_rules.specs.Template.{readHead, tagOf, isTemplate, fieldHea
 use Rattle.template_rules.proofs.HeadFacts.{read-length, length-read}
 use Rattle.template_walk.specs.declared.Fault.{Fault}
 use Rattle.template_walk.specs.declared.Fault.the-variants.{Malformed, TooDeep}
-use Rattle.laws_walk.proofs.Finding.{Found, counts, faults, past, into, within, step, found}
+use Rattle.template_walk.specs.declared.Walked.{Walked}
+use Rattle.template_walk.specs.declared.Walked.the-variants.{Fields, Refused}
+use Rattle.template_walk.specs.Walk.{plus}
+use Rattle.laws_walk.proofs.Finding.{into, within, step, found}
 
 -- the reader gives w for s, whatever the number of steps that it may take, if that is enough
-abbrev pub Finds : ℕ → List ℕ → Found → Type 0
+abbrev pub Finds : ℕ → List ℕ → Walked → Type 0
 Finds levels s w = (fuel : ℕ) → length s ≤ fuel → found fuel levels s ≡ w
 
-pub finds-none : (levels : ℕ) → Finds levels [] (counts 0)
+pub finds-none : (levels : ℕ) → Finds levels [] (Fields 0)
 unfolding found
 finds-none levels zero p = refl
 finds-none levels (suc fuel) p = refl
@@ -31,14 +34,14 @@ no-head : (s : List ℕ) (r : Head) → readHead s ≡ r → HeadSays s Unreadab
 no-head s Unreadable e h = e
 no-head s (Of k n) e h = absurd (let l = length-read s k n e in h (tagOf s) n (drop k s) (l .0) (l .2))
 
-pub finds-head : (levels : ℕ) (s : List ℕ) → 1 ≤ length s → HeadSays s Unreadable → Finds levels s (faults Malformed 0)
+pub finds-head : (levels : ℕ) (s : List ℕ) → 1 ≤ length s → HeadSays s Unreadable → Finds levels s (Refused Malformed 0)
 unfolding found
 finds-head levels s l h zero p = absurd (omega arith)
 finds-head levels [] l h (suc fuel) p = absurd (omega arith)
 finds-head levels (x ∷ s) l h (suc fuel) p = rw (no-head (x ∷ s) (readHead (x ∷ s)) refl h)
 
 -- ---- an end behind that of the list
-pub finds-over : (levels tag n : ℕ) (rest : List ℕ) → n < 256 → length rest < n → Finds levels (fieldHead tag n ++ rest) (faults Malformed 0)
+pub finds-over : (levels tag n : ℕ) (rest : List ℕ) → n < 256 → length rest < n → Finds levels (fieldHead tag n ++ rest) (Refused Malformed 0)
 unfolding found
 finds-over levels tag n rest b l zero p = absurd (omega arith)
 finds-over levels tag n rest b l (suc fuel) p =
@@ -88,21 +91,21 @@ module _ (tag : ℕ) (v rest : List ℕ) (brief : length v < 256) where
   unfolding s
   behind = ap (λ (n : ℕ). drop n s) (sym long) ∙ drop-append-seam (field tag v) rest
 
-  opened : (again : ℕ → List ℕ → Found) (levels : ℕ) → step again levels s (readHead s)
-      ≡ cond (isTemplate (tagOf s)) (into (within again levels h v) (h + length v) (again levels rest)) (past 1 (h + length v) (again levels rest))
+  opened : (again : ℕ → List ℕ → Walked) (levels : ℕ) → step again levels s (readHead s)
+      ≡ cond (isTemplate (tagOf s)) (into (within again levels h v) (h + length v) (again levels rest)) (plus 1 (h + length v) (again levels rest))
   opened again levels = rw (head-is, ends, value, behind)
 
   -- no template, and then what follows
-  pub finds-leaf : (levels : ℕ) (w : Found) → isTemplate tag ≡ false → Finds levels rest w
-      → Finds levels (field tag v ++ rest) (past 1 (length (field tag v)) w)
+  pub finds-leaf : (levels : ℕ) (w : Walked) → isTemplate tag ≡ false → Finds levels rest w
+      → Finds levels (field tag v ++ rest) (plus 1 (length (field tag v)) w)
   unfolding found s
   finds-leaf levels w t r zero p = absurd (omega arith)
   finds-leaf levels w t r (suc fuel) p =
       opened (found fuel) levels ∙ rw (t, r fuel (omega (arith, shorter)), long)
 
   -- a template whose value is read, and then what follows
-  pub finds-template : (levels c : ℕ) (w : Found) → isTemplate tag ≡ true → Finds levels v (counts c) → Finds (suc levels) rest w
-      → Finds (suc levels) (field tag v ++ rest) (past c (length (field tag v)) w)
+  pub finds-template : (levels c : ℕ) (w : Walked) → isTemplate tag ≡ true → Finds levels v (Fields c) → Finds (suc levels) rest w
+      → Finds (suc levels) (field tag v ++ rest) (plus c (length (field tag v)) w)
   unfolding found s
   finds-template levels c w t i r zero p = absurd (omega arith)
   finds-template levels c w t i r (suc fuel) p =
@@ -110,14 +113,14 @@ module _ (tag : ℕ) (v rest : List ℕ) (brief : length v < 256) where
       ∙ rw (t, i fuel (omega (arith, shorter)), r fuel (omega (arith, shorter)), long)
 
   -- a template whose value has a fault
-  pub finds-inside : (levels : ℕ) (f : Fault) (k : ℕ) → isTemplate tag ≡ true → Finds levels v (faults f k)
-      → Finds (suc levels) (field tag v ++ rest) (faults f (length (fieldHead tag (length v)) + k))
+  pub finds-inside : (levels : ℕ) (f : Fault) (k : ℕ) → isTemplate tag ≡ true → Finds levels v (Refused f k)
+      → Finds (suc levels) (field tag v ++ rest) (Refused f (length (fieldHead tag (length v)) + k))
   unfolding found s h
   finds-inside levels f k t i zero p = absurd (omega arith)
   finds-inside levels f k t i (suc fuel) p = opened (found fuel) (suc levels) ∙ rw (t, i fuel (omega (arith, shorter)))
 
   -- a template where none may stand
-  pub finds-deep : isTemplate tag ≡ true → Finds 0 (field tag v ++ rest) (faults TooDeep 0)
+  pub finds-deep : isTemplate tag ≡ true → Finds 0 (field tag v ++ rest) (Refused TooDeep 0)
   unfolding found s
   finds-deep t zero p = absurd (omega arith)
   finds-deep t (suc fuel) p = opened (found fuel) 0 ∙ rw t

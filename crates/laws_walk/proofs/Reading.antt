@@ -5,7 +5,7 @@ use mathlib.Core.Path.{_≡_, refl, sym, ap, _∙_}
 use mathlib.Core.Bool.{true, false}
 use mathlib.Core.List.{List, [], _∷_, _++_, append-assoc, append-nil}
 use Prim.Native.Nat.{ℕ, zero, suc, _+_, _≤_, _<_}
-use native.Mathlib.Nat.{zero-add, add-zero, add-assoc}
+use native.Mathlib.Nat.{add-zero}
 use native.Mathlib.Omega.{arith}
 use lib.Dec.{ltb}
 use lib.ListN.{length, take, drop, length-append, length-take, length-drop, take-append-drop}
@@ -17,57 +17,54 @@ use Rattle.template_rules.specs.Template.{readHead, tagOf, isTemplate, fieldHea
 use Rattle.template_rules.proofs.HeadFacts.{by-test, Within, head-within, head-says}
 use Rattle.template_walk.specs.declared.Fault.{Fault}
 use Rattle.template_walk.specs.declared.Fault.the-variants.{TooDeep}
+use Rattle.template_walk.specs.declared.Walked.{Walked}
+use Rattle.template_walk.specs.declared.Walked.the-variants.{Fields, Refused}
+use Rattle.template_walk.specs.Walk.{plus}
+use Rattle.template_walk.proofs.WalkFacts.{plus-none, plus-plus}
+use Rattle.template_walk.proofs.Joining.{inField}
 use Rattle.laws_walk.specs.Trees.{Trees, none, leaf, template, encode, leaves, Lawful, deepest, Shallow}
 use Rattle.laws_walk.specs.Faults.{FaultAt, head, over, deep, inside, after}
-use Rattle.laws_walk.proofs.Finding.{Found, counts, faults, past, under, into, within, step, found}
+use Rattle.laws_walk.proofs.Finding.{into, within, step, found}
 use Rattle.laws_walk.proofs.Fields.{Finds, finds-none, finds-head, finds-over, finds-leaf, finds-template, finds-inside, finds-deep}
 
 -- ---- trees, and then what follows
-past-none : (w : Found) → w ≡ past 0 0 w
-past-none (counts n) = ap counts (sym (zero-add n))
-past-none (faults f k) = ap (faults f) (sym (zero-add k))
-
-past-past : (a b c e : ℕ) (w : Found) → past a b (past c e w) ≡ past (a + c) (b + e) w
-past-past a b c e (counts n) = ap counts (sym (add-assoc a c n))
-past-past a b c e (faults f k) = ap (faults f) (sym (add-assoc b e k))
-
 -- a field of c leaves, the trees after it, and what follows those
-module _ (levels c : ℕ) (x : List ℕ) (ts : Trees) (rest : List ℕ) (w : Found) where
-  joins : Finds levels (x ++ (encode ts ++ rest)) (past c (length x) (past (leaves ts) (length (encode ts)) w))
-      → Finds levels (x ++ encode ts ++ rest) (past (c + leaves ts) (length (x ++ encode ts)) w)
+module _ (levels c : ℕ) (x : List ℕ) (ts : Trees) (rest : List ℕ) (w : Walked) where
+  joins : Finds levels (x ++ (encode ts ++ rest)) (plus c (length x) (plus (leaves ts) (length (encode ts)) w))
+      → Finds levels (x ++ encode ts ++ rest) (plus (c + leaves ts) (length (x ++ encode ts)) w)
   joins r fuel p =
       ap (found fuel levels) (append-assoc x (encode ts) rest)
       ∙ r fuel (rw append-assoc at p)
-      ∙ past-past c (length x) (leaves ts) (length (encode ts)) w
-      ∙ ap (λ (n : ℕ). past (c + leaves ts) n w) (sym (length-append x (encode ts)))
+      ∙ plus-plus c (length x) (leaves ts) (length (encode ts)) w
+      ∙ ap (λ (n : ℕ). plus (c + leaves ts) n w) (sym (length-append x (encode ts)))
 
 -- trees alone, from trees before nothing
-alone : (ts : Trees) (levels : ℕ) → Finds levels (encode ts ++ []) (past (leaves ts) (length (encode ts)) (counts 0))
-    → Finds levels (encode ts) (counts (leaves ts))
+alone : (ts : Trees) (levels : ℕ) → Finds levels (encode ts ++ []) (plus (leaves ts) (length (encode ts)) (Fields 0))
+    → Finds levels (encode ts) (Fields (leaves ts))
 alone ts levels r fuel p =
-    ap (found fuel levels) (sym (append-nil (encode ts))) ∙ r fuel (rw append-nil p) ∙ ap counts (add-zero (leaves ts))
+    ap (found fuel levels) (sym (append-nil (encode ts))) ∙ r fuel (rw append-nil p) ∙ ap Fields (add-zero (leaves ts))
 
-finds-trees : (ts : Trees) (d levels : ℕ) → d + levels ≡ suc deepest → Lawful ts → Shallow d ts → (rest : List ℕ) (w : Found)
-    → Finds levels rest w → Finds levels (encode ts ++ rest) (past (leaves ts) (length (encode ts)) w)
-finds-trees none d levels e l sh rest w r = λ fuel p. r fuel p ∙ past-none w
+finds-trees : (ts : Trees) (d levels : ℕ) → d + levels ≡ suc deepest → Lawful ts → Shallow d ts → (rest : List ℕ) (w : Walked)
+    → Finds levels rest w → Finds levels (encode ts ++ rest) (plus (leaves ts) (length (encode ts)) w)
+finds-trees none d levels e l sh rest w r = λ fuel p. r fuel p ∙ sym (plus-none w)
 finds-trees (leaf tag v ts) d levels e l sh rest w r =
     joins levels 1 (field tag v) ts rest w
-    (finds-leaf tag v (encode ts ++ rest) (l .1) levels (past (leaves ts) (length (encode ts)) w) (l .0)
+    (finds-leaf tag v (encode ts ++ rest) (l .1) levels (plus (leaves ts) (length (encode ts)) w) (l .0)
     (finds-trees ts d levels e (l .2) sh rest w r))
 finds-trees (template tag is ts) d zero e l sh rest w r = absurd (omega (arith, sh .0))
 finds-trees (template tag is ts) d (suc levels) e l sh rest w r =
-    let inner = finds-trees is (suc d) levels (omega arith) (l .2) (sh .1) [] (counts 0) (finds-none levels) in
+    let inner = finds-trees is (suc d) levels (omega arith) (l .2) (sh .1) [] (Fields 0) (finds-none levels) in
     joins (suc levels) (leaves is) (field tag (encode is)) ts rest w
-    (finds-template tag (encode is) (encode ts ++ rest) (l .1) levels (leaves is) (past (leaves ts) (length (encode ts)) w) (l .0)
+    (finds-template tag (encode is) (encode ts ++ rest) (l .1) levels (leaves is) (plus (leaves ts) (length (encode ts)) w) (l .0)
     (alone is levels inner) (finds-trees ts d (suc levels) e (l .3) (sh .2) rest w r))
 
 pub finds-encoding : (ts : Trees) (d levels : ℕ) → d + levels ≡ suc deepest → Lawful ts → Shallow d ts
-    → Finds levels (encode ts) (counts (leaves ts))
-finds-encoding ts d levels e l sh = alone ts levels (finds-trees ts d levels e l sh [] (counts 0) (finds-none levels))
+    → Finds levels (encode ts) (Fields (leaves ts))
+finds-encoding ts d levels e l sh = alone ts levels (finds-trees ts d levels e l sh [] (Fields 0) (finds-none levels))
 
 -- ---- a fault
 pub finds-fault : {d : ℕ} {s : List ℕ} {f : Fault} {k : ℕ} → FaultAt d s f k → (levels : ℕ) → d + levels ≡ suc deepest
-    → Finds levels s (faults f k)
+    → Finds levels s (Refused f k)
 finds-fault (head {s = s} l h) levels e = finds-head levels s l h
 finds-fault (over tag n rest b l) levels e = finds-over levels tag n rest b l
 finds-fault (deep tag v rest b t g) zero e = finds-deep tag v rest b t
@@ -76,12 +73,12 @@ finds-fault (inside tag v rest b t g x) zero e = absurd (omega arith)
 finds-fault (inside {f = f} {k = k} tag v rest b t g x) (suc levels) e =
     finds-inside tag v rest b levels f k t (finds-fault x levels (omega arith))
 finds-fault (after {d = d} {f = f} {k = k} ts rest l sh x) levels e =
-    finds-trees ts d levels e l sh rest (faults f k) (finds-fault x levels e)
+    finds-trees ts d levels e l sh rest (Refused f k) (finds-fault x levels e)
 
 -- ---- what each answer says
-abbrev pub Says : ℕ → List ℕ → Found → Type 0
-Says d s (counts n) = (ts : Trees) × Lawful ts × Shallow d ts × (encode ts ≡ s) × (leaves ts ≡ n)
-Says d s (faults f k) = FaultAt d s f k
+abbrev pub Says : ℕ → List ℕ → Walked → Type 0
+Says d s (Fields n) = (ts : Trees) × Lawful ts × Shallow d ts × (encode ts ≡ s) × (leaves ts ≡ n)
+Says d s (Refused f k) = FaultAt d s f k
 
 -- the same list and place, written otherwise
 moved : {d : ℕ} {s t : List ℕ} {f : Fault} {j k : ℕ} → s ≡ t → k ≡ j → FaultAt d t f j → FaultAt d s f k
@@ -127,23 +124,23 @@ module _ (d : ℕ) (s : List ℕ) (h n : ℕ) (said : HeadSays s (Of h n)) (ends
   bytes = omega (arith, length-append (fieldHead tag (length v)) v, heads, long)
 
   -- no template
-  says-leaf : isTemplate tag ≡ false → (w : Found) → Says d rest w → Says d s (past 1 (h + n) w)
-  says-leaf t (counts m) (ts, l, sh, e, c) =
+  says-leaf : isTemplate tag ≡ false → (w : Walked) → Says d rest w → Says d s (plus 1 (h + n) w)
+  says-leaf t (Fields m) (ts, l, sh, e, c) =
       (leaf tag v ts, (t, brief, l), sh, ap (λ (r : List ℕ). field tag v ++ r) e ∙ sym split, ap (λ (k : ℕ). 1 + k) c)
-  says-leaf t (faults f k) x =
+  says-leaf t (Refused f k) x =
       behind d (leaf tag v none) (field tag v) rest s f k (h + n) (t, brief, tt) tt (append-nil (field tag v)) bytes split x
 
   -- a template whose value is the encoding of trees
-  says-template : isTemplate tag ≡ true → d ≤ deepest → (c : ℕ) → Says (suc d) v (counts c) → (w : Found) → Says d rest w
-      → Says d s (past c (h + n) w)
-  says-template t g c (is, li, shi, ei, ci) (counts m) (ts, l, sh, e, q) = (
+  says-template : isTemplate tag ≡ true → d ≤ deepest → (c : ℕ) → Says (suc d) v (Fields c) → (w : Walked) → Says d rest w
+      → Says d s (plus c (h + n) w)
+  says-template t g c (is, li, shi, ei, ci) (Fields m) (ts, l, sh, e, q) = (
     template tag is ts,
     (t, rw ei brief, li, l),
     (g, shi, sh),
     ap (λ (r : List ℕ). field tag r ++ encode ts) ei ∙ ap (λ (r : List ℕ). field tag v ++ r) e ∙ sym split,
     rw (ci, q),
   )
-  says-template t g c (is, li, shi, ei, ci) (faults f k) x =
+  says-template t g c (is, li, shi, ei, ci) (Refused f k) x =
       behind d (template tag is none) (field tag v) rest s f k (h + n) (t, rw ei brief, li, tt) (g, shi, tt)
       (append-nil (field tag (encode is)) ∙ ap (field tag) ei) bytes split x
 
@@ -154,14 +151,14 @@ module _ (d : ℕ) (s : List ℕ) (h n : ℕ) (said : HeadSays s (Of h n)) (ends
   says-deep t g = moved split refl (deep tag v rest brief t g)
 
 -- ---- the reader's answer says what it should
-module _ (again : ℕ → List ℕ → Found) (s : List ℕ) (some : 1 ≤ length s)
+module _ (again : ℕ → List ℕ → Walked) (s : List ℕ) (some : 1 ≤ length s)
     (ih : (d levels : ℕ) (t : List ℕ) → d + levels ≡ suc deepest → suc (length t) ≤ length s → Says d t (again levels t)) where
   -- a template, by what its value came to
   by-value : (d h n : ℕ) (said : HeadSays s (Of h n)) (ends : h + n ≤ length s) → isTemplate (tagOf s) ≡ true → d ≤ deepest
-      → (u w : Found) → Says (suc d) (take n (drop h s)) u → Says d (drop (h + n) s) w → Says d s (into (under h u) (h + n) w)
+      → (u w : Walked) → Says (suc d) (take n (drop h s)) u → Says d (drop (h + n) s) w → Says d s (into (inField h u) (h + n) w)
   unfolding tag v rest
-  by-value d h n said ends t g (counts c) w x y = says-template d s h n said ends t g c x w y
-  by-value d h n said ends t g (faults f k) w x y = says-inside d s h n said ends t g f k x
+  by-value d h n said ends t g (Fields c) w x y = says-template d s h n said ends t g c x w y
+  by-value d h n said ends t g (Refused f k) w x y = says-inside d s h n said ends t g f k x
 
   by-levels : (d levels h n : ℕ) → d + levels ≡ suc deepest → (said : HeadSays s (Of h n)) (ends : h + n ≤ length s) → 2 ≤ h
       → isTemplate (tagOf s) ≡ true → Says d s (into (within again levels h (take n (drop h s))) (h + n) (again levels (drop (h + n) s)))

@@ -17,14 +17,14 @@ use Rattle.template_walk.specs.declared.Walked.the-variants.{Fields, Refused}
 use Rattle.template_walk.specs.Walk.{walkOf, WalkOut, report, WALK}
 use Rattle.laws_walk.specs.Trees.{Trees, encode, leaves, Lawful, deepest, Shallow, Encodes, Holds}
 use Rattle.laws_walk.specs.Faults.{FaultAt, head, over, deep, inside, after, FirstFault}
-use Rattle.laws_walk.proofs.Finding.{Found, counts, faults, found, forget, found-walks}
+use Rattle.laws_walk.proofs.Finding.{found, found-walks}
 use Rattle.laws_walk.proofs.Reading.{finds-encoding, finds-fault, Says, found-says}
 
 -- ---- what the reader gives for an input
-answer : List ℕ → Found
+answer : List ℕ → Walked
 answer s = found (length s) deepest s
 
-answer-walks : (s : List ℕ) → forget (answer s) ≡ walkOf s
+answer-walks : (s : List ℕ) → answer s ≡ walkOf s
 unfolding answer
 answer-walks s = found-walks (length s) deepest s (omega arith)
 
@@ -32,41 +32,30 @@ answer-says : (s : List ℕ) → Says 1 s (answer s)
 unfolding answer
 answer-says s = found-says (length s) 1 deepest s refl (omega arith)
 
-answer-fault : (s : List ℕ) (f : Fault) (k : ℕ) → FirstFault s f k → answer s ≡ faults f k
-unfolding answer
-answer-fault s f k x = finds-fault x deepest refl (length s) (omega arith)
-
-answer-trees : (ts : Trees) → Lawful ts → Shallow 1 ts → answer (encode ts) ≡ counts (leaves ts)
-unfolding answer
-answer-trees ts l sh = finds-encoding ts 1 deepest refl l sh (length (encode ts)) (omega arith)
+walk-says : (s : List ℕ) (w : Walked) → walkOf s ≡ w → Says 1 s w
+walk-says s w e = subst (Says 1 s) (answer-walks s ∙ e) (answer-says s)
 
 -- ---- what is taken
 pub walk-trees : (ts : Trees) (s : List ℕ) (n : ℕ) → Encodes ts s n → walkOf s ≡ Fields n
+unfolding answer
 walk-trees ts s n x =
     ap walkOf (sym (x .encoded))
     ∙ sym (answer-walks (encode ts))
-    ∙ ap forget (answer-trees ts (x .lawful) (x .shallow))
+    ∙ finds-encoding ts 1 deepest refl (x .lawful) (x .shallow) (length (encode ts)) (omega arith)
     ∙ ap Fields (x .counted)
 
 pub holds-of : (s : List ℕ) (n : ℕ) → walkOf s ≡ Fields n → Holds s n
-holds-of s n e = go (answer s) (answer-says s) (answer-walks s ∙ e)
-  where
-    go : (w : Found) → Says 1 s w → forget w ≡ Fields n → Holds s n
-    go (counts m) (ts, l, sh, q, c) g =
-        let same : m ≡ n = cc in
-        (ts, record { lawful = l; shallow = sh; encoded = q; counted = c ∙ same })
-    go (faults f k) x g = absurd (let z : _≡_ {A = ℕ} 0 1 = cc in omega arith)
+holds-of s n e =
+    let (ts, l, sh, q, c) = walk-says s (Fields n) e in
+    (ts, record { lawful = l; shallow = sh; encoded = q; counted = c })
 
--- ---- what is refused
-pub walk-fault : (s : List ℕ) (f : Fault) (k : ℕ) → FirstFault s f k → walkOf s ≡ Refused f
-walk-fault s f k x = sym (answer-walks s) ∙ ap forget (answer-fault s f k x)
+-- ---- what is refused: WALK's fault and place are those of the first fault
+pub walk-fault : (s : List ℕ) (f : Fault) (k : ℕ) → FirstFault s f k → walkOf s ≡ Refused f k
+unfolding answer
+walk-fault s f k x = sym (answer-walks s) ∙ finds-fault x deepest refl (length s) (omega arith)
 
-pub fault-of : (s : List ℕ) (f : Fault) → walkOf s ≡ Refused f → (k : ℕ) × FirstFault s f k
-fault-of s f e = go (answer s) (answer-says s) (answer-walks s ∙ e)
-  where
-    go : (w : Found) → Says 1 s w → forget w ≡ Refused f → (k : ℕ) × FirstFault s f k
-    go (counts m) x g = absurd (let z : _≡_ {A = ℕ} 0 1 = cc in omega arith)
-    go (faults g k) x q = let same : g ≡ f = cc in (k, subst (λ (y : Fault). FirstFault s y k) same x)
+pub fault-of : (s : List ℕ) (f : Fault) (k : ℕ) → walkOf s ≡ Refused f k → FirstFault s f k
+fault-of s f k e = walk-says s (Refused f k) e
 
 -- ---- one of the three, and no two
 pub one-case : (s : List ℕ) → ((n : ℕ) × Holds s n) ⊎ (((k : ℕ) × FirstFault s Malformed k) ⊎ ((k : ℕ) × FirstFault s TooDeep k))
@@ -75,17 +64,17 @@ one-case s = go (walkOf s) refl
     go : (w : Walked) → walkOf s ≡ w
         → ((n : ℕ) × Holds s n) ⊎ (((k : ℕ) × FirstFault s Malformed k) ⊎ ((k : ℕ) × FirstFault s TooDeep k))
     go (Fields n) e = inl (n, holds-of s n e)
-    go (Refused Malformed) e = inr (inl (fault-of s Malformed e))
-    go (Refused TooDeep) e = inr (inr (fault-of s TooDeep e))
+    go (Refused Malformed k) e = inr (inl (k, fault-of s Malformed k e))
+    go (Refused TooDeep k) e = inr (inr (k, fault-of s TooDeep k e))
 
 pub not-both : (s : List ℕ) (n : ℕ) (f : Fault) (k : ℕ) → Holds s n → FirstFault s f k → ⊥
 not-both s n f k (ts, h) x =
-    let p : Fields n ≡ Refused f = sym (walk-trees ts s n h) ∙ walk-fault s f k x in
+    let p : Fields n ≡ Refused f k = sym (walk-trees ts s n h) ∙ walk-fault s f k x in
     let z : _≡_ {A = ℕ} 0 1 = cc in omega arith
 
 pub one-fault : (s : List ℕ) (f g : Fault) (j k : ℕ) → FirstFault s f j → FirstFault s g k → (f ≡ g) × (j ≡ k)
 one-fault s f g j k x y =
-    let p : faults f j ≡ faults g k = sym (answer-fault s f j x) ∙ answer-fault s g k y in
+    let p : Refused f j ≡ Refused g k = sym (walk-fault s f j x) ∙ walk-fault s g k y in
     (cc, cc)
 
 -- ---- the place is that of a byte of the input, and of a template's tag where the fault is that it stands too deep
@@ -112,8 +101,8 @@ fault-tag (after {k = k} ts rest l sh x) e = rw (getD-append-add (encode ts) res
 -- ---- WALK, by the numbers of its refusals
 pub counts-fields : (w : Walked) (n : ℕ) → report w ≡ record { refusal = 0; count = n } → w ≡ Fields n
 counts-fields (Fields m) n e = ap (λ (r : WalkOut). Fields (r .count)) e
-counts-fields (Refused Malformed) n e = absurd (omega (arith, ap (λ (r : WalkOut). r .refusal) e))
-counts-fields (Refused TooDeep) n e = absurd (omega (arith, ap (λ (r : WalkOut). r .refusal) e))
+counts-fields (Refused Malformed k) n e = absurd (omega (arith, ap (λ (r : WalkOut). r .refusal) e))
+counts-fields (Refused TooDeep k) n e = absurd (omega (arith, ap (λ (r : WalkOut). r .refusal) e))
 
 pub walk-encodes : {ts : Trees} {s : List ℕ} {n : ℕ} → Encodes ts s n → WALK s ≡ record { refusal = 0; count = n }
 walk-encodes {ts} {s} {n} x = ap report (walk-trees ts s n x)
@@ -122,17 +111,17 @@ pub taken : (s : List ℕ) (n : ℕ) → WALK s ≡ record { refusal = 0; count 
 taken s n = (λ e. holds-of s n (counts-fields (walkOf s) n e), λ h. walk-encodes (h .1))
 
 pub malformed : (s : List ℕ) → WALK s .refusal ≡ 4 ↔ ((k : ℕ) × FirstFault s Malformed k)
-malformed s = (λ e. fault-of s Malformed (go (walkOf s) e), λ x. ap (λ (w : Walked). report w .refusal) (walk-fault s Malformed (x .0) (x .1)))
+malformed s = (go (walkOf s) refl, λ x. ap (λ (w : Walked). report w .refusal) (walk-fault s Malformed (x .0) (x .1)))
   where
-    go : (w : Walked) → report w .refusal ≡ 4 → w ≡ Refused Malformed
-    go (Fields m) e = absurd (omega arith)
-    go (Refused Malformed) e = refl
-    go (Refused TooDeep) e = absurd (omega arith)
+    go : (w : Walked) → walkOf s ≡ w → report w .refusal ≡ 4 → (k : ℕ) × FirstFault s Malformed k
+    go (Fields m) e g = absurd (omega arith)
+    go (Refused Malformed k) e g = (k, fault-of s Malformed k e)
+    go (Refused TooDeep k) e g = absurd (omega arith)
 
 pub too-deep : (s : List ℕ) → WALK s .refusal ≡ 5 ↔ ((k : ℕ) × FirstFault s TooDeep k)
-too-deep s = (λ e. fault-of s TooDeep (go (walkOf s) e), λ x. ap (λ (w : Walked). report w .refusal) (walk-fault s TooDeep (x .0) (x .1)))
+too-deep s = (go (walkOf s) refl, λ x. ap (λ (w : Walked). report w .refusal) (walk-fault s TooDeep (x .0) (x .1)))
   where
-    go : (w : Walked) → report w .refusal ≡ 5 → w ≡ Refused TooDeep
-    go (Fields m) e = absurd (omega arith)
-    go (Refused Malformed) e = absurd (omega arith)
-    go (Refused TooDeep) e = refl
+    go : (w : Walked) → walkOf s ≡ w → report w .refusal ≡ 5 → (k : ℕ) × FirstFault s TooDeep k
+    go (Fields m) e g = absurd (omega arith)
+    go (Refused Malformed k) e g = absurd (omega arith)
+    go (Refused TooDeep k) e g = (k, fault-of s TooDeep k e)

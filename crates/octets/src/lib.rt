@@ -60,19 +60,19 @@ pub fn put(buf: &mut [u8], at: usize, src: &[u8])
     }
 }
 
-// Whether two slices hold the same bytes.
+// Whether two slices hold the same bytes. Slices of the same length are compared to their end: the loop does not stop at the first difference.
 pub fn same(a: &[u8], b: &[u8]) -> bool
     ensures { λ r. ⌜ r ≡ sameBytes (now (a .entry)) (now (b .entry)) ⌝ }
 {
     if a.len() != b.len() {
         return false;
     }
+    let mut equal = true;
     let mut i = 0;
     while i < a.len() {
-        if a[i] != b[i] {
-            return false;
-        }
+        let here = a[i] == b[i];
+        equal = equal & here;
         i += 1;
     }
-    true
+    equal
 }

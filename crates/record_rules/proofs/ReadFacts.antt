@@ -10,14 +10,13 @@ use lib.Dec.{ltb}
 use lib.ListN.{length, length-append}
 use lib.Seq.{length-take-le}
 use borrow.Author.Tests.{le-ltb}
-use Rattle.octets.specs.Bytes.{sameBytes}
-use Rattle.octets.proofs.Lists.{same-refl, same-eq}
+use Rattle.octets.proofs.Lists.{same-eq}
 use Rattle.card.specs.declared.Card.{Card}
 use Rattle.card.specs.declared.Path.{Path}
 use Rattle.card.specs.Sizes.{uidBytes, publicKeyBytes, keyBytes, pathMostBytes}
 use Rattle.card.specs.State.{zeros, freshOf, resetOf, keyUid, pathBytes}
 use Rattle.card.specs.Shape.{Shaped}
-use Rattle.card.specs.Slots.{isZero}
+use Rattle.card.specs.Slots.{someOf, isZero}
 use Rattle.card.specs.Sound.{isSound}
 use Rattle.card.proofs.Tests.{both}
 use Rattle.card.proofs.Rules.{sound-cases}
@@ -28,18 +27,24 @@ use Rattle.sound.specs.Reset.{done, refused}
 use Rattle.record_rules.specs.Fields.{Field, encode, encodeAll, identityFields, ownerFields, fields, recordOf}
 use Rattle.record_rules.specs.Lengths.{recordFieldBytes, recordFresh, recordLeast, recordMost, writeRoom}
 use Rattle.record_rules.specs.Parse.{cardOf}
+use Rattle.record_rules.specs.Forms.{writtenForm, forms, isInForm, first, InForm}
 use Rattle.record_rules.specs.Answers.{writeRefusal, writeBytes, isRecordOf, readAnswer}
 use Rattle.record_rules.proofs.ParseFacts.{slots-long}
-use Rattle.record_rules.proofs.RecordFacts.{card-record}
+use Rattle.record_rules.proofs.FormFacts.{passes, one-form, reset-in-form, card-in-form}
 
 -- ---- READ of WRITE of a sound card is RESET of it
-reset-record : (c : Card) → recordOf (resetOf c) ≡ recordOf c
-unfolding recordOf fields
-reset-record c = refl
+pub read-in-form : (s : List ℕ) (c : Card) → Shaped c → isSound c ≡ true → InForm s c forms → readAnswer s ≡ done (resetOf c)
+unfolding readAnswer isRecordOf
+read-in-form s c w e r =
+    rw (card-in-form s c r w e, reset-sound c e, passes s (resetOf c) forms (reset-in-form s c r))
+
+-- a card's record is in the form that WRITE writes
+pub record-in-form : (c : Card) → InForm (recordOf c) c forms
+unfolding recordOf
+record-in-form c = record { form = writtenForm; listed = first []; held = refl; bytes = refl }
 
 pub read-record : (c : Card) → Shaped c → isSound c ≡ true → readAnswer (recordOf c) ≡ done (resetOf c)
-unfolding readAnswer isRecordOf
-read-record c w e = rw (card-record c w e, reset-sound c e, reset-record c, same-refl (recordOf c))
+read-record c w e = read-in-form (recordOf c) c w e (record-in-form c)
 
 pub read-write : (c : Card) (room : ℕ) → Shaped c → writeRefusal c room ≡ noRefusal
     → readAnswer (writeBytes c room) ≡ done (resetOf c)
@@ -57,10 +62,10 @@ read-write c room w e = by-sound (isSound c) refl e
     by-sound false s h = absurd (omega arith)
 
 -- ---- what READ gives
--- taken: the bytes are the card's record, and the card is sound
+-- taken: the card is sound, and the bytes are its record in one of the forms
 pub record Took (s : List ℕ) (c : Card) : Type 0 where
   pub sound : isSound c ≡ true
-  pub written : recordOf c ≡ s
+  pub tested : someOf (isInForm s c) forms ≡ true
 
 -- the two answers
 pub read-cases : (s : List ℕ)
@@ -72,8 +77,8 @@ read-cases s = by-test (isRecordOf s (cardOf s)) refl
         → ((cond b (done (cardOf s)) (refused notRecord (freshOf (zeros uidBytes) (zeros publicKeyBytes))) ≡ done (cardOf s)) × Took s (cardOf s))
         ⊎ (cond b (done (cardOf s)) (refused notRecord (freshOf (zeros uidBytes) (zeros publicKeyBytes))) ≡ refused notRecord (freshOf (zeros uidBytes) (zeros publicKeyBytes)))
     by-test true e =
-        let h = both (isSound (cardOf s)) (sameBytes (recordOf (cardOf s)) s) e in
-        inl (refl, record { sound = h .0; written = same-eq (recordOf (cardOf s)) s (h .1) })
+        let h = both (isSound (cardOf s)) (someOf (isInForm s (cardOf s)) forms) e in
+        inl (refl, record { sound = h .0; tested = h .1 })
     by-test false e = inr refl
 
 card-of-reset : (s : List ℕ) → resetOf (cardOf s) ≡ cardOf s
@@ -93,10 +98,10 @@ read-reset s = ⊎-elim
     (λ e. ap (λ (a : Answer). resetOf (a .card)) e ∙ sym (ap (λ (a : Answer). a .card) e))
     (read-cases s)
 
--- ---- WRITE of what READ took is the record, byte for byte
+-- ---- WRITE of what READ took is the record, byte for byte: there is one form
 pub record-read : (s : List ℕ) → readAnswer s .refusal ≡ noRefusal → recordOf (readAnswer s .card) ≡ s
 record-read s h = ⊎-elim
-    (λ t. ap (λ (a : Answer). recordOf (a .card)) (t .0) ∙ t .1 .written)
+    (λ t. ap (λ (a : Answer). recordOf (a .card)) (t .0) ∙ same-eq (recordOf (cardOf s)) s (sym (one-form s (cardOf s)) ∙ t .1 .tested))
     (λ e. absurd (eight (sym (ap (λ (a : Answer). a .refusal) e) ∙ h)))
     (read-cases s)
   where
@@ -109,13 +114,18 @@ unfolding writeRefusal writeBytes
 write-read s room h r =
     (rw (read-sound s, le-ltb room writeRoom r), rw (read-sound s, le-ltb room writeRoom r) (record-read s h))
 
--- ---- which bytes READ refuses: those that are no sound card's record
+-- ---- which bytes READ refuses: those that are no sound card's record in any form
 pub read-refuses : (s : List ℕ) → readAnswer s .refusal ≡ notRecord
-    → (c : Card) → Shaped c → isSound c ≡ true → recordOf c ≡ s → ⊥
-read-refuses s h c w e r = zero-eight (sym (ap (λ (a : Answer). a .refusal) (read-record c w e)) ∙ ap (λ (x : List ℕ). readAnswer x .refusal) r ∙ h)
+    → (c : Card) → Shaped c → isSound c ≡ true → InForm s c forms → ⊥
+read-refuses s h c w e r = zero-eight (sym (ap (λ (a : Answer). a .refusal) (read-in-form s c w e r)) ∙ h)
   where
     zero-eight : _≡_ {A = ℕ} 0 8 → ⊥
     zero-eight p = omega arith
+
+-- ---- no bytes are the records of two different sound reset cards, whatever the forms
+pub one-card : (s : List ℕ) (c d : Card) → Shaped c → Shaped d → isSound c ≡ true → isSound d ≡ true
+    → InForm s c forms → InForm s d forms → resetOf c ≡ resetOf d
+one-card s c d w v e g r t = sym (card-in-form s c r w e) ∙ card-in-form s d t v g
 
 -- ---- how long a record is
 abbrev total : List Field → ℕ

@@ -1,4 +1,5 @@
 pub mod Fields
 pub mod Lengths
 pub mod Parse
+pub mod Forms
 pub mod Answers

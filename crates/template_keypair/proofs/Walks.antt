@@ -19,7 +19,7 @@ use Rattle.template_rules.proofs.HeadFacts.{read-length, length-read, field-len
 use Rattle.template_walk.specs.declared.Walked.the-variants.{Fields}
 use Rattle.template_walk.specs.Walk.{plus, sequenceOf, walkOf}
 use Rattle.template_walk.proofs.WalkFacts.{sequence-empty}
-use Rattle.template_walk.proofs.Joining.{sequence-join, walk-plain, walk-template}
+use Rattle.template_walk.proofs.Joining.{inField, sequence-join, walk-plain, walk-template}
 use Rattle.template_keypair.specs.Keypair.{Place, exactly, publicKey, privateFields, keypairFields, keypairWith, keypair}
 
 -- ---- tests that pass
@@ -63,7 +63,7 @@ exactly-walks (f ∷ layout) levels s p e =
     let v = value (f .tag) (f .bytes) s in
     ap (sequenceOf levels) (begins-field (f .tag) (f .bytes) s (t .0))
     ∙ sequence-join levels (drop (fieldBytes (f .bytes)) s) (field (f .tag) v) 1 (walk-plain (f .tag) v (value-brief (f .tag) (f .bytes) s (t .0)) levels (p .0))
-    ∙ ap (plus 1) (exactly-walks layout levels (drop (fieldBytes (f .bytes)) s) (p .1) (t .1))
+    ∙ ap (plus 1 (length (field (f .tag) v))) (exactly-walks layout levels (drop (fieldBytes (f .bytes)) s) (p .1) (t .1))
     ∙ ap Fields (one-add (length layout))
 
 -- a field that is written is taken, and what follows it is left
@@ -110,10 +110,11 @@ pub keypair-walks : (chain : Bool) (s : List ℕ) → keypair chain s ≡ true
     → (walkOf s ≡ Fields (length (publicKey ∷ privateFields chain))) ⊎ (walkOf s ≡ Fields (length (privateFields chain)))
 keypair-walks chain s e =
     let k = keypair-value chain s e in
-    let inside : walkOf s ≡ sequenceOf 3 (k .0) = ap walkOf (k .1) ∙ walk-template 0xA1 (k .0) (k .3) 3 refl in
+    let h = length (fieldHead 0xA1 (length (k .0))) in
+    let inside : walkOf s ≡ inField h (sequenceOf 3 (k .0)) = ap walkOf (k .1) ∙ walk-template 0xA1 (k .0) (k .3) 3 refl in
     ⊎-elim
-    (λ t. inl (inside ∙ exactly-walks (publicKey ∷ privateFields chain) 3 (k .0) (refl, plain-private chain) t))
-    (λ t. inr (inside ∙ exactly-walks (privateFields chain) 3 (k .0) (plain-private chain) t))
+    (λ t. inl (inside ∙ ap (inField h) (exactly-walks (publicKey ∷ privateFields chain) 3 (k .0) (refl, plain-private chain) t)))
+    (λ t. inr (inside ∙ ap (inField h) (exactly-walks (privateFields chain) 3 (k .0) (plain-private chain) t)))
     (either (exactly (publicKey ∷ privateFields chain) (k .0)) (exactly (privateFields chain) (k .0)) (k .2))
 
 -- its value has one of two lengths, so that the template begins A1 65 or A1 22 for P1 01, A1 81 87 or A1 44 for P1 02

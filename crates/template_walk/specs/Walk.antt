@@ -1,5 +1,6 @@
--- WALK (RULES 9.3): how many fields that are not templates a sequence of fields holds, or the first fault from the left.
--- Every length is a number of bytes.
+-- WALK (RULES 9.3): how many fields that are not templates a sequence of fields holds, or the first fault from the left, with its place: how
+-- many bytes come before the tag of its field.
+-- Every length and place is a number of bytes.
 use mathlib.Core.Bool.{cond}
 use mathlib.Core.List.{List}
 use Prim.Native.Nat.{ℕ, zero, suc, _+_}
@@ -16,45 +17,46 @@ use Rattle.template_walk.specs.declared.Field.the-variants.{Whole, Fault
 use Rattle.template_walk.specs.declared.Walked.{Walked}
 use Rattle.template_walk.specs.declared.Walked.the-variants.{Fields, Refused}
 
--- a template of this many bytes whose value came to w
-abbrev pub asField : ℕ → Walked → Field
-asField bytes (Fields n) = Whole n bytes
-asField bytes (Refused f) = Faulty f
+-- a template by its head, of h bytes, its value v, and what that came to; a place in the value is counted from the template's tag on
+abbrev pub asField : ℕ → List ℕ → Walked → Field
+asField h v (Fields n) = Whole n (h + length v)
+asField h v (Refused f at) = Faulty f (h + at)
 
 -- the field that begins s, whose head is h (RULES 9.3, the order of tests): the end within the parent, then depth and content by `inside`,
--- which walks a template's value
-unfoldable pub fieldWith : (List ℕ → Walked) → List ℕ → Head → Field
-fieldWith inside s Unreadable = Faulty Malformed
+-- which takes a template by its head's length and its value
+unfoldable pub fieldWith : (ℕ → List ℕ → Field) → List ℕ → Head → Field
+fieldWith inside s Unreadable = Faulty Malformed 0
 fieldWith inside s (Of h n) =
-    cond (ltb (length s) (h + n)) (Faulty Malformed)
-    (cond (isTemplate (tagOf s)) (asField (h + n) (inside (take n (drop h s)))) (Whole 1 (h + n)))
+    cond (ltb (length s) (h + n)) (Faulty Malformed 0)
+    (cond (isTemplate (tagOf s)) (inside h (take n (drop h s))) (Whole 1 (h + n)))
 
-abbrev pub readField : (List ℕ → Walked) → List ℕ → Field
+abbrev pub readField : (ℕ → List ℕ → Field) → List ℕ → Field
 readField inside s = fieldWith inside s (readHead s)
 
-abbrev pub plus : ℕ → Walked → Walked
-plus c (Fields n) = Fields (c + n)
-plus c (Refused f) = Refused f
+-- c fields in b bytes, and then what follows them
+abbrev pub plus : ℕ → ℕ → Walked → Walked
+plus c b (Fields n) = Fields (c + n)
+plus c b (Refused f at) = Refused f (b + at)
 
 -- a field, and then what follows it
 abbrev pub andThen : Field → (ℕ → Walked) → Walked
-andThen (Whole c bytes) rest = plus c (rest bytes)
-andThen (Faulty f) rest = Refused f
+andThen (Whole c b) rest = plus c b (rest b)
+andThen (Faulty f at) rest = Refused f at
 
 -- the fields of s, one after the other; at most n of them, and there are never more than s has bytes
-unfoldable pub fieldsOf : (List ℕ → Walked) → ℕ → List ℕ → Walked
+unfoldable pub fieldsOf : (ℕ → List ℕ → Field) → ℕ → List ℕ → Walked
 fieldsOf inside zero s = Fields 0
 fieldsOf inside (suc n) s =
     cond (eqb (length s) 0) (Fields 0) (andThen (readField inside s) (λ (bytes : ℕ). fieldsOf inside n (drop bytes s)))
 
--- the value of a template, where this many more levels may be entered (RULES 9.2)
-unfoldable pub valueOf : ℕ → List ℕ → Walked
-valueOf zero s = Refused TooDeep
-valueOf (suc levels) s = fieldsOf (valueOf levels) (length s) s
+-- a template with a head of h bytes and the value v, where this many levels may be entered (RULES 9.2)
+unfoldable pub templateOf : ℕ → ℕ → List ℕ → Field
+templateOf zero h v = Faulty TooDeep 0
+templateOf (suc levels) h v = asField h v (fieldsOf (templateOf levels) (length v) v)
 
 -- a sequence of fields that may hold templates within templates to this many levels
 abbrev pub sequenceOf : ℕ → List ℕ → Walked
-sequenceOf levels s = fieldsOf (valueOf levels) (length s) s
+sequenceOf levels s = fieldsOf (templateOf levels) (length s) s
 
 -- a template at the top is at depth 1, and depth 4 is the last that is read (RULES 9.2)
 abbrev pub walkOf : List ℕ → Walked
@@ -72,7 +74,7 @@ pub record WalkOut : Type 0 where
 
 abbrev pub report : Walked → WalkOut
 report (Fields n) = record { refusal = noRefusal; count = n }
-report (Refused f) = record { refusal = refusalNumber f; count = 0 }
+report (Refused f at) = record { refusal = refusalNumber f; count = 0 }
 
 -- WALK (RULES 9.3)
 abbrev pub WALK : List ℕ → WalkOut

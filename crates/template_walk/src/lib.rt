@@ -1,8 +1,8 @@
 // WALK (RULES 9.3): how many fields that are not templates some bytes hold, or why they are no templates.
-// Every length is in bytes; depth is counted in templates, a template at the top being at depth 1.
+// Every length and place is in bytes; depth is counted in templates, a template at the top being at depth 1.
 // Proved: for any bytes the answer is what the definition of WALK gives. Calls nest only as deep as templates do.
 ghost use mathlib.Core.Path.{_≡_};
-ghost use Rattle.template_walk.specs.Walk.{readField, valueOf, sequenceOf, walkOf, report, WALK};
+ghost use Rattle.template_walk.specs.Walk.{readField, templateOf, sequenceOf, walkOf, report, WALK};
 use refusals::REFUSAL_MALFORMED;
 use refusals::REFUSAL_NONE;
 use refusals::REFUSAL_TOO_DEEP;
@@ -19,31 +19,39 @@ pub enum Fault {
     TooDeep,
 }
 
-// How many fields that are not templates there are, or the first fault from the left.
+// How many fields that are not templates there are, or the first fault from the left and the place of its field: how many bytes come before
+// the tag.
 pub enum Walked {
     Fields(usize),
-    Refused(Fault),
+    Refused { fault: Fault, at: usize },
 }
 
-// One field: how many fields that are not templates it is or holds, and its length in bytes.
+// One field: how many fields that are not templates it is or holds, and its length in bytes; or its first fault and the place, counted from
+// the field's own tag.
 pub enum Field {
     Whole { fields: usize, bytes: usize },
-    Faulty(Fault),
+    Faulty { fault: Fault, at: usize },
 }
 
 // The field that begins s, where templates may nest this many levels from here.
 fn read_field(s: &[u8], levels: usize) -> Field
-    ensures { λ r. ⌜ r ≡ readField (valueOf levels) (now (s .entry)) ⌝ }
+    ensures { λ r. ⌜ r ≡ readField (templateOf levels) (now (s .entry)) ⌝ }
 {
     let Head::Of {
         head_bytes,
         value_bytes,
     } = read_head(s)
     else {
-        return Field::Faulty(Fault::Malformed);
+        return Field::Faulty {
+            fault: Fault::Malformed,
+            at: 0,
+        };
     };
     if s.len() - head_bytes < value_bytes {
-        return Field::Faulty(Fault::Malformed);
+        return Field::Faulty {
+            fault: Fault::Malformed,
+            at: 0,
+        };
     }
     let end = head_bytes + value_bytes;
     if s[0] & TEMPLATE_BIT != TEMPLATE_BIT {
@@ -53,14 +61,20 @@ fn read_field(s: &[u8], levels: usize) -> Field
         };
     }
     if levels == 0 {
-        return Field::Faulty(Fault::TooDeep);
+        return Field::Faulty {
+            fault: Fault::TooDeep,
+            at: 0,
+        };
     }
     match read_sequence(&s[head_bytes..end], levels - 1) {
         Walked::Fields(fields) => Field::Whole {
             fields: fields,
             bytes: end,
         },
-        Walked::Refused(fault) => Field::Faulty(fault),
+        Walked::Refused { fault, at } => {
+            let place = head_bytes + at;
+            Field::Faulty { fault, at: place }
+        }
     }
 }
 
@@ -76,7 +90,10 @@ fn read_sequence(s: &[u8], levels: usize) -> Walked
                 count += fields;
                 at += bytes;
             }
-            Field::Faulty(fault) => return Walked::Refused(fault),
+            Field::Faulty { fault, at: inside } => {
+                let place = at + inside;
+                return Walked::Refused { fault, at: place };
+            }
         }
     }
     Walked::Fields(count)
@@ -95,7 +112,7 @@ pub fn refusal(w: Walked) -> u8
 {
     match w {
         Walked::Fields(_) => REFUSAL_NONE,
-        Walked::Refused(fault) => match fault {
+        Walked::Refused { fault, at: _ } => match fault {
             Fault::Malformed => REFUSAL_MALFORMED,
             Fault::TooDeep => REFUSAL_TOO_DEEP,
         },
@@ -108,6 +125,6 @@ pub fn count(w: Walked) -> usize
 {
     match w {
         Walked::Fields(fields) => fields,
-        Walked::Refused(_) => 0,
+        Walked::Refused { fault: _, at: _ } => 0,
     }
 }

@@ -1,4 +1,4 @@
--- The card's record is written again, and compared with the bytes.
+-- The card's record is written again, and compared with the bytes: there is one form.
 -- Assumes nothing.
 use mathlib.Core.Path.{sym, ap, _∙_}
 use mathlib.Core.List.{List}
@@ -10,6 +10,7 @@ use Rattle.octets.specs.Bytes.{sameBytes}
 use Rattle.card.proofs.SoundFacts.{path-lengths}
 use Rattle.record_rules.specs.Fields.{recordOf}
 use Rattle.record_rules.specs.Answers.{isRecordOf}
+use Rattle.record_rules.proofs.FormFacts.{one-form}
 use Rattle.record_read.proofs.PutFacts.{put-taken}
 use borrow.Author.Needs.{needs}
 use Rattle.record_read.proofs.is_record_of.Statement.{statement}
@@ -39,7 +40,12 @@ same-requires c κs = search needs
 
 returns-2 : tie.Need-returns-2
 unfolding isRecordOf recordOf
-returns-2 c = rw (sym (c .before .before .before .before .before .before .sound .ensures) ∙ not-false _ (c .before .before .before .before .before .if1 .left)) (c .same .ensures ∙ ap (λ (l : List ℕ). sameBytes l (c .before .before .before .before .before .before .before .before .args .s .now)) (put-taken (c .before .before .before .put-record .ensures .0) (c .before .before .before .put-record .ensures .1)))
+returns-2 c =
+    let given = c .before .before .before .before .before .before .before .before .args in
+    rw (sym (c .before .before .before .before .before .before .sound .ensures) ∙ not-false _ (c .before .before .before .before .before .if1 .left))
+    (c .same .ensures
+    ∙ ap (λ (l : List ℕ). sameBytes l (given .s .now)) (put-taken (c .before .before .before .put-record .ensures .0) (c .before .before .before .put-record .ensures .1))
+    ∙ sym (one-form (given .s .now) (given .card)))
 
 pub is-record-of-spec : {M : Type 1} → statement M
 is-record-of-spec =

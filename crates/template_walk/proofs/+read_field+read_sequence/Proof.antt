@@ -10,10 +10,10 @@ use borrow.Fn.Kinds.{In}
 use borrow.Fn.PlainCycle.{Measures, is, falls, and}
 use Rattle.template_rules.proofs.HeadFacts.{head-facts}
 use Rattle.template_rules.proofs.Parts.{length-part-from}
-use Rattle.template_walk.specs.Walk.{asField, plus, sequenceOf}
+use Rattle.template_walk.specs.Walk.{plus, sequenceOf}
 use Rattle.template_walk.proofs.WalkFacts.{plus-none}
-use Rattle.template_walk.proofs.Reading.{field-unreadable, field-overruns, field-plain, field-too-deep, field-of-value}
-use Rattle.template_walk.proofs.Reading.{field-facts, sequence-next, sequence-faulty, sequence-end}
+use Rattle.template_walk.proofs.Reading.{field-unreadable, field-overruns, field-plain, field-too-deep, field-whole, field-fault, fault-within}
+use Rattle.template_walk.proofs.Reading.{field-facts, fault-facts, sequence-next, sequence-faulty, sequence-end}
 use Rattle.template_walk.proofs.+read_field+read_sequence.{statement}
 use Rattle.template_walk.proofs.+read_field+read_sequence.Tie.{close}
 use Rattle.template_walk.proofs.read_field.Reads as field
@@ -162,6 +162,21 @@ read-field-enum-known-fault : (t : ℕ)
     → field-lts.Need-enum-known-fault (head.Asked, head.Learnt, sequence-below t, sequence.Post) (field-at t) field.Post
 read-field-enum-known-fault t c = search needs
 
+read-field-add-place : (t : ℕ)
+    → field-lts.Need-add-place (head.Asked, head.Learnt, sequence-below t, sequence.Post) (field-at t) field.Post
+read-field-add-place t c =
+    let b3 = c .before .before .before in
+    let b5 = b3 .before .before in
+    let b6 = b5 .before in
+    let b8 = b6 .before .before in
+    let b10 = b8 .before .before in
+    let b12 = b10 .before .before in
+    let b14 = b12 .before .before in
+    let h = head-facts (b14 .args .s .now) _ _ _ (b12 .read-head .ensures .0) (b10 .head-bytes .given .1) in
+    let k = fault-within (b14 .args .levels) (b14 .args .s .now) _ (b12 .read-head .ensures .0) _ _ (b10 .head-bytes .given .1)
+    (b8 .if1 .left) (b6 .if2 .left) (b5 .if3 .left) _ (b3 .read-sequence .ensures) _ _ (c .before .fault .given .1) in
+    omega (arith, h, k)
+
 read-field-returns-5 : (t : ℕ)
     → field-lts.Need-returns-5 (head.Asked, head.Learnt, sequence-below t, sequence.Post) (field-at t) field.Post
 read-field-returns-5 t c =
@@ -172,9 +187,8 @@ read-field-returns-5 t c =
     let b10 = b8 .before .before in
     let b12 = b10 .before .before in
     let b14 = b12 .before .before in
-    ap (asField _) (sym (c .before .fields .given .1))
-    ∙ field-of-value (b14 .args .levels) (b14 .args .s .now) _ (b12 .read-head .ensures .0) _ _ (b10 .head-bytes .given .1)
-    (b8 .if1 .left) (b6 .if2 .left) (b5 .if3 .left) _ (b3 .read-sequence .ensures)
+    field-whole (b14 .args .levels) (b14 .args .s .now) _ (b12 .read-head .ensures .0) _ _ (b10 .head-bytes .given .1)
+    (b8 .if1 .left) (b6 .if2 .left) (b5 .if3 .left) _ (b3 .read-sequence .ensures) _ (c .before .fields .given .1)
 
 read-field-returns-6 : (t : ℕ)
     → field-lts.Need-returns-6 (head.Asked, head.Learnt, sequence-below t, sequence.Post) (field-at t) field.Post
@@ -186,13 +200,12 @@ read-field-returns-6 t c =
     let b10 = b8 .before .before in
     let b12 = b10 .before .before in
     let b14 = b12 .before .before in
-    ap (asField _) (sym (c .before .fault .given .1))
-    ∙ field-of-value (b14 .args .levels) (b14 .args .s .now) _ (b12 .read-head .ensures .0) _ _ (b10 .head-bytes .given .1)
-    (b8 .if1 .left) (b6 .if2 .left) (b5 .if3 .left) _ (b3 .read-sequence .ensures)
+    field-fault (b14 .args .levels) (b14 .args .s .now) _ (b12 .read-head .ensures .0) _ _ (b10 .head-bytes .given .1)
+    (b8 .if1 .left) (b6 .if2 .left) (b5 .if3 .left) _ (b3 .read-sequence .ensures) _ _ (c .before .fault .given .1)
 
 abbrev read-sequence-Inv-loop : sequence-lts.InvT-loop
 read-sequence-Inv-loop s levels count₀ at₀ count at =
-    (at ≤ length s) × (count ≤ at) × (sequenceOf levels s ≡ plus count (sequenceOf levels (drop at s)))
+    (at ≤ length s) × (count ≤ at) × (sequenceOf levels s ≡ plus count at (sequenceOf levels (drop at s)))
 
 abbrev read-sequence-μ-loop : sequence-lts.MeasureT-loop
 read-sequence-μ-loop s levels count₀ at₀ count at = length s - at
@@ -275,6 +288,17 @@ read-sequence-enum-known-fault : (t : ℕ)
     → sequence-lts.Need-enum-known-fault (field-below t, field.Post) (sequence-at t) sequence.Post read-sequence-Inv-loop read-sequence-μ-loop
 read-sequence-enum-known-fault t c = search needs
 
+read-sequence-add-place : (t : ℕ)
+    → sequence-lts.Need-add-place (field-below t, field.Post) (sequence-at t) sequence.Post read-sequence-Inv-loop read-sequence-μ-loop
+read-sequence-add-place t c =
+    let b3 = c .before .before .before in
+    let b6 = b3 .before .before .before in
+    let b8 = b6 .before .before in
+    omega (
+      arith,
+      fault-facts (b8 .args .levels) (b8 .args .s .now) (b6 .loop .at) _ (b3 .read-field .ensures) _ _ (c .before .fault .given .1),
+    )
+
 read-sequence-returns : (t : ℕ)
     → sequence-lts.Need-returns (field-below t, field.Post) (sequence-at t) sequence.Post read-sequence-Inv-loop read-sequence-μ-loop
 read-sequence-returns t c =
@@ -283,7 +307,7 @@ read-sequence-returns t c =
     let b6 = b5 .before in
     let b8 = b6 .before .before in
     let a = b8 .args in let l = b6 .loop in
-    sequence-faulty (a .levels) (a .s .now) (l .at) _ (b3 .read-field .ensures) (l .count) (b5 .loop-test .taken) (l .inv .2) _
+    sequence-faulty (a .levels) (a .s .now) (l .at) _ (b3 .read-field .ensures) (l .count) (b5 .loop-test .taken) (l .inv .2) _ _
     (c .before .fault .given .1)
 
 read-sequence-returns-2 : (t : ℕ)
@@ -314,6 +338,7 @@ pub +read-field+read-sequence-spec : {M : Type 1} → statement M
     (read-field-read-sequence-requires t)
     (read-field-enum-known-fields t)
     (read-field-enum-known-fault t)
+    (read-field-add-place t)
     (read-field-returns-5 t)
     (read-field-returns-6 t))
     λ t. sequence-lts.spec
@@ -333,5 +358,6 @@ pub +read-field+read-sequence-spec : {M : Type 1} → statement M
     (read-sequence-loop-less t)
     (read-sequence-loop-again t)
     (read-sequence-enum-known-fault t)
+    (read-sequence-add-place t)
     (read-sequence-returns t)
     (read-sequence-returns-2 t)
