@@ -139,6 +139,13 @@ below-cut w (suc k) s l h = (
   below-cut w k (drop w s) (omega (arith, length-drop w s)) (below-drop 2 w s h),
 )
 
+pub getD-cut : (w k i : ℕ) (s : List ℕ) → i < k → getD (cut w k s) i 0 ≡ number (take w (drop (i * w) s))
+unfolding cut
+getD-cut w zero i s h = absurd (omega arith)
+getD-cut w (suc k) zero s h = rw zero-mul
+getD-cut w (suc k) (suc i) s h =
+    getD-cut w k i (drop w s) (omega arith) ∙ ap (λ (r : List ℕ). number (take w r)) (drop-drop (i * w) w s ∙ rw (suc-mul, add-comm (i * w)))
+
 -- numbers of w bits are cut from their bits again, whatever comes behind
 pub cut-bits : (w : ℕ) (s t : List ℕ) → Below (2 ^ w) s → cut w (length s) (bits w s ++ t) ≡ s
 unfolding cut bits

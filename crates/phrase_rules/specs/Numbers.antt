@@ -1,20 +1,19 @@
--- BIP 39, "Generating the mnemonic": the word numbers of an entropy (RULES 7.12). The entropy is 16, 20, 24, 28 or 32 bytes; its checksum has a bit
--- for each 4 bytes of it (the standard's ENT / 32), and there are 3 numbers for each bit of the checksum.
+-- BIP 39, "Generating the mnemonic": the word numbers of an entropy of 16, 20, 24, 28 or 32 bytes (RULES 7.12).
 use mathlib.Core.List.{List, [], _∷_, _++_}
 use Prim.Native.Nat.{ℕ, _*_, _/_, _%_}
 use lib.ListN.{length, take}
 use Rattle.sha_rules.specs.Hash.{sha256}
 use Rattle.phrase_rules.specs.Bits.{bits, cut}
 
--- the checksum's size in bits
+-- the checksum's size in bits: a 32nd of the entropy's size in bits (the standard's CS = ENT / 32)
 abbrev pub checksumSize : List ℕ → ℕ
-checksumSize entropy = length entropy / 4
+checksumSize entropy = length entropy * 8 / 32
 
 -- the checksum: the first bits of the entropy's SHA-256
 unfoldable pub checksum : List ℕ → List ℕ
 checksum entropy = take (checksumSize entropy) (bits 8 (sha256 entropy))
 
--- the entropy's bits, the checksum joined to them, cut into numbers of 11 bits
+-- the entropy's bits, the checksum joined to them, cut into numbers of 11 bits: 3 for each bit of the checksum
 unfoldable pub wordNumbers : List ℕ → List ℕ
 wordNumbers entropy = cut 11 (3 * checksumSize entropy) (bits 8 entropy ++ checksum entropy)
 

@@ -1,0 +1,60 @@
+-- The two numbers hold the 8 bits at the place (`eight-at`).
+-- Assumes nothing.
+use mathlib.Core.Path.{ap, ap₂, sym, _∙_}
+use Prim.Native.Nat.{ℕ, _+_, _-_, _*_, _/_, _%_, _^_}
+use native.Mathlib.Omega.{arith}
+use Rattle.phrase_rules.specs.Reverse.{fromTwoBytes}
+use Rattle.phrase_rules.proofs.Numbers.{length-fromTwoBytes}
+use Rattle.phrase_rules.proofs.Reverse.{eleven-of}
+use Rattle.phrase_bits.proofs.Windows.{eight-at}
+use borrow.Author.Needs.{needs}
+use Rattle.phrase_bits.proofs.byte_at.Statement.{statement}
+use Rattle.phrase_bits.proofs.byte_at.Tie as tie
+
+mul-place : tie.Need-mul-place
+mul-place c = search needs
+
+number-in-requires : tie.Need-number-in-requires
+number-in-requires c κs = search needs
+
+mul-two : tie.Need-mul-two
+mul-two c = search needs
+
+add-number-in : tie.Need-add-number-in
+add-number-in c = search needs
+
+number-in-requires-2 : tie.Need-number-in-requires-2
+number-in-requires-2 c κs = search needs
+
+add-two : tie.Need-add-two
+add-two c = search needs
+
+sub-bits-at : tie.Need-sub-bits-at
+sub-bits-at c = search needs
+
+bits-at-requires : tie.Need-bits-at-requires
+bits-at-requires c κs = search needs
+
+returns : tie.Need-returns
+returns c =
+    let words = c .before .before .before .before .args .words .now in
+    let place = c .before .before .before .before .args .k * 8 in (
+      c .bits-at .ensures
+          ∙ ap₂ (λ (x y : ℕ). (x * 2048 + y) / 2 ^ (14 - place % 11) % 2 ^ 8) (c .before .before .number-in .ensures .0) (c .before .number-in2 .ensures .0)
+          ∙ sym (eight-at (fromTwoBytes words) place (omega (arith, length-fromTwoBytes words)) (eleven-of (fromTwoBytes words) (c .before .before .before .before .pre .1 .1))),
+      omega (arith, c .bits-at .ensures),
+    )
+
+pub byte-at-spec : {M : Type 1} → statement M
+byte-at-spec =
+    tie.close
+    (tie.spec
+    mul-place
+    number-in-requires
+    mul-two
+    add-number-in
+    number-in-requires-2
+    add-two
+    sub-bits-at
+    bits-at-requires
+    returns)
