@@ -3,7 +3,7 @@
 // Proved: each number is the one that the definition cuts from the bits at its place.
 ghost use mathlib.Core.Path.{_≡_};
 ghost use mathlib.Core.Bool.{true};
-ghost use Prim.Native.Nat.{_+_, _*_, _/_, _%_, _^_, _<_};
+ghost use Prim.Native.Nat.{_+_, _-_, _*_, _/_, _%_, _^_, _≤_, _<_};
 ghost use lib.ListN.{length, getD, take, drop};
 ghost use Rattle.phrase_rules.specs.Bits.{bits, number};
 ghost use Rattle.phrase_rules.specs.Reverse.{fromTwoBytes, inElevenBits};
@@ -19,6 +19,14 @@ pub fn bits_at(x: u32, behind: usize, width: usize) -> u32
     ensures { λ r. ⌜ r ≡ x / 2 ^ behind % 2 ^ width ⌝ }
 {
     (x >> behind) % (1 << width)
+}
+
+// The first `width` bits of a byte, high bit first.
+pub fn first_bits(x: u8, width: usize) -> u32
+    requires { ⌜ width ≤ 8 ⌝ }
+    ensures { λ r. ⌜ (r ≡ x / 2 ^ (8 - width) % 2 ^ width) × (x < 256) ⌝ }
+{
+    bits_at(x as u32, BYTE_BITS - width, width)
 }
 
 // Three bytes as one number, the highest first.

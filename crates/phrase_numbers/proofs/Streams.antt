@@ -10,11 +10,10 @@ use lib.Seq.{take-suc, take-suc-set, take-at, take-append-le, take-all, length-t
 use Rattle.octets.specs.Bytes.{overwrite, written}
 use Rattle.octets.proofs.Lists.{length-overwrite, overwrite-start, overwrite-next}
 use Rattle.sha_rules.specs.Hash.{sha256}
-use Rattle.sha_rules.proofs.Blocks.{length-sha256}
 use Rattle.phrase_rules.specs.Bits.{bitsOf, bits, number, cut}
 use Rattle.phrase_rules.specs.Numbers.{checksumSize, checksum, wordNumbers, inTwoBytes, numbersOf}
-use Rattle.phrase_rules.proofs.Bits.{length-bitsOf, getD-cut}
-use Rattle.phrase_rules.proofs.Numbers.{length-joined, length-wordNumbers, length-inTwoBytes, inTwoBytes-append}
+use Rattle.phrase_rules.proofs.Bits.{getD-cut}
+use Rattle.phrase_rules.proofs.Numbers.{checksum-in-byte, length-joined, length-inTwoBytes, inTwoBytes-append}
 use Rattle.phrase_bits.proofs.Windows.{ahead, bits-append}
 
 -- ---- the stream: the entropy and one byte more, in zeros
@@ -23,15 +22,6 @@ pub stream-starts : (e z s : List ℕ) (h : ℕ) → length e < length z → s �
 stream-starts e z s h l p =
     rw add-one (take-suc-set s (length e) h (omega (arith, ap length p, length-overwrite z 0 e (omega arith))))
     ∙ ap (λ (q : List ℕ). q ++ (h ∷ [])) (ap (take (length e)) (p ∙ overwrite-start z e) ∙ take-at e (drop (length e) z) (length e) refl)
-
--- the checksum is in the first byte of the hash
-checksum-in-byte : (e : List ℕ) → checksumSize e ≤ 8 → checksum e ≡ take (checksumSize e) (bitsOf 8 (getD (sha256 e) 0 0))
-unfolding checksum bits
-checksum-in-byte e m = from (sha256 e) (length-sha256 e)
-  where
-    from : (h : List ℕ) → length h ≡ 32 → take (checksumSize e) (bits 8 h) ≡ take (checksumSize e) (bitsOf 8 (getD h 0 0))
-    from [] l = absurd (omega (arith, l))
-    from (x ∷ h) l = take-append-le (checksumSize e) (bitsOf 8 x) (bits 8 h) (omega (arith, length-bitsOf 8 x))
 
 module _ (e s : List ℕ) (n : ℕ) (l : length e ≡ 4 * n) (m : n ≤ 8)
     (p : take (length e + 1) s ≡ e ++ (getD (sha256 e) 0 0 ∷ [])) where

@@ -5,16 +5,16 @@ use mathlib.Core.Path.{_≡_, refl, sym, ap, ap₂, _∙_, subst}
 use mathlib.Core.List.{List, [], _∷_, _++_}
 use Prim.Native.Nat.{ℕ, zero, suc, _+_, _*_, _/_, _%_, _^_, _≤_, _<_}
 use native.Mathlib.Omega.{arith}
-use lib.ListN.{length, take, length-append}
-use lib.Seq.{length-take-le}
+use lib.ListN.{length, take, getD, length-append}
+use lib.Seq.{length-take-le, take-append-le}
 use Rattle.octets.specs.Bytes.{Bytes}
 use Rattle.octets.proofs.Lists.{_&_}
 use Rattle.sha_rules.specs.Hash.{sha256}
 use Rattle.sha_rules.proofs.Blocks.{length-sha256}
-use Rattle.phrase_rules.specs.Bits.{bits, cut}
+use Rattle.phrase_rules.specs.Bits.{bitsOf, bits, cut}
 use Rattle.phrase_rules.specs.Numbers.{checksumSize, checksum, wordNumbers, inTwoBytes, numbersOf}
 use Rattle.phrase_rules.specs.Reverse.{fromTwoBytes}
-use Rattle.phrase_rules.proofs.Bits.{Below, below-append, below-take, below-bits, length-bits, length-cut, below-cut, bits-cut-all}
+use Rattle.phrase_rules.proofs.Bits.{Below, below-append, below-take, below-bits, length-bitsOf, length-bits, length-cut, below-cut, bits-cut-all}
 
 -- ---- numbers in two bytes
 pub length-inTwoBytes : (s : List ℕ) → length (inTwoBytes s) ≡ 2 * length s
@@ -52,10 +52,21 @@ length-fromTwoBytes (x ∷ []) = refl
 length-fromTwoBytes (x ∷ y ∷ s) = omega (arith, length-fromTwoBytes s)
 
 -- ---- the checksum and the numbers, for an entropy of 4 * n bytes
-pub below-joined : (e : List ℕ) → Below 2 (bits 8 e ++ checksum e)
+pub below-checksum : (e : List ℕ) → Below 2 (checksum e)
 unfolding checksum
-below-joined e =
-    below-append 2 (bits 8 e) (checksum e) (below-bits 8 e) (below-take 2 (checksumSize e) (bits 8 (sha256 e)) (below-bits 8 (sha256 e)))
+below-checksum e = below-take 2 (checksumSize e) (bits 8 (sha256 e)) (below-bits 8 (sha256 e))
+
+pub below-joined : (e : List ℕ) → Below 2 (bits 8 e ++ checksum e)
+below-joined e = below-append 2 (bits 8 e) (checksum e) (below-bits 8 e) (below-checksum e)
+
+-- the checksum is in the first byte of the hash
+pub checksum-in-byte : (e : List ℕ) → checksumSize e ≤ 8 → checksum e ≡ take (checksumSize e) (bitsOf 8 (getD (sha256 e) 0 0))
+unfolding checksum bits
+checksum-in-byte e m = from (sha256 e) (length-sha256 e)
+  where
+    from : (h : List ℕ) → length h ≡ 32 → take (checksumSize e) (bits 8 h) ≡ take (checksumSize e) (bitsOf 8 (getD h 0 0))
+    from [] l = absurd (omega (arith, l))
+    from (x ∷ h) l = take-append-le (checksumSize e) (bitsOf 8 x) (bits 8 h) (omega (arith, length-bitsOf 8 x))
 
 module _ (n : ℕ) (e : List ℕ) (l : length e ≡ 4 * n) (m : n ≤ 8) where
   pub length-checksum : length (checksum e) ≡ n

@@ -15,7 +15,7 @@ use Rattle.octets.proofs.Lists.{same-refl, same-eq}
 use Rattle.refusals.specs.Refusals.{noRefusal, noRoom, wrongCount, numberTooLarge, wrongChecksum, entropyRoom}
 use Rattle.phrase_rules.specs.Bits.{bits, number, bitsOf, cut}
 use Rattle.phrase_rules.specs.Numbers.{checksumSize, checksum, wordNumbers, inTwoBytes, numbersOf}
-use Rattle.phrase_rules.specs.Reverse.{fromTwoBytes, checksumSizeIn, wordBits, entropyIn, checksumIn, isWordCount, inElevenBits, isChecked, must, reverseRefusal, reverseBytes}
+use Rattle.phrase_rules.specs.Reverse.{fromTwoBytes, checksumSizeIn, wordBits, entropyIn, checksumIn, isWordCount, Counted, inElevenBits, isChecked, must, reverseRefusal, reverseBytes}
 use Rattle.phrase_rules.proofs.Bits.{Below, below-bits, below-drop, below-bytes, bytes-below, length-bits, length-cut, below-cut, cut-bits, bits-cut, bitsOf-number}
 use Rattle.phrase_rules.proofs.Numbers.{from-in-two-bytes, in-from-two-bytes, length-fromTwoBytes, length-wordNumbers, below-wordNumbers, bits-wordNumbers, length-numbersOf}
 
@@ -36,12 +36,6 @@ not-both : (a b : Bool) → ((a && b) ≡ true → ⊥) → (a && b) ≡ false
 not-both a b h = by-cases (a && b) ((a && b) ≡ false) (λ e. absurd (h e)) (λ e. e)
 
 -- ---- what is asked of the words
--- as many bytes as n bits of checksum have
-pub record Counted (n : ℕ) (words : List ℕ) : Type 0 where
-  pub least : 4 ≤ n
-  pub most : n ≤ 8
-  pub long : length words ≡ 6 * n
-
 pub counted : (n : ℕ) (words : List ℕ) → Counted n words → isWordCount words ≡ true
 counted n words k =
     ap₂ _&&_ (eq-eqb (length words % 6) 0 (omega (arith, k .long)))
@@ -76,6 +70,15 @@ not-eleven (x ∷ s) (suc k) l h = not-both (leb x 2047) (inElevenBits s) (λ e.
   where
     over : inElevenBits s ≡ true → inElevenBits s ≡ false → ⊥
     over p q = let z : _≡_ {A = ℕ} 0 1 = cc in omega arith
+
+-- bits are the same where they are the same number
+pub same-number : (s t : List ℕ) → length s ≡ length t → Below 2 s → Below 2 t → sameBytes s t ≡ eqb (number s) (number t)
+same-number s t l h g =
+    by-cases (eqb (number s) (number t)) _ (λ e. same (eqb-true (number s) (number t) e) ∙ sym e)
+    (λ e. by-cases (sameBytes s t) _ (λ f. absurd (eqb-false (number s) (number t) e (ap number (same-eq s t f)))) (λ f. f ∙ sym e))
+  where
+    same : number s ≡ number t → sameBytes s t ≡ true
+    same e = ap (λ (q : List ℕ). sameBytes q t) (sym (bitsOf-number (length t) s l h) ∙ ap (bitsOf (length t)) e ∙ bitsOf-number (length t) t refl g) ∙ same-refl t
 
 -- ---- the refusals, in their order
 pub refused-room : (words : List ℕ) (room : ℕ) → room < entropyRoom → reverseRefusal words room ≡ noRoom

@@ -1,8 +1,9 @@
 -- The reverse of `numbersOf` (RULES 7.12): from the bytes of word numbers back to the entropy. `words` are those bytes; as many checksum bits belong
 -- to them as they have sixes of bytes.
+use mathlib.Core.Path.{_≡_}
 use mathlib.Core.Bool.{Bool, true, cond, _&&_}
 use mathlib.Core.List.{List, [], _∷_}
-use Prim.Native.Nat.{ℕ, _+_, _*_, _/_, _%_}
+use Prim.Native.Nat.{ℕ, _+_, _*_, _/_, _%_, _≤_}
 use lib.Dec.{eqb, leb}
 use lib.ListN.{length, drop}
 use Rattle.octets.specs.Bytes.{sameBytes}
@@ -34,6 +35,12 @@ checksumIn words = drop (32 * checksumSizeIn words) (wordBits words)
 -- 12, 15, 18, 21 or 24 numbers of 2 bytes: 6 bytes for each bit of a checksum of 4 to 8 bits
 abbrev pub isWordCount : List ℕ → Bool
 isWordCount words = eqb (length words % 6) 0 && (leb 4 (checksumSizeIn words) && leb (checksumSizeIn words) 8)
+
+-- the same as facts, for a checksum of n bits
+pub record Counted (n : ℕ) (words : List ℕ) : Type 0 where
+  pub least : 4 ≤ n
+  pub most : n ≤ 8
+  pub long : length words ≡ 6 * n
 
 -- no number is over 2047
 unfoldable pub inElevenBits : List ℕ → Bool
