@@ -12,6 +12,14 @@ pub const BYTE_BITS: usize = 8;
 
 pub const NUMBER_BITS: usize = 11;
 
+// How many numbers of 11 bits there are.
+const NUMBERS: u32 = 2048;
+
+// The bits behind a number that three bytes begin with, and behind a byte that two numbers begin with.
+const BEHIND_NUMBER_BITS: usize = 13;
+
+const BEHIND_BYTE_BITS: usize = 14;
+
 // The bits of x that have `behind` bits behind them, `width` of them.
 pub fn bits_at(x: u32, behind: usize, width: usize) -> u32
     requires { ⌜ behind < 32 ⌝ }
@@ -52,7 +60,7 @@ pub fn number_at(s: &[u8], k: usize) -> u32
     let place = k * NUMBER_BITS;
     let at = place / BYTE_BITS;
     let three = three_bytes(s[at], s[at + 1], s[at + 2]);
-    bits_at(three, 13 - place % BYTE_BITS, NUMBER_BITS)
+    bits_at(three, BEHIND_NUMBER_BITS - place % BYTE_BITS, NUMBER_BITS)
 }
 
 // Number k of those that lie in two bytes each, the high byte first.
@@ -73,6 +81,6 @@ pub fn byte_at(words: &[u8], k: usize) -> u32
 {
     let place = k * BYTE_BITS;
     let at = place / NUMBER_BITS;
-    let two = number_in(words, at) * 2048 + number_in(words, at + 1);
-    bits_at(two, 14 - place % NUMBER_BITS, BYTE_BITS)
+    let two = number_in(words, at) * NUMBERS + number_in(words, at + 1);
+    bits_at(two, BEHIND_BYTE_BITS - place % NUMBER_BITS, BYTE_BITS)
 }

@@ -8,11 +8,11 @@ ghost use lib.ListN.{length, getD, take};
 ghost use Rattle.sha_rules.specs.Hash.{sha256};
 ghost use Rattle.phrase_numbers.specs.Put.{PutNumbers};
 
-// The most that an entropy has, in bytes.
-pub const ENTROPY_MAX_BYTES: usize = 32;
-
 // 32 bits of entropy have one bit of checksum.
 const BITS_PER_CHECKSUM_BIT: usize = 32;
+
+// A bit of the checksum has 3 numbers.
+const NUMBERS_PER_CHECKSUM_BIT: usize = 3;
 
 // An entropy, the first byte of its hash, and two zeros, so that three bytes can be read at every number.
 const STREAM_BYTES: usize = 35;
@@ -53,7 +53,7 @@ pub fn put_numbers(entropy: &[u8], out: &mut [u8]) -> usize
     requires { ⌜ length (now entropy) / 4 * 6 ≤ length (now out) ⌝ }
     ensures { λ r. ⌜ PutNumbers (now (entropy .entry)) r (now (out .entry)) (now (out .exit)) ⌝ }
 {
-    let numbers = 3 * checksum_size(entropy.len());
+    let numbers = NUMBERS_PER_CHECKSUM_BIT * checksum_size(entropy.len());
     let stream = joined(entropy);
     let mut k = 0;
     while k < numbers {

@@ -16,7 +16,7 @@ use Rattle.refusals.specs.Refusals.{noRefusal, noRoom, wrongCount, numberTooLar
 use Rattle.phrase_rules.specs.Bits.{bits, number, bitsOf, cut}
 use Rattle.phrase_rules.specs.Numbers.{checksumSize, checksum, wordNumbers, inTwoBytes, numbersOf}
 use Rattle.phrase_rules.specs.Reverse.{fromTwoBytes, checksumSizeIn, wordBits, entropyIn, checksumIn, isWordCount, Counted, inElevenBits, isChecked, must, reverseRefusal, reverseBytes}
-use Rattle.phrase_rules.proofs.Bits.{Below, below-bits, below-drop, below-bytes, bytes-below, length-bits, length-cut, below-cut, cut-bits, bits-cut, bitsOf-number}
+use Rattle.phrase_rules.proofs.Bits.{Below, below-bits, below-drop, below-bytes, bytes-below, length-bits, length-cut, getD-cut, below-cut, cut-bits, bits-cut, bitsOf-number}
 use Rattle.phrase_rules.proofs.Numbers.{from-in-two-bytes, in-from-two-bytes, length-fromTwoBytes, length-wordNumbers, below-wordNumbers, bits-wordNumbers, length-numbersOf}
 
 -- ---- Booleans
@@ -168,14 +168,20 @@ module _ (n : ℕ) (e : List ℕ) (least : 4 ≤ n) (most : n ≤ 8) (l : length
   reverse-generate room fits = rw (reverse-accepts room fits) again-entropy
 
 -- ---- and the generating undoes the reverse
+pub length-entropyIn : (words : List ℕ) → length (entropyIn words) ≡ 4 * checksumSizeIn words
+unfolding entropyIn
+length-entropyIn words = length-cut 8 (4 * checksumSizeIn words) (wordBits words)
+
+-- its bytes
+pub entropy-byte : (words : List ℕ) (k : ℕ) → k < 4 * checksumSizeIn words
+    → number (take 8 (drop (k * 8) (bits 11 (fromTwoBytes words)))) ≡ getD (entropyIn words) k 0
+unfolding entropyIn wordBits
+entropy-byte words k h = sym (getD-cut 8 (4 * checksumSizeIn words) k (bits 11 (fromTwoBytes words)) h)
+
 module _ (words : List ℕ) (b : Bytes words) (a : Accepted words) where
   length-wordBits : length (wordBits words) ≡ 33 * checksumSizeIn words
   unfolding wordBits
   length-wordBits = omega (arith, length-bits 11 (fromTwoBytes words), length-fromTwoBytes words, a .count .long)
-
-  pub length-entropyIn : length (entropyIn words) ≡ 4 * checksumSizeIn words
-  unfolding entropyIn
-  length-entropyIn = length-cut 8 (4 * checksumSizeIn words) (wordBits words)
 
   pub bytes-entropyIn : Bytes (entropyIn words)
   unfolding entropyIn wordBits
@@ -199,7 +205,7 @@ module _ (words : List ℕ) (b : Bytes words) (a : Accepted words) where
       ap₂ (cut 11) size (joined-again ∙ sym (append-nil (wordBits words))) ∙ cut-bits 11 (fromTwoBytes words) [] (a .small)
     where
       size : 3 * checksumSize (entropyIn words) ≡ length (fromTwoBytes words)
-      size = omega (arith, length-entropyIn, length-fromTwoBytes words, a .count .long)
+      size = omega (arith, length-entropyIn words, length-fromTwoBytes words, a .count .long)
 
   pub numbers-of-entropyIn : numbersOf (entropyIn words) ≡ words
   unfolding numbersOf

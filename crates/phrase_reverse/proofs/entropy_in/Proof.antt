@@ -8,7 +8,7 @@ use lib.ListN.{length, take, length-set}
 use lib.Seq.{take-all}
 use Rattle.octets.proofs.Filling.{front-more}
 use Rattle.phrase_rules.specs.Reverse.{entropyIn}
-use Rattle.phrase_reverse.proofs.Checks.{entropy-byte, entropy-long}
+use Rattle.phrase_rules.proofs.Reverse.{entropy-byte, length-entropyIn}
 use Rattle.phrase_reverse.proofs.entropy_in.Statement.{statement}
 use Rattle.phrase_reverse.proofs.entropy_in.Tie as tie
 
@@ -47,7 +47,7 @@ loop-again : tie.Need-loop-again Inv-loop μ-loop
 loop-again c =
     let words = c .before .before .before .before .args .words .now in
     let k = c .before .before .loop .k in
-    let long : length (entropyIn words) ≡ 4 * (length words / 6) = entropy-long words in (
+    let long : length (entropyIn words) ≡ 4 * (length words / 6) = length-entropyIn words in (
       front-more (c .before .before .loop .entropy) (entropyIn words) k (c .byte-at .result) (omega arith) (omega arith) (c .before .before .loop .inv .0)
           (c .byte-at .ensures .0 ∙ entropy-byte words k (omega arith)),
       omega arith,
@@ -57,7 +57,7 @@ loop-again c =
 returns : tie.Need-returns Inv-loop μ-loop
 returns c =
     let words = c .before .before .before .args .words .now in
-    let long : length (entropyIn words) ≡ 4 * (length words / 6) = entropy-long words in
+    let long : length (entropyIn words) ≡ 4 * (length words / 6) = length-entropyIn words in
     ap (λ (j : ℕ). take j (c .before .loop .entropy)) (same (4 * (length words / 6)) (c .before .loop .k) (omega arith))
     ∙ c .before .loop .inv .0
     ∙ take-all (c .before .loop .k) (entropyIn words) (omega arith)

@@ -5,8 +5,7 @@ use native.Mathlib.Omega.{arith}
 use lib.ListN.{length}
 use borrow.Author.Tests.{not-true, not-false}
 use Rattle.octets.specs.Bytes.{overwrite}
-use Rattle.phrase_rules.proofs.Reverse.{count-of}
-use Rattle.phrase_reverse.proofs.Checks.{entropy-long}
+use Rattle.phrase_rules.proofs.Reverse.{count-of, length-entropyIn}
 use Rattle.phrase_reverse.proofs.Answers.{reversed-room, reversed-count, reversed-number, reversed-checksum, reversed-entropy}
 use borrow.Author.Needs.{needs}
 use Rattle.phrase_reverse.proofs.entropy_of.Statement.{statement}
@@ -48,7 +47,7 @@ array-share-prefix-entropy c =
     omega arith
 
 slice-aggregate-is-checked : tie.Need-slice-aggregate-is-checked
-slice-aggregate-is-checked c = sym (ap length (c .before .entropy-in .ensures) ∙ entropy-long (c .before .before .before .before .before .before .before .before .before .args .words .now))
+slice-aggregate-is-checked c = sym (ap length (c .before .entropy-in .ensures) ∙ length-entropyIn (c .before .before .before .before .before .before .before .before .before .args .words .now))
 
 is-checked-requires : tie.Need-is-checked-requires
 is-checked-requires c κs = (count-of (c .before .before .before .before .before .before .before .before .before .args .words .now) (sym (c .before .before .before .before .before .is-word-count .ensures) ∙ not-false _ (c .before .before .before .before .if2 .left)), ((sym (c .before .before .before .in-eleven-bits .ensures) ∙ not-false _ (c .before .before .if3 .left)), c .before .entropy-in .ensures))
@@ -65,12 +64,12 @@ array-share-prefix-entropy-2 c =
     omega arith
 
 slice-aggregate-put : tie.Need-slice-aggregate-put
-slice-aggregate-put c = sym (ap length (c .before .before .before .before .before .entropy-in .ensures) ∙ entropy-long (c .before .before .before .before .before .before .before .before .before .before .before .before .before .args .words .now))
+slice-aggregate-put c = sym (ap length (c .before .before .before .before .before .entropy-in .ensures) ∙ length-entropyIn (c .before .before .before .before .before .before .before .before .before .before .before .before .before .args .words .now))
 
 put-requires : tie.Need-put-requires
 put-requires c κs =
     let k = count-of (c .before .before .before .before .before .before .before .before .before .before .before .before .before .args .words .now) (sym (c .before .before .before .before .before .before .before .before .before .is-word-count .ensures) ∙ not-false _ (c .before .before .before .before .before .before .before .before .if2 .left)) in
-    omega (arith, ap length (c .before .before .before .before .before .entropy-in .ensures) ∙ entropy-long (c .before .before .before .before .before .before .before .before .before .before .before .before .before .args .words .now))
+    omega (arith, ap length (c .before .before .before .before .before .entropy-in .ensures) ∙ length-entropyIn (c .before .before .before .before .before .before .before .before .before .before .before .before .before .args .words .now))
 
 same-length : tie.Need-same-length
 same-length c = search needs
@@ -79,7 +78,7 @@ returns-5 : tie.Need-returns-5
 returns-5 c =
     reversed-entropy (c .before .before .before .before .before .before .before .before .before .before .before .before .before .before .before .before .args .words .now) (c .before .before .before .before .before .before .before .before .before .before .before .before .before .before .before .before .args .buf .now) (c .before .before .before .before .before .before .before .before .before .before .before .before .before .if1 .left) (c .before .before .put .last .0) _
     (sym (c .before .before .before .before .before .before .before .before .before .before .before .before .is-word-count .ensures) ∙ not-false _ (c .before .before .before .before .before .before .before .before .before .before .before .if2 .left)) (sym (c .before .before .before .before .before .before .before .before .before .before .in-eleven-bits .ensures) ∙ not-false _ (c .before .before .before .before .before .before .before .before .before .if3 .left)) (sym (c .before .before .before .before .before .before .is-checked .ensures) ∙ not-false _ (c .before .before .before .before .before .if4 .left))
-    (sym (entropy-long (c .before .before .before .before .before .before .before .before .before .before .before .before .before .before .before .before .args .words .now))) (c .before .before .put .ensures ∙ ap (overwrite (c .before .before .before .before .before .before .before .before .before .before .before .before .before .before .before .before .args .buf .now) 0) (c .before .before .before .before .before .before .before .before .entropy-in .ensures))
+    (sym (length-entropyIn (c .before .before .before .before .before .before .before .before .before .before .before .before .before .before .before .before .args .words .now))) (c .before .before .put .ensures ∙ ap (overwrite (c .before .before .before .before .before .before .before .before .before .before .before .before .before .before .before .before .args .buf .now) 0) (c .before .before .before .before .before .before .before .before .entropy-in .ensures))
 
 pub entropy-of-spec : {M : Type 1} → statement M
 entropy-of-spec =

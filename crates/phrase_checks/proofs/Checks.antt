@@ -1,4 +1,4 @@
--- What the code finds in the words: that no number is over 2047, the entropy byte by byte, and the checksum as a number.
+-- What the checks find in the words: that no number is over 2047, and the checksum as a number.
 -- Assumes nothing.
 use mathlib.Core.Path.{_≡_, sym, ap, ap₂, _∙_}
 use mathlib.Core.Bool.{true, false, _&&_}
@@ -10,14 +10,13 @@ use lib.Dec.{eqb, leb}
 use lib.ListN.{length, take, drop, getD, length-drop, drop-of-length-le}
 use lib.Seq.{drop-cons, take-all, take-append-le}
 use borrow.Author.Tests.{le-leb}
-use Rattle.octets.proofs.Filling.{front-more}
 use Rattle.sha_rules.specs.Hash.{sha256}
 use Rattle.phrase_rules.specs.Bits.{bitsOf, bits, number, cut}
 use Rattle.phrase_rules.specs.Numbers.{checksumSize, checksum}
 use Rattle.phrase_rules.specs.Reverse.{fromTwoBytes, checksumSizeIn, wordBits, entropyIn, checksumIn, Counted, inElevenBits, isChecked}
-use Rattle.phrase_rules.proofs.Bits.{Below, below-take, below-drop, below-at, below-bitsOf, below-bits, length-bitsOf, length-bits, number-bitsOf, length-cut, getD-cut}
+use Rattle.phrase_rules.proofs.Bits.{Below, below-take, below-drop, below-at, below-bitsOf, below-bits, length-bitsOf, length-bits, number-bitsOf}
 use Rattle.phrase_rules.proofs.Numbers.{length-fromTwoBytes, checksum-in-byte, below-checksum, length-checksum}
-use Rattle.phrase_rules.proofs.Reverse.{eleven-of, same-number}
+use Rattle.phrase_rules.proofs.Reverse.{eleven-of, same-number, length-entropyIn}
 use Rattle.phrase_bits.proofs.Windows.{window, number-part, one-number}
 
 -- ---- no number is over 2047, from the first to the last
@@ -30,16 +29,6 @@ eleven-next s k h l e =
 pub eleven-end : (s : List ℕ) (k : ℕ) → length s ≤ k → inElevenBits s ≡ inElevenBits (drop k s) → inElevenBits s ≡ true
 unfolding inElevenBits
 eleven-end s k h e = e ∙ ap inElevenBits (drop-of-length-le s h)
-
--- ---- the entropy
-pub entropy-byte : (words : List ℕ) (k : ℕ) → k < 4 * checksumSizeIn words
-    → number (take 8 (drop (k * 8) (bits 11 (fromTwoBytes words)))) ≡ getD (entropyIn words) k 0
-unfolding entropyIn wordBits
-entropy-byte words k h = sym (getD-cut 8 (4 * checksumSizeIn words) k (bits 11 (fromTwoBytes words)) h)
-
-pub entropy-long : (words : List ℕ) → length (entropyIn words) ≡ 4 * checksumSizeIn words
-unfolding entropyIn
-entropy-long words = length-cut 8 (4 * checksumSizeIn words) (wordBits words)
 
 -- ---- the checksum: n bits
 -- the first n bits of the hash, which are the highest of its first byte
@@ -93,8 +82,8 @@ module _ (words : List ℕ) (c : Counted (checksumSizeIn words) words) (b : inEl
   unfolding isChecked
   checked d p h =
       same-number (checksumIn words) (checksum (entropyIn words)) same-long below-in (below-checksum (entropyIn words))
-      ∙ ap₂ eqb last-bits (first-bits (checksumSizeIn words) (entropyIn words) d (omega (arith, entropy-long words)) (c .most) p h)
+      ∙ ap₂ eqb last-bits (first-bits (checksumSizeIn words) (entropyIn words) d (omega (arith, length-entropyIn words)) (c .most) p h)
     where
       same-long : length (checksumIn words) ≡ length (checksum (entropyIn words))
       same-long =
-          omega (arith, long-in, length-checksum (checksumSizeIn words) (entropyIn words) (entropy-long words) (c .most))
+          omega (arith, long-in, length-checksum (checksumSizeIn words) (entropyIn words) (length-entropyIn words) (c .most))

@@ -8,9 +8,9 @@ use lib.ListN.{length, drop}
 use Rattle.phrase_rules.specs.Reverse.{fromTwoBytes, inElevenBits}
 use Rattle.phrase_rules.proofs.Numbers.{length-fromTwoBytes}
 use Rattle.phrase_rules.proofs.Reverse.{not-eleven}
-use Rattle.phrase_reverse.proofs.Checks.{eleven-next, eleven-end}
-use Rattle.phrase_reverse.proofs.in_eleven_bits.Statement.{statement}
-use Rattle.phrase_reverse.proofs.in_eleven_bits.Tie as tie
+use Rattle.phrase_checks.proofs.Checks.{eleven-next, eleven-end}
+use Rattle.phrase_checks.proofs.in_eleven_bits.Statement.{statement}
+use Rattle.phrase_checks.proofs.in_eleven_bits.Tie as tie
 
 abbrev Inv-loop : tie.InvT-loop
 Inv-loop words count k₀ k = (inElevenBits (fromTwoBytes words) ≡ inElevenBits (drop k (fromTwoBytes words))) × (k ≤ count)

@@ -5,10 +5,10 @@ use Prim.Native.Nat.{ℕ, _/_, _%_, _^_}
 use lib.Dec.{eqb}
 use lib.ListN.{length}
 use Rattle.sha_rules.specs.Hash.{sha256}
-use Rattle.phrase_reverse.proofs.Checks.{checked}
+use Rattle.phrase_checks.proofs.Checks.{checked}
 use borrow.Author.Needs.{needs}
-use Rattle.phrase_reverse.proofs.is_checked.Statement.{statement}
-use Rattle.phrase_reverse.proofs.is_checked.Tie as tie
+use Rattle.phrase_checks.proofs.is_checked.Statement.{statement}
+use Rattle.phrase_checks.proofs.is_checked.Tie as tie
 
 sha256-requires : tie.Need-sha256-requires
 sha256-requires c κs = search needs
