@@ -20,21 +20,21 @@ const BEHIND_NUMBER_BITS: usize = 13;
 
 const BEHIND_BYTE_BITS: usize = 14;
 
-// The bits of x that have `behind` bits behind them, `width` of them.
-pub fn bits_at(x: u32, behind: usize, width: usize) -> u32
-    requires { ⌜ behind < 32 ⌝ }
-    requires { ⌜ width < 32 ⌝ }
-    ensures { λ r. ⌜ r ≡ x / 2 ^ behind % 2 ^ width ⌝ }
+// As many bits of x as `width_bits` says, with as many behind them as `behind_bits` says.
+pub fn bits_at(x: u32, behind_bits: usize, width_bits: usize) -> u32
+    requires { ⌜ «behind_bits» < 32 ⌝ }
+    requires { ⌜ «width_bits» < 32 ⌝ }
+    ensures { λ r. ⌜ r ≡ x / 2 ^ «behind_bits» % 2 ^ «width_bits» ⌝ }
 {
-    (x >> behind) % (1 << width)
+    (x >> behind_bits) % (1 << width_bits)
 }
 
-// The first `width` bits of a byte, high bit first.
-pub fn first_bits(x: u8, width: usize) -> u32
-    requires { ⌜ width ≤ 8 ⌝ }
-    ensures { λ r. ⌜ (r ≡ x / 2 ^ (8 - width) % 2 ^ width) × (x < 256) ⌝ }
+// The first bits of a byte, high bit first, as one number.
+pub fn first_bits(x: u8, width_bits: usize) -> u32
+    requires { ⌜ «width_bits» ≤ 8 ⌝ }
+    ensures { λ r. ⌜ (r ≡ x / 2 ^ (8 - «width_bits») % 2 ^ «width_bits») × (x < 256) ⌝ }
 {
-    bits_at(x as u32, BYTE_BITS - width, width)
+    bits_at(x as u32, BYTE_BITS - width_bits, width_bits)
 }
 
 // Three bytes as one number, the highest first.
@@ -57,10 +57,14 @@ pub fn number_at(s: &[u8], k: usize) -> u32
     requires { ⌜ k * 11 / 8 + 2 < length (now s) ⌝ }
     ensures { λ r. ⌜ (r ≡ number (take 11 (drop (k * 11) (bits 8 (now (s .entry)))))) × (r < 2048) ⌝ }
 {
-    let place = k * NUMBER_BITS;
-    let at = place / BYTE_BITS;
+    let first_bit = k * NUMBER_BITS;
+    let at = first_bit / BYTE_BITS;
     let three = three_bytes(s[at], s[at + 1], s[at + 2]);
-    bits_at(three, BEHIND_NUMBER_BITS - place % BYTE_BITS, NUMBER_BITS)
+    bits_at(
+        three,
+        BEHIND_NUMBER_BITS - first_bit % BYTE_BITS,
+        NUMBER_BITS,
+    )
 }
 
 // Number k of those that lie in two bytes each, the high byte first.
@@ -79,8 +83,8 @@ pub fn byte_at(words: &[u8], k: usize) -> u32
     requires { ⌜ inElevenBits (fromTwoBytes (now words)) ≡ true ⌝ }
     ensures { λ r. ⌜ (r ≡ number (take 8 (drop (k * 8) (bits 11 (fromTwoBytes (now (words .entry))))))) × (r < 256) ⌝ }
 {
-    let place = k * BYTE_BITS;
-    let at = place / NUMBER_BITS;
+    let first_bit = k * BYTE_BITS;
+    let at = first_bit / NUMBER_BITS;
     let two = number_in(words, at) * NUMBERS + number_in(words, at + 1);
-    bits_at(two, BEHIND_BYTE_BITS - place % NUMBER_BITS, BYTE_BITS)
+    bits_at(two, BEHIND_BYTE_BITS - first_bit % NUMBER_BITS, BYTE_BITS)
 }

@@ -26,9 +26,9 @@ pub fn is_word_count(words: &[u8]) -> bool
     ensures { λ r. ⌜ r ≡ isWordCount (now (words .entry)) ⌝ }
 {
     let bytes = words.len();
-    let size = bytes / WORD_BYTES_PER_CHECKSUM_BIT;
+    let checksum_bits = bytes / WORD_BYTES_PER_CHECKSUM_BIT;
     let whole = bytes % WORD_BYTES_PER_CHECKSUM_BIT == 0;
-    whole & ((CHECKSUM_MIN_BITS <= size) & (size <= CHECKSUM_MAX_BITS))
+    whole & ((CHECKSUM_MIN_BITS <= checksum_bits) & (checksum_bits <= CHECKSUM_MAX_BITS))
 }
 
 // Whether no number is over 2047.
@@ -53,8 +53,9 @@ pub fn is_checked(words: &[u8], entropy: &[u8]) -> bool
     requires { ⌜ now entropy ≡ entropyIn (now words) ⌝ }
     ensures { λ r. ⌜ r ≡ isChecked (now (words .entry)) ⌝ }
 {
-    let size = words.len() / WORD_BYTES_PER_CHECKSUM_BIT;
+    let checksum_bits = words.len() / WORD_BYTES_PER_CHECKSUM_BIT;
     let digest = sha_hash::sha256(entropy);
-    let last = number_in(words, NUMBERS_PER_CHECKSUM_BIT * size - 1);
-    phrase_bits::bits_at(last, 0, size) == phrase_bits::first_bits(digest[0], size)
+    let last = number_in(words, NUMBERS_PER_CHECKSUM_BIT * checksum_bits - 1);
+    phrase_bits::bits_at(last, 0, checksum_bits)
+        == phrase_bits::first_bits(digest[0], checksum_bits)
 }

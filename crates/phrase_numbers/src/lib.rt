@@ -18,7 +18,7 @@ const NUMBERS_PER_CHECKSUM_BIT: usize = 3;
 const STREAM_BYTES: usize = 35;
 
 // The size of an entropy's checksum, in bits.
-pub fn checksum_size(entropy_bytes: usize) -> usize
+pub fn checksum_bits(entropy_bytes: usize) -> usize
     requires { ⌜ «entropy_bytes» ≤ 32 ⌝ }
     ensures { λ r. ⌜ r ≡ «entropy_bytes» * 8 / 32 ⌝ }
 {
@@ -53,7 +53,7 @@ pub fn put_numbers(entropy: &[u8], out: &mut [u8]) -> usize
     requires { ⌜ length (now entropy) / 4 * 6 ≤ length (now out) ⌝ }
     ensures { λ r. ⌜ PutNumbers (now (entropy .entry)) r (now (out .entry)) (now (out .exit)) ⌝ }
 {
-    let numbers = NUMBERS_PER_CHECKSUM_BIT * checksum_size(entropy.len());
+    let numbers = NUMBERS_PER_CHECKSUM_BIT * checksum_bits(entropy.len());
     let stream = joined(entropy);
     let mut k = 0;
     while k < numbers {

@@ -22,10 +22,10 @@ shl-result : tie.Need-shl-result
 shl-result c = search needs
 
 rem-result : tie.Need-rem-result
-rem-result c = rw (power-fits (c .args .width) (omega arith)) (one-le-pow (c .args .width) 2 (omega arith))
+rem-result c = rw (power-fits (c .args .width-bits) (omega arith)) (one-le-pow (c .args .width-bits) 2 (omega arith))
 
 returns : tie.Need-returns
-returns c = ap (λ (p : ℕ). c .args .x / 2 ^ (c .args .behind) % p) (power-fits (c .args .width) (omega arith))
+returns c = ap (λ (p : ℕ). c .args .x / 2 ^ (c .args .behind-bits) % p) (power-fits (c .args .width-bits) (omega arith))
 
 pub bits-at-spec : {M : Type 1} → statement M
 bits-at-spec =

@@ -11,8 +11,8 @@ use borrow.Author.Needs.{needs}
 use Rattle.phrase_bits.proofs.byte_at.Statement.{statement}
 use Rattle.phrase_bits.proofs.byte_at.Tie as tie
 
-mul-place : tie.Need-mul-place
-mul-place c = search needs
+mul-first-bit : tie.Need-mul-first-bit
+mul-first-bit c = search needs
 
 number-in-requires : tie.Need-number-in-requires
 number-in-requires c κs = search needs
@@ -49,7 +49,7 @@ pub byte-at-spec : {M : Type 1} → statement M
 byte-at-spec =
     tie.close
     (tie.spec
-    mul-place
+    mul-first-bit
     number-in-requires
     mul-two
     add-number-in

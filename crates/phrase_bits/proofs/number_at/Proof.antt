@@ -8,8 +8,8 @@ use borrow.Author.Needs.{needs}
 use Rattle.phrase_bits.proofs.number_at.Statement.{statement}
 use Rattle.phrase_bits.proofs.number_at.Tie as tie
 
-mul-place : tie.Need-mul-place
-mul-place c = search needs
+mul-first-bit : tie.Need-mul-first-bit
+mul-first-bit c = search needs
 
 shared-slice-read-three-bytes : tie.Need-shared-slice-read-three-bytes
 shared-slice-read-three-bytes c = search needs
@@ -49,7 +49,7 @@ pub number-at-spec : {M : Type 1} → statement M
 number-at-spec =
     tie.close
     (tie.spec
-    mul-place
+    mul-first-bit
     shared-slice-read-three-bytes
     add-three-bytes
     shared-slice-read-three-bytes-2

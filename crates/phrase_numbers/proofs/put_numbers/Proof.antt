@@ -20,8 +20,8 @@ Inv-loop entropy out₀ numbers stream k₀ out k =
 abbrev μ-loop : tie.MeasureT-loop
 μ-loop entropy out₀ numbers stream k₀ out k = numbers - k
 
-checksum-size-requires : tie.Need-checksum-size-requires Inv-loop μ-loop
-checksum-size-requires c κs = search needs
+checksum-bits-requires : tie.Need-checksum-bits-requires Inv-loop μ-loop
+checksum-bits-requires c κs = search needs
 
 mul-numbers : tie.Need-mul-numbers Inv-loop μ-loop
 mul-numbers c = search needs
@@ -94,7 +94,7 @@ put-numbers-spec =
     (tie.spec
     Inv-loop
     μ-loop
-    checksum-size-requires
+    checksum-bits-requires
     mul-numbers
     joined-requires
     loop-holds
