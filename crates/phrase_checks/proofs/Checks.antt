@@ -1,20 +1,20 @@
 -- What the checks find in the words: that no number is over 2047, and the checksum as a number.
 -- Assumes nothing.
 use mathlib.Core.Path.{_≡_, sym, ap, ap₂, _∙_}
-use mathlib.Core.Bool.{true, false, _&&_}
+use mathlib.Core.Bool.{true}
 use mathlib.Core.List.{List, [], _∷_, _++_}
-use Prim.Native.Nat.{ℕ, zero, suc, _+_, _-_, _*_, _/_, _%_, _^_, _≤_, _<_}
+use Prim.Native.Nat.{ℕ, suc, _+_, _-_, _*_, _/_, _%_, _^_, _≤_, _<_}
 use native.Mathlib.Numerals.{add-one}
 use native.Mathlib.Omega.{arith}
-use lib.Dec.{eqb, leb}
+use lib.Dec.{eqb}
 use lib.ListN.{length, take, drop, getD, length-drop, drop-of-length-le}
-use lib.Seq.{drop-cons, take-all, take-append-le}
+use lib.Seq.{drop-cons, take-all}
 use borrow.Author.Tests.{le-leb}
 use Rattle.sha_rules.specs.Hash.{sha256}
-use Rattle.phrase_rules.specs.Bits.{bitsOf, bits, number, cut}
+use Rattle.phrase_rules.specs.Bits.{bitsOf, bits, number}
 use Rattle.phrase_rules.specs.Numbers.{checksumSize, checksum}
 use Rattle.phrase_rules.specs.Reverse.{fromTwoBytes, checksumSizeIn, wordBits, entropyIn, checksumIn, Counted, inElevenBits, isChecked}
-use Rattle.phrase_rules.proofs.Bits.{Below, below-take, below-drop, below-at, below-bitsOf, below-bits, length-bitsOf, length-bits, number-bitsOf}
+use Rattle.phrase_rules.proofs.Bits.{Below, below-drop, below-at, below-bitsOf, below-bits, length-bitsOf, length-bits, number-bitsOf}
 use Rattle.phrase_rules.proofs.Numbers.{length-fromTwoBytes, checksum-in-byte, below-checksum, length-checksum}
 use Rattle.phrase_rules.proofs.Reverse.{eleven-of, same-number, length-entropyIn}
 use Rattle.phrase_bits.proofs.Windows.{window, number-part, one-number}

@@ -1,16 +1,16 @@
 -- The bytes that the numbers are cut from, and the buffer that they are put into, number by number.
 -- Assumes nothing.
-use mathlib.Core.Path.{_≡_, refl, sym, ap, ap₂, _∙_}
+use mathlib.Core.Path.{_≡_, refl, sym, ap, _∙_}
 use mathlib.Core.List.{List, [], _∷_, _++_, append-assoc, append-nil}
-use Prim.Native.Nat.{ℕ, zero, suc, _+_, _*_, _/_, _%_, _≤_, _<_}
+use Prim.Native.Nat.{ℕ, _+_, _*_, _/_, _%_, _≤_, _<_}
 use native.Mathlib.Numerals.{add-one}
 use native.Mathlib.Omega.{arith}
-use lib.ListN.{length, take, drop, getD, set, length-append, take-append-drop}
-use lib.Seq.{take-suc, take-suc-set, take-at, take-append-le, take-all, length-take-le}
+use lib.ListN.{length, take, drop, getD, set, take-append-drop}
+use lib.Seq.{take-suc, take-suc-set, take-at, take-all, length-take-le}
 use Rattle.octets.specs.Bytes.{overwrite, written}
 use Rattle.octets.proofs.Lists.{length-overwrite, overwrite-start, overwrite-next}
 use Rattle.sha_rules.specs.Hash.{sha256}
-use Rattle.phrase_rules.specs.Bits.{bitsOf, bits, number, cut}
+use Rattle.phrase_rules.specs.Bits.{bitsOf, bits, number}
 use Rattle.phrase_rules.specs.Numbers.{checksumSize, checksum, wordNumbers, inTwoBytes, numbersOf}
 use Rattle.phrase_rules.proofs.Bits.{getD-cut}
 use Rattle.phrase_rules.proofs.Numbers.{checksum-in-byte, length-joined, length-inTwoBytes, inTwoBytes-append}

@@ -1,11 +1,11 @@
 -- What the reverse did in each of its five answers. Assumes nothing.
-use mathlib.Core.Path.{_≡_, refl, sym, ap, _∙_}
+use mathlib.Core.Path.{_≡_, ap, _∙_}
 use mathlib.Core.Bool.{true, false}
-use mathlib.Core.List.{List, []}
-use Prim.Native.Nat.{ℕ, _*_, _≤_, _<_}
+use mathlib.Core.List.{List}
+use Prim.Native.Nat.{ℕ, _≤_, _<_}
 use lib.ListN.{length}
 use borrow.Author.Tests.{le-leb, lt-leb}
-use Rattle.octets.specs.Bytes.{overwrite, written}
+use Rattle.octets.specs.Bytes.{overwrite}
 use Rattle.octets.proofs.Lists.{overwrite-start}
 use Rattle.refusals.specs.Refusals.{noRefusal, noRoom, wrongCount, numberTooLarge, wrongChecksum, entropyRoom}
 use Rattle.phrase_rules.specs.Reverse.{fromTwoBytes, entropyIn, isWordCount, inElevenBits, isChecked, reverseRefusal, reverseBytes}

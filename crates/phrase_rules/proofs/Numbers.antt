@@ -1,9 +1,9 @@
 -- Facts about the word numbers of an entropy of 4 * n bytes, n being the checksum's size in bits: 3 * n numbers of 11 bits in 6 * n bytes, whose bits
 -- are the entropy's and the checksum's again.
 -- Assumes nothing.
-use mathlib.Core.Path.{_≡_, refl, sym, ap, ap₂, _∙_, subst}
+use mathlib.Core.Path.{_≡_, refl, _∙_}
 use mathlib.Core.List.{List, [], _∷_, _++_}
-use Prim.Native.Nat.{ℕ, zero, suc, _+_, _*_, _/_, _%_, _^_, _≤_, _<_}
+use Prim.Native.Nat.{ℕ, _+_, _*_, _/_, _%_, _^_, _≤_, _<_}
 use native.Mathlib.Omega.{arith}
 use lib.ListN.{length, take, getD, length-append}
 use lib.Seq.{length-take-le, take-append-le}
@@ -11,7 +11,7 @@ use Rattle.octets.specs.Bytes.{Bytes}
 use Rattle.octets.proofs.Lists.{_&_}
 use Rattle.sha_rules.specs.Hash.{sha256}
 use Rattle.sha_rules.proofs.Blocks.{length-sha256}
-use Rattle.phrase_rules.specs.Bits.{bitsOf, bits, cut}
+use Rattle.phrase_rules.specs.Bits.{bitsOf, bits}
 use Rattle.phrase_rules.specs.Numbers.{checksumSize, checksum, wordNumbers, inTwoBytes, numbersOf}
 use Rattle.phrase_rules.specs.Reverse.{fromTwoBytes}
 use Rattle.phrase_rules.proofs.Bits.{Below, below-append, below-take, below-bits, length-bitsOf, length-bits, length-cut, below-cut, bits-cut-all}

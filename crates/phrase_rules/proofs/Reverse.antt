@@ -4,20 +4,20 @@
 use mathlib.Core.Path.{_≡_, refl, sym, ap, ap₂, _∙_, subst}
 use mathlib.Core.Bool.{Bool, true, false, _&&_}
 use mathlib.Core.List.{List, [], _∷_, _++_, append-nil}
-use Prim.Native.Nat.{ℕ, zero, suc, _+_, _*_, _/_, _%_, _^_, _≤_, _<_}
+use Prim.Native.Nat.{ℕ, zero, suc, _+_, _*_, _%_, _^_, _≤_, _<_}
 use native.Mathlib.Omega.{arith}
 use lib.Dec.{eqb, leb}
-use lib.ListN.{length, take, drop, getD, length-append, length-drop, take-append-drop}
-use lib.Seq.{take-all, drop-at}
-use borrow.Author.Tests.{eq-eqb, ne-eqb, eqb-true, eqb-false, le-leb, lt-leb, leb-true, leb-false}
+use lib.ListN.{length, take, drop, getD, take-append-drop}
+use lib.Seq.{drop-at}
+use borrow.Author.Tests.{eq-eqb, eqb-true, eqb-false, le-leb, lt-leb, leb-true}
 use Rattle.octets.specs.Bytes.{Bytes, sameBytes}
 use Rattle.octets.proofs.Lists.{same-refl, same-eq}
 use Rattle.refusals.specs.Refusals.{noRefusal, noRoom, wrongCount, numberTooLarge, wrongChecksum, entropyRoom}
 use Rattle.phrase_rules.specs.Bits.{bits, number, bitsOf, cut}
 use Rattle.phrase_rules.specs.Numbers.{checksumSize, checksum, wordNumbers, inTwoBytes, numbersOf}
 use Rattle.phrase_rules.specs.Reverse.{fromTwoBytes, checksumSizeIn, wordBits, entropyIn, checksumIn, isWordCount, Counted, inElevenBits, isChecked, must, reverseRefusal, reverseBytes}
-use Rattle.phrase_rules.proofs.Bits.{Below, below-bits, below-drop, below-bytes, bytes-below, length-bits, length-cut, getD-cut, below-cut, cut-bits, bits-cut, bitsOf-number}
-use Rattle.phrase_rules.proofs.Numbers.{from-in-two-bytes, in-from-two-bytes, length-fromTwoBytes, length-wordNumbers, below-wordNumbers, bits-wordNumbers, length-numbersOf}
+use Rattle.phrase_rules.proofs.Bits.{Below, below-bits, below-bytes, bytes-below, length-bits, length-cut, getD-cut, below-cut, cut-bits, bits-cut, bitsOf-number}
+use Rattle.phrase_rules.proofs.Numbers.{from-in-two-bytes, in-from-two-bytes, length-fromTwoBytes, below-wordNumbers, bits-wordNumbers, length-numbersOf}
 
 -- ---- Booleans
 by-cases : (b : Bool) (P : Type 0) → (b ≡ true → P) → (b ≡ false → P) → P

@@ -1,5 +1,4 @@
--- The reverse of `numbersOf` (RULES 7.12): from the bytes of word numbers back to the entropy. `words` are those bytes; as many checksum bits belong
--- to them as they have sixes of bytes.
+-- The reverse of `numbersOf` (RULES 7.12): from the bytes of word numbers, `words`, back to the entropy.
 use mathlib.Core.Path.{_≡_}
 use mathlib.Core.Bool.{Bool, true, cond, _&&_}
 use mathlib.Core.List.{List, [], _∷_}
@@ -17,7 +16,7 @@ fromTwoBytes [] = []
 fromTwoBytes (x ∷ []) = []
 fromTwoBytes (x ∷ y ∷ s) = (x * 256 + y) ∷ fromTwoBytes s
 
--- the checksum's size in bits
+-- the checksum's size in bits: one for each 3 numbers, which have 6 bytes
 abbrev pub checksumSizeIn : List ℕ → ℕ
 checksumSizeIn words = length words / 6
 
@@ -47,9 +46,11 @@ unfoldable pub inElevenBits : List ℕ → Bool
 inElevenBits [] = true
 inElevenBits (x ∷ s) = leb x 2047 && inElevenBits s
 
+-- the bits behind the entropy are its checksum
 unfoldable pub isChecked : List ℕ → Bool
 isChecked words = sameBytes (checksumIn words) (checksum (entropyIn words))
 
+-- a check, the refusal's number where it fails, and what is said where it holds
 abbrev pub must : Bool → ℕ → ℕ → ℕ
 must holds otherwise next = cond holds next otherwise
 

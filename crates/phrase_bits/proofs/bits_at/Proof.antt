@@ -1,6 +1,6 @@
 -- The shift and the remainder are the definition's quotient and remainder, for the power of 2 fits 32 bits.
 -- Assumes nothing.
-use mathlib.Core.Path.{ap, sym}
+use mathlib.Core.Path.{ap}
 use Prim.Native.Nat.{ℕ, _/_, _%_, _^_}
 use native.Mathlib.Nat.{one-le-pow}
 use native.Mathlib.Omega.{arith}

@@ -1,6 +1,6 @@
 -- The two numbers hold the 8 bits at the place (`eight-at`).
 -- Assumes nothing.
-use mathlib.Core.Path.{ap, ap₂, sym, _∙_}
+use mathlib.Core.Path.{ap₂, sym, _∙_}
 use Prim.Native.Nat.{ℕ, _+_, _-_, _*_, _/_, _%_, _^_}
 use native.Mathlib.Omega.{arith}
 use Rattle.phrase_rules.specs.Reverse.{fromTwoBytes}

@@ -1,10 +1,10 @@
 -- Number by number: what is said of all numbers is said of those from k on.
 -- Assumes nothing.
-use mathlib.Core.Path.{_≡_, refl, sym, _∙_}
-use Prim.Native.Nat.{ℕ, _+_, _-_, _*_, _/_, _≤_, _<_}
+use mathlib.Core.Path.{_≡_, sym}
+use Prim.Native.Nat.{_-_, _≤_}
 use native.Mathlib.Omega.{arith}
 use borrow.Author.Needs.{needs}
-use lib.ListN.{length, drop}
+use lib.ListN.{drop}
 use Rattle.phrase_rules.specs.Reverse.{fromTwoBytes, inElevenBits}
 use Rattle.phrase_rules.proofs.Numbers.{length-fromTwoBytes}
 use Rattle.phrase_rules.proofs.Reverse.{not-eleven}

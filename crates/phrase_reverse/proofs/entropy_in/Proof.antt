@@ -1,7 +1,7 @@
 -- Byte by byte: the array begins with the first k bytes of the entropy.
 -- Assumes nothing.
-use mathlib.Core.Path.{_≡_, refl, ap, sym, _∙_}
-use Prim.Native.Nat.{ℕ, _+_, _-_, _*_, _/_, _≤_, _<_}
+use mathlib.Core.Path.{_≡_, ap, _∙_}
+use Prim.Native.Nat.{ℕ, _-_, _*_, _/_, _≤_}
 use native.Mathlib.Omega.{arith}
 use borrow.Author.Needs.{needs}
 use lib.ListN.{length, take, length-set}
@@ -11,9 +11,6 @@ use Rattle.phrase_rules.specs.Reverse.{entropyIn}
 use Rattle.phrase_rules.proofs.Reverse.{entropy-byte, length-entropyIn}
 use Rattle.phrase_reverse.proofs.entropy_in.Statement.{statement}
 use Rattle.phrase_reverse.proofs.entropy_in.Tie as tie
-
-same : (i j : ℕ) → i ≡ j → i ≡ j
-same i j e = e
 
 abbrev Inv-loop : tie.InvT-loop
 Inv-loop words end entropy₀ k₀ entropy k =
@@ -58,7 +55,8 @@ returns : tie.Need-returns Inv-loop μ-loop
 returns c =
     let words = c .before .before .before .args .words .now in
     let long : length (entropyIn words) ≡ 4 * (length words / 6) = length-entropyIn words in
-    ap (λ (j : ℕ). take j (c .before .loop .entropy)) (same (4 * (length words / 6)) (c .before .loop .k) (omega arith))
+    let end : 4 * (length words / 6) ≡ c .before .loop .k = omega arith in
+    ap (λ (j : ℕ). take j (c .before .loop .entropy)) end
     ∙ c .before .loop .inv .0
     ∙ take-all (c .before .loop .k) (entropyIn words) (omega arith)
 
