@@ -11,7 +11,7 @@ use lib.Seq.{take-append-le, drop-append-le, drop-at, drop-drop, getD-drop, leng
 use Rattle.octets.proofs.Lists.{_&_}
 use Rattle.phrase_rules.specs.Bits.{bitsOf, bits, readOn, number}
 use Rattle.phrase_rules.specs.Reverse.{fromTwoBytes}
-use Rattle.phrase_rules.proofs.Bits.{Below, below-take, below-drop, below-at, below-bits, length-bitsOf, length-bits, number-append, number-below, number-bitsOf}
+use Rattle.phrase_rules.proofs.Bits.{Below, below-take, below-drop, below-bits, length-bitsOf, length-bits, number-append, number-below, number-bitsOf-low}
 
 -- ---- powers of 2 in 32 bits
 pub power-fits : (w : ℕ) → w < 32 → 1 * 2 ^ w % 2 ^ 32 ≡ 2 ^ w
@@ -75,22 +75,22 @@ number-none : (v : ℕ) → number (bits v []) ≡ 0
 unfolding bits number readOn
 number-none v = refl
 
-number-more : (v x : ℕ) (s : List ℕ) → x < 2 ^ v → number (bits v (x ∷ s)) ≡ x * 2 ^ (length s * v) + number (bits v s)
+number-more : (v x : ℕ) (s : List ℕ) → number (bits v (x ∷ s)) ≡ x % 2 ^ v * 2 ^ (length s * v) + number (bits v s)
 unfolding bits
-number-more v x s h =
+number-more v x s =
     number-append (bitsOf v x) (bits v s)
-    ∙ ap₂ (λ (y k : ℕ). y * 2 ^ k + number (bits v s)) (number-bitsOf v x h) (length-bits v s)
+    ∙ ap₂ (λ (y k : ℕ). y * 2 ^ k + number (bits v s)) (number-bitsOf-low v x) (length-bits v s)
 
-pub one-number : (v x : ℕ) → x < 2 ^ v → number (bits v (x ∷ [])) ≡ x
-one-number v x h = number-more v x [] h ∙ rw (zero-mul, number-none v) (omega arith)
+pub one-number : (v x : ℕ) → number (bits v (x ∷ [])) ≡ x % 2 ^ v
+one-number v x = number-more v x [] ∙ rw (zero-mul, number-none v) (omega arith)
 
-pub two-numbers : (x y : ℕ) → x < 2 ^ 11 → y < 2 ^ 11 → number (bits 11 (x ∷ y ∷ [])) ≡ x * 2048 + y
-two-numbers x y h g = number-more 11 x (y ∷ []) h ∙ ap (λ (k : ℕ). x * 2048 + k) (one-number 11 y g)
+two-numbers : (x y : ℕ) → number (bits 11 (x ∷ y ∷ [])) ≡ x % 2048 * 2048 + y % 2048
+two-numbers x y = number-more 11 x (y ∷ []) ∙ ap (λ (k : ℕ). x % 2048 * 2048 + k) (one-number 11 y)
 
-pub three-bytes : (x y z : ℕ) → x < 256 → y < 256 → z < 256 → number (bits 8 (x ∷ y ∷ z ∷ [])) ≡ x * 65536 + y * 256 + z
+three-bytes : (x y z : ℕ) → x < 256 → y < 256 → z < 256 → number (bits 8 (x ∷ y ∷ z ∷ [])) ≡ x * 65536 + y * 256 + z
 three-bytes x y z h g f =
-    number-more 8 x (y ∷ z ∷ []) h
-    ∙ ap (λ (k : ℕ). x * 65536 + k) (number-more 8 y (z ∷ []) g ∙ ap (λ (k : ℕ). y * 256 + k) (one-number 8 z f))
+    number-more 8 x (y ∷ z ∷ [])
+    ∙ ap (λ (k : ℕ). x % 256 * 65536 + k) (number-more 8 y (z ∷ []) ∙ ap (λ (k : ℕ). y % 256 * 256 + k) (one-number 8 z))
     ∙ omega arith
 
 -- ---- the elements at a place
@@ -128,13 +128,12 @@ eleven-at s i h a b c =
     ∙ ap (λ (x : ℕ). x / 2 ^ (13 - i % 8) % 2 ^ 11) (three-bytes _ _ _ a b c)
 
 -- 8 bits from the bit i on lie in two numbers of 11 bits
-pub eight-at : (s : List ℕ) (i : ℕ) → i / 11 + 1 < length s → Below (2 ^ 11) s
-    → number (take 8 (drop i (bits 11 s))) ≡ (getD s (i / 11) 0 * 2048 + getD s (i / 11 + 1) 0) / 2 ^ (14 - i % 11) % 2 ^ 8
-eight-at s i h b =
+pub eight-at : (s : List ℕ) (i : ℕ) → i / 11 + 1 < length s
+    → number (take 8 (drop i (bits 11 s))) ≡ (getD s (i / 11) 0 % 2048 * 2048 + getD s (i / 11 + 1) 0 % 2048) / 2 ^ (14 - i % 11) % 2 ^ 8
+eight-at s i h =
     ap (λ (k : ℕ). number (take 8 (drop k (bits 11 s)))) (sym (div-add-mod' i 11))
     ∙ window 11 8 (i / 11) (i % 11) (14 - i % 11) s _ _ (two-at s (i / 11) h) (omega arith) (omega arith)
-    ∙ ap (λ (x : ℕ). x / 2 ^ (14 - i % 11) % 2 ^ 8)
-    (two-numbers _ _ (below-at (2 ^ 11) s (i / 11) b (omega arith)) (below-at (2 ^ 11) s (i / 11 + 1) b h))
+    ∙ ap (λ (x : ℕ). x / 2 ^ (14 - i % 11) % 2 ^ 8) (two-numbers (getD s (i / 11) 0) (getD s (i / 11 + 1) 0))
 
 -- number k of those in two bytes
 pub from-two-at : (s : List ℕ) (k : ℕ) → 2 * k + 1 < length s → getD (fromTwoBytes s) k 0 ≡ getD s (2 * k) 0 * 256 + getD s (2 * k + 1) 0

@@ -2,11 +2,10 @@
 // A width, and a place in a stream of bits, is in bits; a place in a slice is in bytes.
 // Proved: each number is the one that the definition cuts from the bits at its place.
 ghost use mathlib.Core.Path.{_≡_};
-ghost use mathlib.Core.Bool.{true};
 ghost use Prim.Native.Nat.{_+_, _-_, _*_, _/_, _%_, _^_, _≤_, _<_};
 ghost use lib.ListN.{length, getD, take, drop};
 ghost use Rattle.phrase_rules.specs.Bits.{bits, number};
-ghost use Rattle.phrase_rules.specs.Reverse.{fromTwoBytes, inElevenBits};
+ghost use Rattle.phrase_rules.specs.Reverse.{fromTwoBytes};
 
 pub const BYTE_BITS: usize = 8;
 
@@ -46,7 +45,7 @@ fn three_bytes(a: u8, b: u8, c: u8) -> u32
 
 // Two bytes as one number, the high byte first.
 fn two_bytes(a: u8, b: u8) -> u32
-    ensures { λ r. ⌜ (r ≡ a * 256 + b) × (r < 65536) ⌝ }
+    ensures { λ r. ⌜ r ≡ a * 256 + b ⌝ }
 {
     a as u32 * 256 + b as u32
 }
@@ -70,21 +69,28 @@ pub fn number_at(s: &[u8], k: usize) -> u32
 // Number k of those that lie in two bytes each, the high byte first.
 pub fn number_in(words: &[u8], k: usize) -> u32
     requires { ⌜ 2 * k + 1 < length (now words) ⌝ }
-    ensures { λ r. ⌜ (r ≡ getD (fromTwoBytes (now (words .entry))) k 0) × (r < 65536) ⌝ }
+    ensures { λ r. ⌜ r ≡ getD (fromTwoBytes (now (words .entry))) k 0 ⌝ }
 {
     let at = 2 * k;
     two_bytes(words[at], words[at + 1])
+}
+
+// The 11 low bits of number k of those.
+pub fn low_bits_in(words: &[u8], k: usize) -> u32
+    requires { ⌜ 2 * k + 1 < length (now words) ⌝ }
+    ensures { λ r. ⌜ (r ≡ getD (fromTwoBytes (now (words .entry))) k 0 % 2048) × (r < 2048) ⌝ }
+{
+    number_in(words, k) % NUMBERS
 }
 
 // Byte k of the bits of numbers of 11 bits, which lie in two bytes each: it lies in two numbers.
 pub fn byte_at(words: &[u8], k: usize) -> u32
     requires { ⌜ k < 32 ⌝ }
     requires { ⌜ 2 * (k * 8 / 11 + 1) + 1 < length (now words) ⌝ }
-    requires { ⌜ inElevenBits (fromTwoBytes (now words)) ≡ true ⌝ }
     ensures { λ r. ⌜ (r ≡ number (take 8 (drop (k * 8) (bits 11 (fromTwoBytes (now (words .entry))))))) × (r < 256) ⌝ }
 {
     let first_bit = k * BYTE_BITS;
     let at = first_bit / NUMBER_BITS;
-    let two = number_in(words, at) * NUMBERS + number_in(words, at + 1);
+    let two = low_bits_in(words, at) * NUMBERS + low_bits_in(words, at + 1);
     bits_at(two, BEHIND_BYTE_BITS - first_bit % NUMBER_BITS, BYTE_BITS)
 }

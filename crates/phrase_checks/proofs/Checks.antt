@@ -14,9 +14,9 @@ use Rattle.sha_rules.specs.Hash.{sha256}
 use Rattle.phrase_rules.specs.Bits.{bitsOf, bits, number}
 use Rattle.phrase_rules.specs.Numbers.{checksumSize, checksum}
 use Rattle.phrase_rules.specs.Reverse.{fromTwoBytes, checksumSizeIn, wordBits, entropyIn, checksumIn, Counted, inElevenBits, isChecked}
-use Rattle.phrase_rules.proofs.Bits.{Below, below-drop, below-at, below-bitsOf, below-bits, length-bitsOf, length-bits, number-bitsOf}
+use Rattle.phrase_rules.proofs.Bits.{Below, below-drop, below-bitsOf, below-bits, length-bitsOf, length-bits, number-bitsOf}
 use Rattle.phrase_rules.proofs.Numbers.{length-fromTwoBytes, checksum-in-byte, below-checksum, length-checksum}
-use Rattle.phrase_rules.proofs.Reverse.{eleven-of, same-number, length-entropyIn}
+use Rattle.phrase_rules.proofs.Reverse.{same-number, length-entropyIn}
 use Rattle.phrase_bits.proofs.Windows.{window, number-part, one-number}
 
 -- ---- no number is over 2047, from the first to the last
@@ -39,7 +39,7 @@ first-bits n e d l m p h =
     ∙ number-part (bitsOf 8 (getD d 0 0)) 0 n (8 - n) (length-bitsOf 8 (getD d 0 0) ∙ omega arith) (below-bitsOf 8 (getD d 0 0))
     ∙ ap (λ (x : ℕ). x / 2 ^ (8 - n) % 2 ^ n) (number-bitsOf 8 (getD d 0 0) h)
 
-module _ (words : List ℕ) (c : Counted (checksumSizeIn words) words) (b : inElevenBits (fromTwoBytes words) ≡ true) where
+module _ (words : List ℕ) (c : Counted (checksumSizeIn words) words) where
   n : ℕ
   n = checksumSizeIn words
 
@@ -47,13 +47,13 @@ module _ (words : List ℕ) (c : Counted (checksumSizeIn words) words) (b : inEl
   numbers = fromTwoBytes words
 
   -- the last n bits of the words, which are the lowest of the last number
-  last-bits : number (checksumIn words) ≡ getD (fromTwoBytes words) (3 * checksumSizeIn words - 1) 0 / 2 ^ 0 % 2 ^ checksumSizeIn words
+  last-bits : number (checksumIn words) ≡ getD (fromTwoBytes words) (3 * checksumSizeIn words - 1) 0 % 2048 / 2 ^ 0 % 2 ^ checksumSizeIn words
   unfolding n numbers checksumIn wordBits
   last-bits =
       ap number (sym (take-all n (drop (32 * n) (bits 11 numbers)) (omega (arith, length-drop (32 * n) (bits 11 numbers), length-bits 11 numbers, long)))
       ∙ ap (λ (k : ℕ). take n (drop k (bits 11 numbers))) place)
       ∙ window 11 n (3 * n - 1) (11 - n) 0 numbers (getD numbers (3 * n - 1) 0 ∷ []) [] last (omega (arith, long)) (omega (arith, c .most))
-      ∙ ap (λ (x : ℕ). x / 2 ^ 0 % 2 ^ n) (one-number 11 (getD numbers (3 * n - 1) 0) (below-at (2 ^ 11) numbers (3 * n - 1) (eleven-of numbers b) (omega (arith, long, c .least))))
+      ∙ ap (λ (x : ℕ). x / 2 ^ 0 % 2 ^ n) (one-number 11 (getD numbers (3 * n - 1) 0))
     where
       long : length (fromTwoBytes words) ≡ 3 * checksumSizeIn words
       long = omega (arith, length-fromTwoBytes words, c .long)
@@ -77,7 +77,7 @@ module _ (words : List ℕ) (c : Counted (checksumSizeIn words) words) (b : inEl
 
   pub checked : (d : List ℕ) → d ≡ sha256 (entropyIn words) → getD d 0 0 < 256
       → isChecked words
-      ≡ eqb (getD (fromTwoBytes words) (3 * checksumSizeIn words - 1) 0 / 2 ^ 0 % 2 ^ checksumSizeIn words)
+      ≡ eqb (getD (fromTwoBytes words) (3 * checksumSizeIn words - 1) 0 % 2048 / 2 ^ 0 % 2 ^ checksumSizeIn words)
       (getD d 0 0 / 2 ^ (8 - checksumSizeIn words) % 2 ^ checksumSizeIn words)
   unfolding isChecked
   checked d p h =

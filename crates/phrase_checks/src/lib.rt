@@ -2,7 +2,6 @@
 // Words and entropy are in bytes, the checksum in bits.
 // Proved: each check is the definition's.
 ghost use mathlib.Core.Path.{_≡_};
-ghost use mathlib.Core.Bool.{true};
 ghost use Prim.Native.Nat.{_/_};
 ghost use lib.ListN.{length};
 ghost use Rattle.phrase_rules.specs.Reverse.{fromTwoBytes, entropyIn, isWordCount, Counted, inElevenBits, isChecked};
@@ -49,13 +48,12 @@ pub fn in_eleven_bits(words: &[u8]) -> bool
 // Whether the words' last bits are the checksum of their entropy: the highest bits of the first byte of its SHA-256.
 pub fn is_checked(words: &[u8], entropy: &[u8]) -> bool
     requires { ⌜ Counted (length (now words) / 6) (now words) ⌝ }
-    requires { ⌜ inElevenBits (fromTwoBytes (now words)) ≡ true ⌝ }
     requires { ⌜ now entropy ≡ entropyIn (now words) ⌝ }
     ensures { λ r. ⌜ r ≡ isChecked (now (words .entry)) ⌝ }
 {
     let checksum_bits = words.len() / WORD_BYTES_PER_CHECKSUM_BIT;
     let digest = sha_hash::sha256(entropy);
-    let last = number_in(words, NUMBERS_PER_CHECKSUM_BIT * checksum_bits - 1);
+    let last = phrase_bits::low_bits_in(words, NUMBERS_PER_CHECKSUM_BIT * checksum_bits - 1);
     phrase_bits::bits_at(last, 0, checksum_bits)
         == phrase_bits::first_bits(digest[0], checksum_bits)
 }

@@ -2,10 +2,12 @@
 // Words, entropy and buffer are in bytes, the checksum in bits.
 // Proved: the answer, and every byte of the buffer, is the definition's, refusals too.
 ghost use mathlib.Core.Path.{_≡_};
-ghost use mathlib.Core.Bool.{true};
+ghost use mathlib.Core.Bool.{cond};
 ghost use Prim.Native.Nat.{_*_, _/_};
+ghost use lib.Dec.{eqb};
 ghost use lib.ListN.{length, take};
-ghost use Rattle.phrase_rules.specs.Reverse.{fromTwoBytes, entropyIn, Counted, inElevenBits};
+ghost use Rattle.refusals.specs.Refusals.{noRefusal};
+ghost use Rattle.phrase_rules.specs.Reverse.{entropyIn, Counted, must, wordsRefusal};
 ghost use Rattle.phrase_reverse.specs.Reversed.{Reversed};
 use phrase_checks::WORD_BYTES_PER_CHECKSUM_BIT;
 use phrase_checks::in_eleven_bits;
@@ -30,7 +32,6 @@ pub struct Entropy {
 // The entropy that the words' bits begin with, from the array's start.
 fn entropy_in(words: &[u8]) -> [u8; 32]
     requires { ⌜ Counted (length (now words) / 6) (now words) ⌝ }
-    requires { ⌜ inElevenBits (fromTwoBytes (now words)) ≡ true ⌝ }
     ensures { λ r. ⌜ take (4 * (length (now (words .entry)) / 6)) r ≡ entropyIn (now (words .entry)) ⌝ }
 {
     let end = ENTROPY_BYTES_PER_CHECKSUM_BIT * (words.len() / WORD_BYTES_PER_CHECKSUM_BIT);
@@ -41,6 +42,37 @@ fn entropy_in(words: &[u8]) -> [u8; 32]
         k += 1;
     }
     entropy
+}
+
+// The refusal where a check does not hold.
+fn refusal_unless(holds: bool, refusal: u8) -> u8
+    ensures { λ r. ⌜ r ≡ must holds refusal noRefusal ⌝ }
+{
+    if holds {
+        return REFUSAL_NONE;
+    }
+    refusal
+}
+
+// The first refusal, or where that is none the second.
+fn first_of(first: u8, second: u8) -> u8
+    ensures { λ r. ⌜ r ≡ cond (eqb first noRefusal) second first ⌝ }
+{
+    if first == REFUSAL_NONE {
+        return second;
+    }
+    first
+}
+
+// The refusal for the numbers, and then for their checksum.
+fn judged(words: &[u8], entropy: &[u8]) -> u8
+    requires { ⌜ Counted (length (now words) / 6) (now words) ⌝ }
+    requires { ⌜ now entropy ≡ entropyIn (now words) ⌝ }
+    ensures { λ r. ⌜ r ≡ wordsRefusal (now (words .entry)) ⌝ }
+{
+    let number = refusal_unless(in_eleven_bits(words), REFUSAL_NUMBER_TOO_LARGE);
+    let checksum = refusal_unless(is_checked(words, entropy), REFUSAL_WRONG_CHECKSUM);
+    first_of(number, checksum)
 }
 
 fn refused(refusal: u8) -> Entropy
@@ -59,13 +91,11 @@ pub fn entropy_of(words: &[u8], buf: &mut [u8]) -> Entropy
     if !is_word_count(words) {
         return refused(REFUSAL_WRONG_COUNT);
     }
-    if !in_eleven_bits(words) {
-        return refused(REFUSAL_NUMBER_TOO_LARGE);
-    }
     let count = ENTROPY_BYTES_PER_CHECKSUM_BIT * (words.len() / WORD_BYTES_PER_CHECKSUM_BIT);
     let entropy = entropy_in(words);
-    if !is_checked(words, &entropy[..count]) {
-        return refused(REFUSAL_WRONG_CHECKSUM);
+    let refusal = judged(words, &entropy[..count]);
+    if refusal != REFUSAL_NONE {
+        return refused(refusal);
     }
     octets::put(buf, 0, &entropy[..count]);
     Entropy {

@@ -4,8 +4,9 @@
 use mathlib.Core.Path.{_≡_, refl, sym, ap, ap₂, _∙_, subst}
 use mathlib.Core.List.{List, [], _∷_, _++_, append-assoc}
 use Prim.Native.Nat.{ℕ, zero, suc, _+_, _-_, _*_, _/_, _%_, _^_, _≤_, _<_}
-use native.Mathlib.Nat.{pow-suc, zero-mul, suc-mul, add-comm}
+use native.Mathlib.Nat.{pow-suc, zero-mul, suc-mul, add-comm, mod-one, mod-eq-of-lt, one-le-pow}
 use native.Mathlib.Omega.{arith}
+use lib.Arith.{mod-mul}
 use lib.ListN.{length, take, drop, getD, length-append, length-drop}
 use lib.Seq.{take-at, drop-at, take-suc, take-all, take-add, length-take-le, drop-drop}
 use Rattle.octets.specs.Bytes.{Bytes}
@@ -101,11 +102,17 @@ number-last : (s : List ℕ) (b : ℕ) → number (s ++ (b ∷ [])) ≡ 2 * numb
 unfolding readOn number
 number-last s b = read-append 0 s (b ∷ [])
 
--- a number is read from its bits again
-pub number-bitsOf : (w x : ℕ) → x < 2 ^ w → number (bitsOf w x) ≡ x
+-- a number is read from its bits again, if it has no more than these
+pub number-bitsOf-low : (w x : ℕ) → number (bitsOf w x) ≡ x % 2 ^ w
 unfolding bitsOf
-number-bitsOf zero x h = number-none ∙ omega arith
-number-bitsOf (suc w) x h = number-last (bitsOf w (x / 2)) (x % 2) ∙ omega (arith, number-bitsOf w (x / 2) (omega (arith, pow-suc 2 w)))
+number-bitsOf-low zero x = number-none ∙ sym (mod-one x)
+number-bitsOf-low (suc w) x =
+    number-last (bitsOf w (x / 2)) (x % 2)
+    ∙ omega (arith, number-bitsOf-low w (x / 2), mod-mul x {m = 2 ^ w} {c = 2} (one-le-pow w 2 (omega arith)) (omega arith))
+    ∙ ap (λ (m : ℕ). x % m) (sym (pow-suc 2 w))
+
+pub number-bitsOf : (w x : ℕ) → x < 2 ^ w → number (bitsOf w x) ≡ x
+number-bitsOf w x h = number-bitsOf-low w x ∙ mod-eq-of-lt h
 
 -- and bits are those of the number that they are
 pub bitsOf-number : (w : ℕ) (s : List ℕ) → length s ≡ w → Below 2 s → bitsOf w (number s) ≡ s

@@ -54,13 +54,18 @@ isChecked words = sameBytes (checksumIn words) (checksum (entropyIn words))
 abbrev pub must : Bool → ℕ → ℕ → ℕ
 must holds otherwise next = cond holds next otherwise
 
--- the refusal's number or 0, for a buffer of `room` bytes; and the bytes written into it
+-- the refusal's number or 0 for words of a right count; and for any words and a buffer of `room` bytes
+abbrev pub wordsRefusal : List ℕ → ℕ
+wordsRefusal words =
+    must (inElevenBits (fromTwoBytes words)) numberTooLarge
+    (must (isChecked words) wrongChecksum noRefusal)
+
 unfoldable pub reverseRefusal : List ℕ → ℕ → ℕ
 reverseRefusal words room =
     must (leb entropyRoom room) noRoom
     (must (isWordCount words) wrongCount
-    (must (inElevenBits (fromTwoBytes words)) numberTooLarge
-    (must (isChecked words) wrongChecksum noRefusal)))
+    (wordsRefusal words))
 
+-- the bytes written into the buffer
 unfoldable pub reverseBytes : List ℕ → ℕ → List ℕ
 reverseBytes words room = cond (eqb (reverseRefusal words room) noRefusal) (entropyIn words) []

@@ -5,7 +5,6 @@ use Prim.Native.Nat.{ℕ, _+_, _-_, _*_, _/_, _%_, _^_}
 use native.Mathlib.Omega.{arith}
 use Rattle.phrase_rules.specs.Reverse.{fromTwoBytes}
 use Rattle.phrase_rules.proofs.Numbers.{length-fromTwoBytes}
-use Rattle.phrase_rules.proofs.Reverse.{eleven-of}
 use Rattle.phrase_bits.proofs.Windows.{eight-at}
 use borrow.Author.Needs.{needs}
 use Rattle.phrase_bits.proofs.byte_at.Statement.{statement}
@@ -14,17 +13,17 @@ use Rattle.phrase_bits.proofs.byte_at.Tie as tie
 mul-first-bit : tie.Need-mul-first-bit
 mul-first-bit c = search needs
 
-number-in-requires : tie.Need-number-in-requires
-number-in-requires c κs = search needs
+low-bits-in-requires : tie.Need-low-bits-in-requires
+low-bits-in-requires c κs = search needs
 
 mul-two : tie.Need-mul-two
 mul-two c = search needs
 
-add-number-in : tie.Need-add-number-in
-add-number-in c = search needs
+add-low-bits-in : tie.Need-add-low-bits-in
+add-low-bits-in c = search needs
 
-number-in-requires-2 : tie.Need-number-in-requires-2
-number-in-requires-2 c κs = search needs
+low-bits-in-requires-2 : tie.Need-low-bits-in-requires-2
+low-bits-in-requires-2 c κs = search needs
 
 add-two : tie.Need-add-two
 add-two c = search needs
@@ -40,8 +39,8 @@ returns c =
     let words = c .before .before .before .before .args .words .now in
     let place = c .before .before .before .before .args .k * 8 in (
       c .bits-at .ensures
-          ∙ ap₂ (λ (x y : ℕ). (x * 2048 + y) / 2 ^ (14 - place % 11) % 2 ^ 8) (c .before .before .number-in .ensures .0) (c .before .number-in2 .ensures .0)
-          ∙ sym (eight-at (fromTwoBytes words) place (omega (arith, length-fromTwoBytes words)) (eleven-of (fromTwoBytes words) (c .before .before .before .before .pre .1 .1))),
+          ∙ ap₂ (λ (x y : ℕ). (x * 2048 + y) / 2 ^ (14 - place % 11) % 2 ^ 8) (c .before .before .low-bits-in .ensures .0) (c .before .low-bits-in2 .ensures .0)
+          ∙ sym (eight-at (fromTwoBytes words) place (omega (arith, length-fromTwoBytes words))),
       omega (arith, c .bits-at .ensures),
     )
 
@@ -50,10 +49,10 @@ byte-at-spec =
     tie.close
     (tie.spec
     mul-first-bit
-    number-in-requires
+    low-bits-in-requires
     mul-two
-    add-number-in
-    number-in-requires-2
+    add-low-bits-in
+    low-bits-in-requires-2
     add-two
     sub-bits-at
     bits-at-requires

@@ -23,7 +23,7 @@ two-bytes-requires : tie.Need-two-bytes-requires
 two-bytes-requires c κs = search needs
 
 returns : tie.Need-returns
-returns c = (c .two-bytes .ensures .0 ∙ sym (from-two-at (c .before .before .before .before .args .words .now) (c .before .before .before .before .args .k) (omega arith)), c .two-bytes .ensures .1)
+returns c = c .two-bytes .ensures ∙ sym (from-two-at (c .before .before .before .before .args .words .now) (c .before .before .before .before .args .k) (omega arith))
 
 pub number-in-spec : {M : Type 1} → statement M
 number-in-spec =

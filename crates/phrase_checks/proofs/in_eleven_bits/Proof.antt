@@ -27,7 +27,7 @@ number-in-requires c κs = search needs
 returns : tie.Need-returns Inv-loop μ-loop
 returns c =
     let words = c .before .before .before .before .before .args .words .now in
-    sym (not-eleven (fromTwoBytes words) (c .before .before .before .loop .k) (omega (arith, length-fromTwoBytes words)) (omega (arith, c .before .number-in .ensures .0)))
+    sym (not-eleven (fromTwoBytes words) (c .before .before .before .loop .k) (omega (arith, length-fromTwoBytes words)) (omega (arith, c .before .number-in .ensures)))
 
 add-k : tie.Need-add-k Inv-loop μ-loop
 add-k c = search needs
@@ -38,7 +38,7 @@ loop-less c = search needs
 loop-again : tie.Need-loop-again Inv-loop μ-loop
 loop-again c =
     let words = c .before .before .before .before .before .args .words .now in
-    (eleven-next (fromTwoBytes words) (c .before .before .before .loop .k) (omega (arith, length-fromTwoBytes words)) (omega (arith, c .before .number-in .ensures .0)) (c .before .before .before .loop .inv .0), omega arith)
+    (eleven-next (fromTwoBytes words) (c .before .before .before .loop .k) (omega (arith, length-fromTwoBytes words)) (omega (arith, c .before .number-in .ensures)) (c .before .before .before .loop .inv .0), omega arith)
 
 returns-2 : tie.Need-returns-2 Inv-loop μ-loop
 returns-2 c =

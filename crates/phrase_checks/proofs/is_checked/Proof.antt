@@ -13,14 +13,14 @@ use Rattle.phrase_checks.proofs.is_checked.Tie as tie
 sha256-requires : tie.Need-sha256-requires
 sha256-requires c κs = search needs
 
-mul-number-in : tie.Need-mul-number-in
-mul-number-in c = search needs
+mul-low-bits-in : tie.Need-mul-low-bits-in
+mul-low-bits-in c = search needs
 
-sub-number-in : tie.Need-sub-number-in
-sub-number-in c = search needs
+sub-low-bits-in : tie.Need-sub-low-bits-in
+sub-low-bits-in c = search needs
 
-number-in-requires : tie.Need-number-in-requires
-number-in-requires c κs = search needs
+low-bits-in-requires : tie.Need-low-bits-in-requires
+low-bits-in-requires c κs = search needs
 
 bits-at-requires : tie.Need-bits-at-requires
 bits-at-requires c κs = search needs
@@ -36,18 +36,18 @@ returns c =
     let words = c .before .before .before .before .before .before .args .words .now in
     let d = c .before .before .before .sha256 .result in
     ap₂ eqb
-    (c .before .bits-at .ensures ∙ ap (λ (x : ℕ). x / 2 ^ 0 % 2 ^ (length words / 6)) (c .before .before .number-in .ensures .0))
+    (c .before .bits-at .ensures ∙ ap (λ (x : ℕ). x / 2 ^ 0 % 2 ^ (length words / 6)) (c .before .before .low-bits-in .ensures .0))
     (c .first-bits .ensures .0)
-    ∙ sym (checked words (c .before .before .before .before .before .before .pre .0) (c .before .before .before .before .before .before .pre .1 .0) d (c .before .before .before .sha256 .ensures ∙ ap sha256 (c .before .before .before .before .before .before .pre .1 .1)) (c .first-bits .ensures .1))
+    ∙ sym (checked words (c .before .before .before .before .before .before .pre .0) d (c .before .before .before .sha256 .ensures ∙ ap sha256 (c .before .before .before .before .before .before .pre .1)) (c .first-bits .ensures .1))
 
 pub is-checked-spec : {M : Type 1} → statement M
 is-checked-spec =
     tie.close
     (tie.spec
     sha256-requires
-    mul-number-in
-    sub-number-in
-    number-in-requires
+    mul-low-bits-in
+    sub-low-bits-in
+    low-bits-in-requires
     bits-at-requires
     array-read-first-bits
     first-bits-requires

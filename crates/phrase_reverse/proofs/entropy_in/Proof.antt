@@ -26,7 +26,7 @@ loop-holds : tie.Need-loop-holds Inv-loop μ-loop
 loop-holds c = search needs
 
 byte-at-requires : tie.Need-byte-at-requires Inv-loop μ-loop
-byte-at-requires c κs = (omega arith, (omega arith, c .before .before .before .pre .1))
+byte-at-requires c κs = (omega arith, omega arith)
 
 cast-entropy : tie.Need-cast-entropy Inv-loop μ-loop
 cast-entropy c = search needs

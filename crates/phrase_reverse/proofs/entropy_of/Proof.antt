@@ -1,4 +1,4 @@
--- The reverse: by cases on its four checks, each from `Answers`.
+-- The reverse: by cases on its checks, each from `Answers`.
 -- Assumes nothing.
 use mathlib.Core.Path.{sym, ap, _∙_}
 use native.Mathlib.Omega.{arith}
@@ -6,7 +6,7 @@ use lib.ListN.{length}
 use borrow.Author.Tests.{not-true, not-false}
 use Rattle.octets.specs.Bytes.{overwrite}
 use Rattle.phrase_rules.proofs.Reverse.{count-of, length-entropyIn}
-use Rattle.phrase_reverse.proofs.Answers.{reversed-room, reversed-count, reversed-number, reversed-checksum, reversed-entropy}
+use Rattle.phrase_reverse.proofs.Answers.{reversed-room, reversed-count, reversed-words, reversed-entropy}
 use borrow.Author.Needs.{needs}
 use Rattle.phrase_reverse.proofs.entropy_of.Statement.{statement}
 use Rattle.phrase_reverse.proofs.entropy_of.Tie as tie
@@ -26,59 +26,50 @@ refused-requires-2 c κs = search needs
 returns-2 : tie.Need-returns-2
 returns-2 c = rw (c .refused2 .ensures) (reversed-count (c .before .before .before .before .before .before .args .words .now) (c .before .before .before .before .before .before .args .buf .now) (c .before .before .before .if1 .left) (sym (c .before .before .is-word-count .ensures) ∙ not-true _ (c .before .if2 .taken)))
 
-in-eleven-bits-requires : tie.Need-in-eleven-bits-requires
-in-eleven-bits-requires c κs = search needs
+mul-count : tie.Need-mul-count
+mul-count c = search needs
+
+entropy-in-requires : tie.Need-entropy-in-requires
+entropy-in-requires c κs = count-of (c .before .before .before .before .before .args .words .now) (sym (c .before .is-word-count .ensures) ∙ not-false _ (c .if2 .left))
+
+array-share-prefix-entropy : tie.Need-array-share-prefix-entropy
+array-share-prefix-entropy c =
+    let counted = count-of (c .before .before .before .before .before .before .args .words .now) (sym (c .before .before .is-word-count .ensures) ∙ not-false _ (c .before .if2 .left)) in
+    omega arith
+
+slice-aggregate-judged : tie.Need-slice-aggregate-judged
+slice-aggregate-judged c = sym (ap length (c .before .entropy-in .ensures) ∙ length-entropyIn (c .before .before .before .before .before .before .before .args .words .now))
+
+judged-requires : tie.Need-judged-requires
+judged-requires c κs = (count-of (c .before .before .before .before .before .before .before .args .words .now) (sym (c .before .before .before .is-word-count .ensures) ∙ not-false _ (c .before .before .if2 .left)), c .before .entropy-in .ensures)
 
 refused-requires-3 : tie.Need-refused-requires-3
 refused-requires-3 c κs = search needs
 
 returns-3 : tie.Need-returns-3
-returns-3 c = rw (c .refused3 .ensures) (reversed-number (c .before .before .before .before .before .before .before .before .args .words .now) (c .before .before .before .before .before .before .before .before .args .buf .now) (c .before .before .before .before .before .if1 .left) (sym (c .before .before .before .before .is-word-count .ensures) ∙ not-false _ (c .before .before .before .if2 .left)) (sym (c .before .before .in-eleven-bits .ensures) ∙ not-true _ (c .before .if3 .taken)))
-
-mul-count : tie.Need-mul-count
-mul-count c = search needs
-
-entropy-in-requires : tie.Need-entropy-in-requires
-entropy-in-requires c κs = (count-of (c .before .before .before .before .before .before .before .args .words .now) (sym (c .before .before .before .is-word-count .ensures) ∙ not-false _ (c .before .before .if2 .left)), (sym (c .before .in-eleven-bits .ensures) ∙ not-false _ (c .if3 .left)))
-
-array-share-prefix-entropy : tie.Need-array-share-prefix-entropy
-array-share-prefix-entropy c =
-    let k = count-of (c .before .before .before .before .before .before .before .before .args .words .now) (sym (c .before .before .before .before .is-word-count .ensures) ∙ not-false _ (c .before .before .before .if2 .left)) in
-    omega arith
-
-slice-aggregate-is-checked : tie.Need-slice-aggregate-is-checked
-slice-aggregate-is-checked c = sym (ap length (c .before .entropy-in .ensures) ∙ length-entropyIn (c .before .before .before .before .before .before .before .before .before .args .words .now))
-
-is-checked-requires : tie.Need-is-checked-requires
-is-checked-requires c κs = (count-of (c .before .before .before .before .before .before .before .before .before .args .words .now) (sym (c .before .before .before .before .before .is-word-count .ensures) ∙ not-false _ (c .before .before .before .before .if2 .left)), ((sym (c .before .before .before .in-eleven-bits .ensures) ∙ not-false _ (c .before .before .if3 .left)), c .before .entropy-in .ensures))
-
-refused-requires-4 : tie.Need-refused-requires-4
-refused-requires-4 c κs = search needs
-
-returns-4 : tie.Need-returns-4
-returns-4 c = rw (c .refused4 .ensures) (reversed-checksum (c .before .before .before .before .before .before .before .before .before .before .before .before .args .words .now) (c .before .before .before .before .before .before .before .before .before .before .before .before .args .buf .now) (c .before .before .before .before .before .before .before .before .before .if1 .left) (sym (c .before .before .before .before .before .before .before .before .is-word-count .ensures) ∙ not-false _ (c .before .before .before .before .before .before .before .if2 .left)) (sym (c .before .before .before .before .before .before .in-eleven-bits .ensures) ∙ not-false _ (c .before .before .before .before .before .if3 .left)) (sym (c .before .before .is-checked .ensures) ∙ not-true _ (c .before .if4 .taken)))
+returns-3 c = rw (c .refused3 .ensures) (reversed-words (c .before .before .before .before .before .before .before .before .before .before .args .words .now) (c .before .before .before .before .before .before .before .before .before .before .args .buf .now) (c .before .before .before .before .before .before .before .if1 .left) (c .before .before .judged .result) (sym (c .before .before .before .before .before .before .is-word-count .ensures) ∙ not-false _ (c .before .before .before .before .before .if2 .left)) (c .before .before .judged .ensures) (c .before .if3 .taken))
 
 array-share-prefix-entropy-2 : tie.Need-array-share-prefix-entropy-2
 array-share-prefix-entropy-2 c =
-    let k = count-of (c .before .before .before .before .before .before .before .before .before .before .before .before .args .words .now) (sym (c .before .before .before .before .before .before .before .before .is-word-count .ensures) ∙ not-false _ (c .before .before .before .before .before .before .before .if2 .left)) in
+    let counted = count-of (c .before .before .before .before .before .before .before .before .before .before .args .words .now) (sym (c .before .before .before .before .before .before .is-word-count .ensures) ∙ not-false _ (c .before .before .before .before .before .if2 .left)) in
     omega arith
 
 slice-aggregate-put : tie.Need-slice-aggregate-put
-slice-aggregate-put c = sym (ap length (c .before .before .before .before .before .entropy-in .ensures) ∙ length-entropyIn (c .before .before .before .before .before .before .before .before .before .before .before .before .before .args .words .now))
+slice-aggregate-put c = sym (ap length (c .before .before .before .before .before .entropy-in .ensures) ∙ length-entropyIn (c .before .before .before .before .before .before .before .before .before .before .before .args .words .now))
 
 put-requires : tie.Need-put-requires
 put-requires c κs =
-    let k = count-of (c .before .before .before .before .before .before .before .before .before .before .before .before .before .args .words .now) (sym (c .before .before .before .before .before .before .before .before .before .is-word-count .ensures) ∙ not-false _ (c .before .before .before .before .before .before .before .before .if2 .left)) in
-    omega (arith, ap length (c .before .before .before .before .before .entropy-in .ensures) ∙ length-entropyIn (c .before .before .before .before .before .before .before .before .before .before .before .before .before .args .words .now))
+    let counted = count-of (c .before .before .before .before .before .before .before .before .before .before .before .args .words .now) (sym (c .before .before .before .before .before .before .before .is-word-count .ensures) ∙ not-false _ (c .before .before .before .before .before .before .if2 .left)) in
+    omega (arith, ap length (c .before .before .before .before .before .entropy-in .ensures) ∙ length-entropyIn (c .before .before .before .before .before .before .before .before .before .before .before .args .words .now))
 
 same-length : tie.Need-same-length
 same-length c = search needs
 
-returns-5 : tie.Need-returns-5
-returns-5 c =
-    reversed-entropy (c .before .before .before .before .before .before .before .before .before .before .before .before .before .before .before .before .args .words .now) (c .before .before .before .before .before .before .before .before .before .before .before .before .before .before .before .before .args .buf .now) (c .before .before .before .before .before .before .before .before .before .before .before .before .before .if1 .left) (c .before .before .put .last .0) _
-    (sym (c .before .before .before .before .before .before .before .before .before .before .before .before .is-word-count .ensures) ∙ not-false _ (c .before .before .before .before .before .before .before .before .before .before .before .if2 .left)) (sym (c .before .before .before .before .before .before .before .before .before .before .in-eleven-bits .ensures) ∙ not-false _ (c .before .before .before .before .before .before .before .before .before .if3 .left)) (sym (c .before .before .before .before .before .before .is-checked .ensures) ∙ not-false _ (c .before .before .before .before .before .if4 .left))
-    (sym (length-entropyIn (c .before .before .before .before .before .before .before .before .before .before .before .before .before .before .before .before .args .words .now))) (c .before .before .put .ensures ∙ ap (overwrite (c .before .before .before .before .before .before .before .before .before .before .before .before .before .before .before .before .args .buf .now) 0) (c .before .before .before .before .before .before .before .before .entropy-in .ensures))
+returns-4 : tie.Need-returns-4
+returns-4 c =
+    reversed-entropy (c .before .before .before .before .before .before .before .before .before .before .before .before .before .before .args .words .now) (c .before .before .before .before .before .before .before .before .before .before .before .before .before .before .args .buf .now) (c .before .before .before .before .before .before .before .before .before .before .before .if1 .left) (c .before .before .put .last .0) _
+    (sym (c .before .before .before .before .before .before .before .before .before .before .is-word-count .ensures) ∙ not-false _ (c .before .before .before .before .before .before .before .before .before .if2 .left)) (sym (c .before .before .before .before .before .if3 .left) ∙ c .before .before .before .before .before .before .judged .ensures)
+    (sym (length-entropyIn (c .before .before .before .before .before .before .before .before .before .before .before .before .before .before .args .words .now))) (c .before .before .put .ensures ∙ ap (overwrite (c .before .before .before .before .before .before .before .before .before .before .before .before .before .before .args .buf .now) 0) (c .before .before .before .before .before .before .before .before .entropy-in .ensures))
 
 pub entropy-of-spec : {M : Type 1} → statement M
 entropy-of-spec =
@@ -89,18 +80,15 @@ entropy-of-spec =
     is-word-count-requires
     refused-requires-2
     returns-2
-    in-eleven-bits-requires
-    refused-requires-3
-    returns-3
     mul-count
     entropy-in-requires
     array-share-prefix-entropy
-    slice-aggregate-is-checked
-    is-checked-requires
-    refused-requires-4
-    returns-4
+    slice-aggregate-judged
+    judged-requires
+    refused-requires-3
+    returns-3
     array-share-prefix-entropy-2
     slice-aggregate-put
     put-requires
     same-length
-    returns-5)
+    returns-4)
