@@ -38,6 +38,18 @@ notGenuine = 7
 abbrev pub notRecord : ℕ
 notRecord = 8
 
+-- word numbers back to entropy: not 12, 15, 18, 21 or 24 numbers of 2 bytes
+abbrev pub wrongCount : ℕ
+wrongCount = 9
+
+-- word numbers back to entropy: a number has more than 11 bits
+abbrev pub numberTooLarge : ℕ
+numberTooLarge = 10
+
+-- word numbers back to entropy: the checksum is not the entropy's
+abbrev pub wrongChecksum : ℕ
+wrongChecksum = 11
+
 -- ---- the rooms (RULES 3.2); that of WRITE follows from the record's fields and is with them (crate `record_rules`, specs/Lengths.antt)
 abbrev pub askRoom : ℕ
 askRoom = 255
@@ -50,6 +62,9 @@ sealRoom = 261
 
 abbrev pub unsealRoom : ℕ
 unsealRoom = 223
+
+abbrev pub entropyRoom : ℕ
+entropyRoom = 32
 
 -- ---- the most data before padding, which SEAL takes, in bytes (RULES 3.2, 8.3)
 abbrev pub dataMost : ℕ

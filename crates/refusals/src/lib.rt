@@ -28,6 +28,15 @@ pub const REFUSAL_NOT_GENUINE: u8 = 7;
 // READ: not a record.
 pub const REFUSAL_NOT_RECORD: u8 = 8;
 
+// Word numbers back to entropy: not 12, 15, 18, 21 or 24 numbers of 2 bytes.
+pub const REFUSAL_WRONG_COUNT: u8 = 9;
+
+// Word numbers back to entropy: a number has more than 11 bits.
+pub const REFUSAL_NUMBER_TOO_LARGE: u8 = 10;
+
+// Word numbers back to entropy: the checksum is not the entropy's.
+pub const REFUSAL_WRONG_CHECKSUM: u8 = 11;
+
 // The room that each operation asks for, in bytes. That of WRITE follows from the stored record's fields: `record_rules::WRITE_ROOM_BYTES`.
 pub const ASK_ROOM_BYTES: usize = 255;
 
@@ -36,6 +45,8 @@ pub const ANSWER_ROOM_BYTES: usize = 258;
 pub const SEAL_ROOM_BYTES: usize = 261;
 
 pub const UNSEAL_ROOM_BYTES: usize = 223;
+
+pub const ENTROPY_ROOM_BYTES: usize = 32;
 
 // The most data that SEAL takes, in bytes.
 pub const SEAL_DATA_MAX_BYTES: usize = 223;

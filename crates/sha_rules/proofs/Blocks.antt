@@ -1,6 +1,6 @@
 -- The padded message is whole blocks, padded as the standard counts it in bits; and its hash value is reached in parts, cut at any block border.
 -- Assumes nothing.
-use mathlib.Core.Path.{_≡_, sym, ap, ap₂, _∙_}
+use mathlib.Core.Path.{_≡_, refl, sym, ap, ap₂, _∙_}
 use mathlib.Core.List.{List, [], _∷_, _++_, append-assoc}
 use Prim.Native.Nat.{ℕ, zero, suc, _+_, _*_, _/_, _%_, _≤_}
 use native.Mathlib.Nat.{zero-add, suc-add}
@@ -66,3 +66,17 @@ sha256-parts m =
     cut =
         ap (λ (s : List ℕ). s ++ padding (length m)) (sym (take-append-drop (length m / 64 * 64) m))
         ∙ append-assoc (take (length m / 64 * 64) m) (drop (length m / 64 * 64) m) (padding (length m))
+
+-- ---- digest: 4 bytes a word; so a digest of SHA-256 has 32 bytes
+length-digest : (h : List ℕ) → length (digest h) ≡ 4 * length h
+length-digest [] = omega arith
+length-digest (x ∷ h) = omega (arith, length-append (bigEndian 4 x) (digest h), length-digest h)
+
+length-blocks : (n : ℕ) (h m : List ℕ) → length h ≡ 8 → length (blocks n h m) ≡ 8
+unfolding blocks compress
+length-blocks zero h m l = l
+length-blocks (suc n) h m l = length-blocks n (compress h (take 64 m)) (drop 64 m) refl
+
+pub length-sha256 : (m : List ℕ) → length (sha256 m) ≡ 32
+unfolding sha256 H⁰
+length-sha256 m = length-digest (blocks (length (pad m) / 64) H⁰ (pad m)) ∙ ap (λ (k : ℕ). 4 * k) (length-blocks (length (pad m) / 64) H⁰ (pad m) refl)
