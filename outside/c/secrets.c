@@ -1,7 +1,7 @@
-/* What calls of include/treadlewisp.h leave on the stack. Each call of a card's life is made twice from the same card and session, on a
-   painted stack (secrets_stack.h), which is then searched for pieces of PINs, PUKs and keys. After bare calls there are many, so the
-   search does find; after tw_wipe_stack there is none, and the bytes that it overwrites are zero, down to the lowest that was used. Then
-   tw_wipe. Exit status 0: so it was. With the word rows, a line for each call. Lengths are in bytes.
+/* What calls of include/treadlewisp.h leave on the stack. Each call of a card's life, with all operations and all commands, is made twice
+   from the same card and session, on a painted stack (secrets_stack.h), which is then searched for pieces of PINs, PUKs and keys. After
+   bare calls there are many, so the search does find; after tw_wipe_stack there is none, and the bytes that it overwrites are zero, down
+   to the lowest that was used. Then tw_wipe. Exit status 0: so it was. With the word rows, a line for each call. Lengths are in bytes.
    It is built without sanitizers: they keep locals in memory of their own and put marks beside them, so the stack would not be that of a
    program in use. */
 #include "life_calls.h"
@@ -39,6 +39,13 @@ static int rows_wanted = 0;
 static size_t calls = 0, deepest_bytes = 0, pieces_bare = 0, pieces_wiped = 0;
 
 /* The calls, as a host makes them. */
+static void do_fresh(void)
+{
+    tw_fresh(&card, supply.bytes, data.bytes);
+    refusal = TW_DONE;
+    count = 0;
+}
+
 static void do_reset(void)
 {
     refusal = tw_reset(&card);
@@ -262,10 +269,11 @@ static text init_data(text init_key, text content)
 /* INIT, PAIR and OPEN, which are not sealed. */
 static void plain_commands(text pin, text puk)
 {
-    const text uid = filled(0x11, TW_UID_BYTES), public_key = point();
     const text init_key = key("INIT key", 1), pairing_secret = key("pairing secret", 2), cryptogram = key("cryptogram", 3);
     const text content = joined(joined(pin, puk), pairing_secret), iv = filled(0x63, TW_IV_BYTES);
-    tw_fresh(&card, uid.bytes, public_key.bytes);
+    supply = filled(0x11, TW_UID_BYTES);
+    data = point();
+    look("FRESH", do_fresh);
     command = plain_command(TW_CLASS_CARD, TW_INS_INIT, 0, init_data(init_key, content));
     asked_and_answered("ASK of INIT", "ANSWER to INIT", joined(byte(1), init_key), TW_SW_SUCCESS);
     command = plain_command(TW_CLASS_CARD, TW_INS_PAIR, TW_P1_PAIR_FIRST, filled(0x0F, TW_KEY_BYTES));
@@ -327,6 +335,15 @@ static void stored_record(void)
     look("RESET", do_reset);
 }
 
+/* What takes key, pairing and channel away. */
+static void last_commands(void)
+{
+    sealed(NAMES("REMOVE"), TW_INS_REMOVE, 0, none(), none());
+    sealed(NAMES("UNPAIR"), TW_INS_UNPAIR, 0, none(), none());
+    command = plain_command(TW_CLASS_SELECT, TW_INS_SELECT, TW_P1_SELECT, words("StatusWalletApp"));
+    asked_and_answered("ASK of SELECT", "ANSWER to SELECT", none(), 0);
+}
+
 /* tw_wipe: every byte of what it is given is zero, and the next one is as it was. */
 static void wiped_memory(void)
 {
@@ -363,7 +380,10 @@ int main(int arguments, char **argument)
     const text pin = watched("PIN", words("024680")), puk = watched("PUK", words("918273645546"));
     plain_commands(pin, puk);
     sealed_commands(pin, puk);
+    const tw_card in_channel = card;
     stored_record();
+    card = in_channel;
+    last_commands();
     wiped_memory();
     found_bare("PIN");
     found_bare("PUK");
