@@ -18,7 +18,8 @@ extern "C" {
 #define TW_HASH_WRONG_ROOM 1
 
 /* SHA-256 of the message, written to the TW_DIGEST_BYTES bytes of `digest`. Where digest_bytes is another number the answer is TW_HASH_WRONG_ROOM, and
-   nothing is written. The message is read where it lies and not copied, and the stack does not grow with it.
+   nothing is written. The message is read where it lies, and the stack does not grow with it. Its last bytes may stay on the stack: tw_wipe_stack of
+   treadlewisp.h wipes them.
 
    The caller ensures that
    - message points to message_bytes bytes that may be read, and digest to digest_bytes bytes that may be written;

@@ -1,6 +1,7 @@
 /* The engine of a wallet card, for C and C++: the functions of the library that `tools/archive treadlewisp` writes, on x86-64 Linux.
    Every length, room and count is in bytes unless the line says fields or tries. Nothing is kept between calls, and nothing is allocated;
-   of the C library only memcpy and memset are needed.
+   of the C library only memcpy and memset are needed. The library wipes nothing: a call leaves parts of what it was given on the stack, PIN
+   and keys too. tw_wipe_stack and tw_wipe, at the end, wipe the stack and memory; SECURITY.md says how secrets live and die.
    What is proved of each function is at its name in crates/library_card, library_engine or library_terminal, src/lib.rt. It holds if the
    caller ensures, at every call:
    - each pointer is valid for the bytes named (a buffer, and a card or session that is changed: to read and write), and is not null, also
@@ -95,7 +96,11 @@ enum {
     TW_WRITE_ROOM_BYTES = TW_RECORD_MAX_BYTES,
 
     /* The most data that SEAL takes, in bytes; over it the operation is refused with TW_TOO_LONG. */
-    TW_DATA_MAX_BYTES = 223
+    TW_DATA_MAX_BYTES = 223,
+
+    /* How much of the stack tw_wipe_stack overwrites, in bytes. Every function of the library uses less: outside/c/secrets.c measures. */
+    TW_PAGE_BYTES = 4096,
+    TW_STACK_WIPE_BYTES = 6 * TW_PAGE_BYTES
 };
 
 /* Refusals. A refused call reports count and kind 0, writes nothing to the buffer and leaves card and session as they were
@@ -401,6 +406,67 @@ uint8_t tw_read(tw_card *card, const uint8_t *record, size_t record_bytes);
    a part is the last 16 bytes of ciphertext before it, or the first IV where no bytes are before it. When decrypting, that is the
    ciphertext as it was read: keep those 16 bytes before they are decrypted in place. Padding is added once, to the whole. docs/RULES.md,
    7.6, has an example. */
+
+/* The two functions that follow are C, not part of the library, and not proved. */
+
+/* Overwrites memory with zeros, also where nobody reads it afterwards: for a card, session, command, supply or buffer that held a secret
+   and is needed no more.
+   The caller ensures:
+   - memory: that many bytes, valid to write, and used by no other thread during the call;
+   - the pointer is not null, also where the length is 0. */
+static inline void tw_wipe(void *memory, size_t bytes)
+{
+#ifdef __cplusplus
+    volatile uint8_t *const at = static_cast<volatile uint8_t *>(memory);
+#else
+    volatile uint8_t *const at = (volatile uint8_t *)memory;
+#endif
+    for (size_t k = 0; k < bytes; k++) {
+        at[k] = 0;
+    }
+}
+
+/* Overwrites the stack below the caller's frame with zeros, TW_STACK_WIPE_BYTES bytes of it: what the functions above leave there, PIN, PUK
+   and keys among it. Call it after them, once after the last of several too, from the function that called them or from one that called
+   that function.
+   What it does not reach: the caller's own frame and all that lies above it, registers, other memory and copies in it, and pages that
+   the system has written to disk.
+   The caller ensures that the thread's stack has room for TW_STACK_WIPE_BYTES bytes more. It is touched page by page downwards, so that a
+   stack that is too small ends at its guard page.
+   With GCC and Clang no byte is left out. For another compiler, or where TW_WIPE_STACK_IN_C is defined, it is an array of that length
+   in a frame of its own; between the caller's frame and the array some bytes may then stay. */
+#if defined(__GNUC__) && defined(__x86_64__) && !defined(TW_WIPE_STACK_IN_C)
+__attribute__((__noinline__, __unused__)) static void tw_wipe_stack(void)
+{
+    __asm__ volatile("movl %0, %%ecx\n"
+                     "1:\tsubq %1, %%rsp\n\t"
+                     "movq $0, (%%rsp)\n\t"
+                     "decl %%ecx\n\t"
+                     "jnz 1b\n\t"
+                     "movq %%rsp, %%rdi\n\t"
+                     "xorl %%eax, %%eax\n\t"
+                     "movl %2, %%ecx\n\t"
+                     "rep stosq\n\t"
+                     "addq %3, %%rsp"
+                     :
+                     : "i"(TW_STACK_WIPE_BYTES / TW_PAGE_BYTES), "i"(TW_PAGE_BYTES), "i"(TW_STACK_WIPE_BYTES / 8), "i"(TW_STACK_WIPE_BYTES)
+                     : "rax", "rcx", "rdi", "cc", "memory");
+}
+#else
+static inline void tw_wipe_frame(void)
+{
+    volatile uint8_t frame[TW_STACK_WIPE_BYTES];
+    for (size_t k = sizeof frame; k > 0; k--) {
+        frame[k - 1] = 0;
+    }
+}
+
+static inline void tw_wipe_stack(void)
+{
+    void (*volatile wipe_frame)(void) = tw_wipe_frame; /* volatile: the call gets a frame of its own */
+    wipe_frame();
+}
+#endif
 
 #ifdef __cplusplus
 }

@@ -7,13 +7,13 @@ use crate::ffi;
 use crate::lengths::*;
 use crate::parts::{KeyKind, Path, Slot, Stage};
 use crate::refusal::Refusal;
+use crate::secrets::{wiped, Record};
 use crate::supply::SupplyKind;
 
 /// A card's whole state: the record of [`CARD_BYTES`] bytes that the library takes, byte for byte as `include/treadlewisp.h` has it.
 ///
 /// Any bytes of that length can be a `Card`; one that is not sound is refused with [`Refusal::Unsound`]. Every card that an operation gives is sound.
-/// PIN, PUK and keys are in it as they are, and its memory is not wiped when it is dropped. `Debug` shows none of them.
-#[derive(Clone, PartialEq, Eq)]
+/// PIN, PUK and keys are in it as they are. It is overwritten with zeros when it is dropped, and `Debug` shows none of them.
 #[repr(C)]
 pub struct Card {
     initialised: u8,
@@ -122,14 +122,16 @@ impl Card {
     /// assert!(card.is_sound() && !card.is_initialised());
     /// ```
     pub fn fresh(uid: &[u8; UID_BYTES], public_key: &[u8; PUBLIC_KEY_BYTES]) -> Card {
-        let mut card = Card::zero();
-        ffi::fresh(&mut card, uid, public_key);
-        card
+        wiped(|| {
+            let mut card = Card::zero();
+            ffi::fresh(&mut card, uid, public_key);
+            card
+        })
     }
 
     /// Whether the card is sound.
     pub fn is_sound(&self) -> bool {
-        ffi::sound(self)
+        wiped(|| ffi::sound(self))
     }
 
     /// RESET: power-up. Channel, verification and a pending pairing are gone, all else is kept.
@@ -137,7 +139,7 @@ impl Card {
     /// Refused with [`Refusal::Unsound`]; the card is then as it was. Resetting twice is resetting once: a second call gives what the first
     /// gave and changes no byte.
     pub fn reset(&mut self) -> Result<(), Refusal> {
-        ffi::reset(self)
+        wiped(|| ffi::reset(self))
     }
 
     /// ASK: which supply [`answer`](Card::answer) will read for this command, with the command's opened data from the buffer's start. The
@@ -146,7 +148,7 @@ impl Card {
     /// Refused with [`Refusal::Unsound`], or [`Refusal::Room`] where the buffer is under [`ASK_ROOM_BYTES`]; the buffer is then as it was.
     /// Bytes past the count are never touched.
     pub fn ask(&self, command: &[u8], buffer: &mut [u8]) -> Result<Asked, Refusal> {
-        ffi::ask(self, command, buffer)
+        wiped(|| ffi::ask(self, command, buffer))
     }
 
     /// ANSWER: response data and status word from the buffer's start, and their count in bytes; the card becomes the next card. A sealed
@@ -167,7 +169,7 @@ impl Card {
     /// # Ok::<(), Refusal>(())
     /// ```
     pub fn answer(&mut self, command: &[u8], supply: &[u8], buffer: &mut [u8]) -> Result<usize, Refusal> {
-        ffi::answer(self, command, supply, buffer)
+        wiped(|| ffi::answer(self, command, supply, buffer))
     }
 
     /// WRITE: the card's stored record from the buffer's start, and its length in bytes. It holds what [`reset`](Card::reset) keeps.
@@ -175,7 +177,7 @@ impl Card {
     /// Refused with [`Refusal::Unsound`], or [`Refusal::Room`] where the buffer is under [`WRITE_ROOM_BYTES`]; the buffer is then as it
     /// was. Bytes past the count are never touched.
     pub fn write(&self, buffer: &mut [u8]) -> Result<usize, Refusal> {
-        ffi::write(self, buffer)
+        wiped(|| ffi::write(self, buffer))
     }
 
     /// READ: the card of a stored record, sound and reset.
@@ -187,9 +189,11 @@ impl Card {
     /// assert_eq!(Card::read(&[0x10, 0x00, 0x01, 0x00]), Err(Refusal::NotRecord));
     /// ```
     pub fn read(record: &[u8]) -> Result<Card, Refusal> {
-        let mut card = Card::zero();
-        ffi::read(&mut card, record)?;
-        Ok(card)
+        wiped(|| {
+            let mut card = Card::zero();
+            ffi::read(&mut card, record)?;
+            Ok(card)
+        })
     }
 }
 
@@ -205,17 +209,17 @@ impl Card {
     /// assert_eq!(card.to_bytes(), [0xFF; CARD_BYTES]);
     /// ```
     pub fn from_bytes(bytes: &[u8; CARD_BYTES]) -> Card {
-        ffi::card_of(*bytes)
+        wiped(|| Card::of(bytes))
     }
 
-    /// The card's bytes, PIN, PUK and keys among them.
+    /// The card's bytes, PIN, PUK and keys among them. They are the caller's to [`wipe`](crate::wipe).
     pub fn to_bytes(&self) -> [u8; CARD_BYTES] {
-        ffi::bytes_of(self.clone())
+        wiped(|| *self.bytes())
     }
 
     /// A record of zeros, for an operation to write over.
     fn zero() -> Card {
-        Card::from_bytes(&[0; CARD_BYTES])
+        Card::of(&[0; CARD_BYTES])
     }
 }
 

@@ -1,4 +1,5 @@
-//! The functions of `include/treadlewisp.h`, with the feature `sha256` that of `include/sha_c.h`, and all of this crate's unsafe code.
+//! The functions of `include/treadlewisp.h`, and with the feature `sha256` that of `include/sha_c.h`. With `secrets`, the only unsafe code of
+//! this crate. A call leaves secrets on the stack; whoever calls a function of this module does it by `secrets::wiped`.
 //!
 //! What the headers ask of a caller holds at every call here, because the arguments are references to Rust values:
 //! - a reference or slice is not null, a slice's not even when it is empty, and is valid for its whole length, which is under 2^63 bytes;
@@ -6,7 +7,7 @@
 //! - what is behind `&` is written by no one, as no type here has interior mutability;
 //! - `Card` and `Session` are `repr(C)` and have the header's layout, asserted at compile time where they are declared.
 
-use std::mem::{offset_of, size_of, transmute};
+use std::mem::{offset_of, size_of};
 
 use crate::card::{Asked, Card};
 use crate::lengths::*;
@@ -170,24 +171,4 @@ pub(crate) fn sha256(message: &[u8]) -> [u8; DIGEST_BYTES] {
     let told = unsafe { tw_sha256(message.as_ptr(), message.len(), digest.as_mut_ptr(), digest.len()) };
     assert_eq!(told, HASH_DONE, "libsha_c.a is not the proved library");
     digest
-}
-
-pub(crate) fn card_of(bytes: [u8; CARD_BYTES]) -> Card {
-    // SAFETY: a card is made of bytes alone, without padding and of the same size, so any bytes are a card.
-    unsafe { transmute(bytes) }
-}
-
-pub(crate) fn bytes_of(card: Card) -> [u8; CARD_BYTES] {
-    // SAFETY: a card is made of bytes alone, without padding and of the same size, so every byte has a value.
-    unsafe { transmute(card) }
-}
-
-pub(crate) fn session_of(bytes: [u8; SESSION_BYTES]) -> Session {
-    // SAFETY: a session is made of bytes alone, without padding and of the same size, so any bytes are a session.
-    unsafe { transmute(bytes) }
-}
-
-pub(crate) fn session_bytes(session: Session) -> [u8; SESSION_BYTES] {
-    // SAFETY: a session is made of bytes alone, without padding and of the same size, so every byte has a value.
-    unsafe { transmute(session) }
 }

@@ -51,6 +51,22 @@
 //! # Ok::<(), Refusal>(())
 //! ```
 //!
+//! # Secrets
+//!
+//! A [`Card`] holds PIN, PUK and keys, a [`Session`] keys, a [`Slot`] a key.
+//!
+//! - When one is dropped, each byte of it is overwritten with zero.
+//! - Each call wipes the stack that it used before it gives its result ([`wipe_stack`], [`STACK_WIPE_BYTES`] bytes), and so do `clone`,
+//!   [`Card::from_bytes`], [`Card::to_bytes`] and their like. A thread needs that much stack.
+//! - `==` looks at all bytes, wherever the first difference is. Nothing is claimed about the time that it or any call takes.
+//! - `Debug` shows no PIN, PUK, secret or key.
+//! - Commands, supplies and buffers are the caller's: [`wipe`] is for them. The data that [`Session::seal`] takes may be a PIN; the buffer of
+//!   [`Card::ask`] has the key that LOAD brings, that of [`Session::unseal`] the key that EXPORT gives, and that of [`Card::write`] the stored record.
+//! - A move copies a value's bytes, and what it leaves at the old place is not wiped. A card that is to be in one place alone stays behind
+//!   a reference, or in a `Box`.
+//!
+//! Registers are not cleared, nor what the system writes to disk. `SECURITY.md` of the repository has the whole of it.
+//!
 //! # Cutting and joining
 //!
 //! - [`Card::reset`] twice is [`Card::reset`] once.
@@ -83,6 +99,8 @@ mod ffi;
 mod lengths;
 mod parts;
 mod refusal;
+#[allow(unsafe_code)]
+mod secrets;
 mod session;
 #[cfg(feature = "sha256")]
 mod sha256;
@@ -93,6 +111,7 @@ pub use card::{Asked, Card, CardField};
 pub use lengths::*;
 pub use parts::{KeyKind, Path, Slot, Stage};
 pub use refusal::Refusal;
+pub use secrets::{wipe, wipe_stack};
 pub use session::Session;
 #[cfg(feature = "sha256")]
 pub use sha256::{sha256, DIGEST_BYTES};
@@ -114,5 +133,5 @@ pub use supply::SupplyKind;
 /// assert_eq!((walk(one), walk(two), walk(&[one, two].concat())), (Ok(1), Ok(2), Ok(3)));
 /// ```
 pub fn walk(input: &[u8]) -> Result<usize, Refusal> {
-    ffi::walk(input)
+    secrets::wiped(|| ffi::walk(input))
 }

@@ -4,8 +4,7 @@ use std::fmt;
 
 use crate::lengths::{COMPONENT_BYTES, KEY_BYTES, PATH_MAX_BYTES};
 
-/// A pairing slot: whether it is filled, and its key.
-#[derive(Clone, PartialEq, Eq)]
+/// A pairing slot: whether it is filled, and its key. It is overwritten with zeros when it is dropped.
 #[repr(C)]
 pub struct Slot {
     filled: u8,

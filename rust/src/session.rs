@@ -6,10 +6,10 @@ use std::mem::{align_of, offset_of, size_of};
 use crate::ffi;
 use crate::lengths::{HEADER_BYTES, IV_BYTES, KEY_BYTES, SESSION_BYTES};
 use crate::refusal::Refusal;
+use crate::secrets::{wiped, Record};
 
 /// The terminal's session: encryption key, MAC key, and the IV of the next message. As `include/treadlewisp.h` has them; any keys and
-/// IV are a session. Its memory is not wiped when it is dropped. `Debug` shows no key.
-#[derive(Clone, PartialEq, Eq)]
+/// IV are a session. It is overwritten with zeros when it is dropped, and `Debug` shows no key.
 #[repr(C)]
 pub struct Session {
     enc_key: [u8; KEY_BYTES],
@@ -23,11 +23,11 @@ const _: () = assert!(offset_of!(Session, mac_key) == KEY_BYTES && offset_of!(Se
 impl Session {
     /// The session that OPEN begins, with its seed IV.
     pub fn new(enc_key: &[u8; KEY_BYTES], mac_key: &[u8; KEY_BYTES], iv: &[u8; IV_BYTES]) -> Session {
-        Session {
+        wiped(|| Session {
             enc_key: *enc_key,
             mac_key: *mac_key,
             iv: *iv,
-        }
+        })
     }
 
     /// SEAL: the whole sealed command from the buffer's start, and its length in bytes; the session becomes the next one. The header is CLA
@@ -47,7 +47,7 @@ impl Session {
     /// # Ok::<(), Refusal>(())
     /// ```
     pub fn seal(&mut self, header: &[u8; HEADER_BYTES], data: &[u8], buffer: &mut [u8]) -> Result<usize, Refusal> {
-        ffi::seal(self, header, data, buffer)
+        wiped(|| ffi::seal(self, header, data, buffer))
     }
 
     /// UNSEAL: a response's plaintext, inner status word included, from the buffer's start, and its length in bytes; the session becomes
@@ -59,17 +59,17 @@ impl Session {
     /// Refused with [`Refusal::Room`] where the buffer is under [`UNSEAL_ROOM_BYTES`](crate::UNSEAL_ROOM_BYTES), or
     /// [`Refusal::NotGenuine`]; session and buffer are then as they were. Bytes past the count are never touched.
     pub fn unseal(&mut self, response: &[u8], buffer: &mut [u8]) -> Result<usize, Refusal> {
-        ffi::unseal(self, response, buffer)
+        wiped(|| ffi::unseal(self, response, buffer))
     }
 
     /// The session of these bytes.
     pub fn from_bytes(bytes: &[u8; SESSION_BYTES]) -> Session {
-        ffi::session_of(*bytes)
+        wiped(|| Session::of(bytes))
     }
 
-    /// The session's bytes, both keys among them.
+    /// The session's bytes, both keys among them. They are the caller's to [`wipe`](crate::wipe).
     pub fn to_bytes(&self) -> [u8; SESSION_BYTES] {
-        ffi::session_bytes(self.clone())
+        wiped(|| *self.bytes())
     }
 
     /// The IV of the next message: the seed IV, then the MAC of the latest message. It is no secret.

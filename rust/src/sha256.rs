@@ -1,6 +1,7 @@
 //! SHA-256, over the proved library `sha_c`.
 
 use crate::ffi;
+use crate::secrets::wiped;
 
 /// Length of a digest of SHA-256, in bytes. `TW_DIGEST_BYTES` of `include/sha_c.h`.
 pub const DIGEST_BYTES: usize = 32;
@@ -24,5 +25,5 @@ pub const DIGEST_BYTES: usize = 32;
 /// );
 /// ```
 pub fn sha256(message: &[u8]) -> [u8; DIGEST_BYTES] {
-    ffi::sha256(message)
+    wiped(|| ffi::sha256(message))
 }

@@ -196,6 +196,8 @@ fn the_constants_of_the_header() {
         WRITE_ROOM_BYTES,
         DATA_MAX_BYTES,
         SUPPLY_MAX_BYTES,
+        PAGE_BYTES,
+        STACK_WIPE_BYTES,
     ];
     hold(&constants, "TW_", &header());
 }

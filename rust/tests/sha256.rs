@@ -8,6 +8,9 @@ use treadlewisp::{sha256, DIGEST_BYTES};
 #[path = "../../outside/hashes/plain.rs"]
 mod plain;
 
+#[path = "common/stack.rs"]
+mod stack;
+
 use plain::BLOCK_BYTES;
 
 /// A file of the repository.
@@ -79,4 +82,24 @@ fn each_length_around_the_borders_of_blocks() {
 fn the_length_that_the_header_names() {
     let named = format!("#define TW_DIGEST_BYTES {DIGEST_BYTES}");
     assert!(text("include/sha_c.h").lines().any(|line| line == named), "{named}");
+}
+
+extern "C" {
+    fn tw_sha256(message: *const u8, message_bytes: usize, digest: *mut u8, digest_bytes: usize) -> u8;
+}
+
+/// A call as C makes it leaves the end of a message on the stack; this crate's leaves nothing of it.
+#[test]
+fn a_call_leaves_nothing_of_a_message_on_the_stack() {
+    let message: Vec<u8> = (0..100).map(|at: u8| at.wrapping_mul(57) ^ 0xA3).collect();
+    let (mut bare, mut safe) = (vec![0; DIGEST_BYTES], vec![0; DIGEST_BYTES]);
+    // SAFETY: message and digest are given with their lengths and are apart.
+    let left = stack::on_stack(&mut || unsafe {
+        tw_sha256(message.as_ptr(), message.len(), bare.as_mut_ptr(), bare.len());
+    });
+    assert!(left.pieces(&message) > 0, "the search finds nothing");
+    assert!(left.used.len() < treadlewisp::STACK_WIPE_BYTES);
+    let left = stack::on_stack(&mut || safe.copy_from_slice(&sha256(&message)));
+    assert_eq!(left.pieces(&message), 0);
+    assert_eq!((&bare, &safe[..]), (&safe, &plain::sha256(&message)[..]));
 }
