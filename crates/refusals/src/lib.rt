@@ -28,6 +28,9 @@ pub const REFUSAL_NOT_GENUINE: u8 = 7;
 // READ: not a record.
 pub const REFUSAL_NOT_RECORD: u8 = 8;
 
+// The stock count: one record more, or the sum of two counts, would hold more than 65,535 records fed.
+pub const REFUSAL_COUNT_FULL: u8 = 13;
+
 // The room that each operation asks for, in bytes. That of WRITE follows from the stored record's fields: `record_rules::WRITE_ROOM_BYTES`.
 pub const ASK_ROOM_BYTES: usize = 255;
 
