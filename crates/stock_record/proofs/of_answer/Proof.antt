@@ -1,10 +1,10 @@
--- The eleven numbers one by one, each by the call that gave it.
+-- The eleven numbers are what the rows say, each by the call that gave it.
 -- Assumes nothing.
-use mathlib.Core.Path.{refl, ap, _∙_}
+use mathlib.Core.Path.{ap, _∙_}
 use mathlib.Core.Bool.{cond}
 use Prim.Native.Nat.{ℕ}
-use Rattle.octets.proofs.Lists.{_&_}
-use Rattle.stock_rules.specs.Rows.{isInitialised}
+use Rattle.stock_rules.specs.Rows.{isInitialised, rows}
+use Rattle.stock_record.proofs.EachFacts.{each-row}
 use borrow.Author.Needs.{needs}
 use Rattle.stock_record.proofs.of_answer.Statement.{statement}
 use Rattle.stock_record.proofs.of_answer.Tie as tie
@@ -46,18 +46,38 @@ only-requires-4 : tie.Need-only-requires-4
 only-requires-4 c κs = search needs
 
 returns : tie.Need-returns
-returns c = c .before .before .before .before .before .before .before .before .before .before .only .ensures
-    & c .before .before .before .before .before .before .before .before .before .only2 .ensures
-    & c .before .before .before .before .before .before .before .before .only3 .ensures
-    & c .before .before .before .before .before .before .before .one-at .ensures
-    & c .before .before .before .before .before .before .one-at2 .ensures
-    & c .before .before .before .before .before .one-at3 .ensures
-    & c .before .before .before .before .one-at4 .ensures
-    & c .before .before .before .one-at5 .ensures
-    & c .before .before .one-at6 .ensures
-    & c .before .one-at7 .ensures
-    & (c .only4 .ensures ∙ ap (λ (n : ℕ). cond (isInitialised (c .before .before .before .before .before .before .before .before .before .before .before .before .before .before .before .before .before .args .answer)) n 0) (c .before .before .before .before .before .before .before .before .before .before .before .before .before .used-slots .ensures))
-    & refl
+returns c = let a = c .before .before .before .before .before .before .before .before .before .before .before .before .before .before .before .before .before .args .answer in
+    each-row rows a _ (
+      c .before .before .before .before .before .before .before .before .before .before .only .ensures,
+      (
+        c .before .before .before .before .before .before .before .before .before .only2 .ensures,
+        (
+          c .before .before .before .before .before .before .before .before .only3 .ensures,
+          (
+            c .before .before .before .before .before .before .before .one-at .ensures,
+            (
+              c .before .before .before .before .before .before .one-at2 .ensures,
+              (
+                c .before .before .before .before .before .one-at3 .ensures,
+                (
+                  c .before .before .before .before .one-at4 .ensures,
+                  (
+                    c .before .before .before .one-at5 .ensures,
+                    (
+                      c .before .before .one-at6 .ensures,
+                      (
+                        c .before .one-at7 .ensures,
+                        (c .only4 .ensures ∙ ap (λ (n : ℕ). cond (isInitialised a) n 0) (c .before .before .before .before .before .before .before .before .before .before .before .before .before .used-slots .ensures), tt),
+                      ),
+                    ),
+                  ),
+                ),
+              ),
+            ),
+          ),
+        ),
+      ),
+    )
 
 pub of-answer-spec : {M : Type 1} → statement M
 of-answer-spec =
