@@ -1,12 +1,13 @@
 -- The laws of the count: the count of two batches is the sum of theirs, a count of at most 65,535 records is sound, and feeding records one
 -- at a time or adding the counts of two batches gives the count of all. Assumes nothing.
 use mathlib.Core.Path.{_≡_, refl, sym, ap, ap₂, _∙_}
-use mathlib.Core.Bool.{Bool, true, false, _&&_}
+use mathlib.Core.Bool.{Bool, true, false, _&&_, cond}
 use mathlib.Core.List.{List, [], _∷_, _++_, append-assoc, append-nil, map}
 use Prim.Native.Nat.{ℕ, _+_, _≤_, _<_}
 use native.Mathlib.Omega.{arith}
+use lib.Dec.{leb}
 use lib.ListN.{length, length-append}
-use borrow.Author.Tests.{le-leb, lt-leb}
+use borrow.Author.Tests.{le-leb, lt-leb, leb-true}
 use Rattle.octets.proofs.Lists.{_&_}
 use Rattle.refusals.specs.Refusals.{unsound, countFull}
 use Rattle.sound.specs.declared.Answer.{Answer}
@@ -15,7 +16,7 @@ use Rattle.stock_rules.specs.declared.Counted.{Counted}
 use Rattle.stock_rules.specs.Rows.{rows, oneOf, total, countOf}
 use Rattle.stock_rules.specs.Counts.{numberCount, fed, fedMost, isCount, plus, counted, notCounted, summed, addRecord, addCounts, feed}
 use Rattle.stock_rules.proofs.PlusFacts.{length-plus, plus-swap}
-use Rattle.stock_rules.proofs.CountFacts.{CountRules, count-sound, fed-plus, plus-rules}
+use Rattle.stock_rules.proofs.CountFacts.{CountRules, count-rules, count-sound, fed-plus, plus-rules}
 use Rattle.stock_rules.proofs.OneFacts.{fed-one, one-rules, one-sound}
 
 -- ---- total, and totals by any table
@@ -86,6 +87,20 @@ module _ (c d : List ℕ) where
   unfolding addCounts
   sum-fits e g h = rw (e, g, le-leb (fed c + fed d) fedMost h)
 
+-- a sound count stays sound, whatever is added to it
+pub sum-keeps : (c d : List ℕ) → isCount c ≡ true → isCount (addCounts c d .count) ≡ true
+unfolding addCounts
+sum-keeps c d e = rw e (by-second (isCount d) refl)
+  where
+    by-few : isCount d ≡ true → (b : Bool) → leb (fed c + fed d) fedMost ≡ b
+        → isCount (cond b (counted (plus c d)) (notCounted countFull c) .count) ≡ true
+    by-few g true h = count-sound (plus c d) (plus-rules c d (count-rules c e) (count-rules d g) (leb-true _ _ h))
+    by-few g false h = e
+
+    by-second : (b : Bool) → isCount d ≡ b → isCount (summed b (fed c + fed d) c d .count) ≡ true
+    by-second true g = by-few g (leb (fed c + fed d) fedMost) refl
+    by-second false g = e
+
 -- ---- the sum of the counts of two batches
 module _ (r s : List (List ℕ)) where
   pub sum-batches : length r + length s ≤ fedMost → addCounts (countOf r) (countOf s) ≡ counted (countOf (r ++ s))
@@ -112,6 +127,9 @@ add-as-sum c x =
     and-true : (b : Bool) → (b && true) ≡ b
     and-true true = refl
     and-true false = refl
+
+pub add-keeps : (c x : List ℕ) → isCount c ≡ true → isCount (addRecord c x .count) ≡ true
+add-keeps c x e = ap (λ (k : Counted). isCount (k .count)) (add-as-sum c x) ∙ sum-keeps c (oneOf (readAnswer x)) e
 
 pub add-fed : (r : List (List ℕ)) (x : List ℕ) → length r < fedMost → addRecord (countOf r) x ≡ counted (countOf (r ++ (x ∷ [])))
 add-fed r x h =
