@@ -50,6 +50,10 @@ numberTooLarge = 10
 abbrev pub wrongChecksum : ℕ
 wrongChecksum = 11
 
+-- the stock count: one record more, or the sum of two counts, would hold more than 65,535 records fed
+abbrev pub countFull : ℕ
+countFull = 13
+
 -- ---- the rooms (RULES 3.2); that of WRITE follows from the record's fields and is with them (crate `record_rules`, specs/Lengths.antt)
 abbrev pub askRoom : ℕ
 askRoom = 255

@@ -1,0 +1,2 @@
+pub mod UsedFacts
+pub mod EachFacts

@@ -1,0 +1,5 @@
+pub mod PlusFacts
+pub mod CountFacts
+pub mod OneFacts
+pub mod BatchFacts
+pub mod ReportFacts
