@@ -98,8 +98,9 @@ enum {
     /* The most data that SEAL takes, in bytes; over it the operation is refused with TW_TOO_LONG. */
     TW_DATA_MAX_BYTES = 223,
 
-    /* How much of the stack tw_wipe_stack overwrites, in bytes. Every function of the library uses less: outside/c/secrets.c measures. */
+    /* A page of memory. */
     TW_PAGE_BYTES = 4096,
+    /* How much of the stack tw_wipe_stack overwrites. Every function of the library uses less: outside/c/secrets.c measures. */
     TW_STACK_WIPE_BYTES = 6 * TW_PAGE_BYTES
 };
 
@@ -427,14 +428,16 @@ static inline void tw_wipe(void *memory, size_t bytes)
 }
 
 /* Overwrites the stack below the caller's frame with zeros, TW_STACK_WIPE_BYTES bytes of it: what the functions above leave there, PIN, PUK
-   and keys among it. Call it after them, once after the last of several too, from the function that called them or from one that called
-   that function.
+   and keys among it. Call it after them, once after the last of several too, from the function that called them, or from one that called
+   that function, if the frame between is under 8,000 bytes.
    What it does not reach: the caller's own frame and all that lies above it, registers, other memory and copies in it, and pages that
    the system has written to disk.
    The caller ensures that the thread's stack has room for TW_STACK_WIPE_BYTES bytes more. It is touched page by page downwards, so that a
    stack that is too small ends at its guard page.
-   With GCC and Clang no byte is left out. For another compiler, or where TW_WIPE_STACK_IN_C is defined, it is an array of that length
-   in a frame of its own; between the caller's frame and the array some bytes may then stay. */
+   With GCC and Clang for x86-64 it begins at the stack pointer, so that no byte is left out where the compiler gives it no frame of its own;
+   a stack protector for all functions may give it one. The block is in AT&T syntax. For another compiler or processor, or where
+   TW_WIPE_STACK_IN_C is defined, it is an array of that length in a frame of its own; between the caller's frame and the array some
+   bytes may then stay. */
 #if defined(__GNUC__) && defined(__x86_64__) && !defined(TW_WIPE_STACK_IN_C)
 __attribute__((__noinline__, __unused__)) static void tw_wipe_stack(void)
 {

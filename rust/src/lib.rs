@@ -62,8 +62,9 @@
 //! - `Debug` shows no PIN, PUK, secret or key.
 //! - Commands, supplies and buffers are the caller's: [`wipe`] is for them. The data that [`Session::seal`] takes may be a PIN; the buffer of
 //!   [`Card::ask`] has the key that LOAD brings, that of [`Session::unseal`] the key that EXPORT gives, and that of [`Card::write`] the stored record.
-//! - A move copies a value's bytes, and what it leaves at the old place is not wiped. A card that is to be in one place alone stays behind
-//!   a reference, or in a `Box`.
+//! - A move copies a value's bytes, and what it leaves at the old place is not wiped. `?` on [`Card::read`] and `Box::new(card)` are moves
+//!   too. To leave no copy, keep the `Result` and borrow from it (`as_mut`), or make the card in a function of its own that gives it back in
+//!   a `Box`, and call [`wipe_stack`] after that function.
 //!
 //! Registers are not cleared, nor what the system writes to disk. `SECURITY.md` of the repository has the whole of it.
 //!

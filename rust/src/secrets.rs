@@ -3,6 +3,7 @@
 
 use std::arch::asm;
 use std::hint::black_box;
+use std::mem::{align_of, size_of};
 use std::ptr::{from_mut, from_ref, write_volatile};
 use std::sync::atomic::{compiler_fence, Ordering};
 
@@ -27,8 +28,8 @@ pub fn wipe(bytes: &mut [u8]) {
     compiler_fence(Ordering::SeqCst);
 }
 
-/// Overwrites the stack below the caller's frame with zeros, [`STACK_WIPE_BYTES`] bytes. Each call of this crate ends with it; it is here
-/// for what the caller's own functions leave there.
+/// Overwrites the stack below the caller's frame with zeros, [`STACK_WIPE_BYTES`] bytes, which the thread must have left. Each call of the
+/// library ends with it; it is here for what the caller's own functions leave there.
 ///
 /// What it does not reach: the caller's own frame, registers, the heap, and pages that the system has written to disk.
 #[inline(never)]
@@ -135,6 +136,11 @@ pub(crate) unsafe trait Record<const N: usize>: Sized {
 /// Copying, comparing and ending of a record that holds secrets. Its length is asserted where the type is declared.
 macro_rules! holds_secrets {
     ($name:ident, $bytes:ident) => {
+        const _: () = assert!(
+            size_of::<$name>() == $bytes && align_of::<$name>() == 1,
+            "bytes alone, without padding"
+        );
+
         // SAFETY: the type is repr(C) and made of bytes alone.
         unsafe impl Record<$bytes> for $name {}
 

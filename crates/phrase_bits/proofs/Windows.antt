@@ -28,7 +28,7 @@ low s t k l h =
     ap (λ (x : ℕ). x % 2 ^ k) (number-append s t ∙ ap (λ (j : ℕ). number s * 2 ^ j + number t) l)
     ∙ digits-mod (number s) (subst (λ (j : ℕ). number t < 2 ^ j) l (number-below t h))
 
--- w bits of s with r bits before them and t behind
+-- w bits of s with r bits before them and t after
 pub number-part : (s : List ℕ) (r w t : ℕ) → length s ≡ r + (w + t) → Below 2 s → number (take w (drop r s)) ≡ number s / 2 ^ t % 2 ^ w
 number-part s r w t l h =
     sym
@@ -61,7 +61,7 @@ drop-bits v (suc m) (x ∷ s) h =
     ∙ ap (drop (m * v)) (drop-at (bitsOf v x) (bits v s) v (length-bitsOf v x))
     ∙ drop-bits v m s (omega arith)
 
--- w bits from the bit m * v + r on, where the numbers `a` are at place m and have t bits behind
+-- w bits from the bit m * v + r on, where the numbers `a` are at place m and have t bits after them
 pub window : (v w m r t : ℕ) (s a b : List ℕ) → drop m s ≡ a ++ b → m ≤ length s → length a * v ≡ r + (w + t)
     → number (take w (drop (m * v + r) (bits v s))) ≡ number (bits v a) / 2 ^ t % 2 ^ w
 window v w m r t s a b e h l =

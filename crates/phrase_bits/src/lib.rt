@@ -14,18 +14,18 @@ pub const NUMBER_BITS: usize = 11;
 // How many numbers of 11 bits there are.
 const NUMBERS: u32 = 2048;
 
-// The bits behind a number that three bytes begin with, and behind a byte that two numbers begin with.
-const BEHIND_NUMBER_BITS: usize = 13;
+// The bits after a number that three bytes begin with, and after a byte that two numbers begin with.
+const BITS_AFTER_NUMBER: usize = 13;
 
-const BEHIND_BYTE_BITS: usize = 14;
+const BITS_AFTER_BYTE: usize = 14;
 
-// As many bits of x as `width_bits` says, with as many behind them as `behind_bits` says.
-pub fn bits_at(x: u32, behind_bits: usize, width_bits: usize) -> u32
-    requires { ⌜ «behind_bits» < 32 ⌝ }
+// As many bits of x as `width_bits` says, with as many after them as `bits_after` says.
+pub fn bits_at(x: u32, bits_after: usize, width_bits: usize) -> u32
+    requires { ⌜ «bits_after» < 32 ⌝ }
     requires { ⌜ «width_bits» < 32 ⌝ }
-    ensures { λ r. ⌜ r ≡ x / 2 ^ «behind_bits» % 2 ^ «width_bits» ⌝ }
+    ensures { λ r. ⌜ r ≡ x / 2 ^ «bits_after» % 2 ^ «width_bits» ⌝ }
 {
-    (x >> behind_bits) % (1 << width_bits)
+    (x >> bits_after) % (1 << width_bits)
 }
 
 // The first bits of a byte, high bit first, as one number.
@@ -61,7 +61,7 @@ pub fn number_at(s: &[u8], k: usize) -> u32
     let three = three_bytes(s[at], s[at + 1], s[at + 2]);
     bits_at(
         three,
-        BEHIND_NUMBER_BITS - first_bit % BYTE_BITS,
+        BITS_AFTER_NUMBER - first_bit % BYTE_BITS,
         NUMBER_BITS,
     )
 }
@@ -92,5 +92,5 @@ pub fn byte_at(words: &[u8], k: usize) -> u32
     let first_bit = k * BYTE_BITS;
     let at = first_bit / NUMBER_BITS;
     let two = low_bits_in(words, at) * NUMBERS + low_bits_in(words, at + 1);
-    bits_at(two, BEHIND_BYTE_BITS - first_bit % NUMBER_BITS, BYTE_BITS)
+    bits_at(two, BITS_AFTER_BYTE - first_bit % NUMBER_BITS, BYTE_BITS)
 }

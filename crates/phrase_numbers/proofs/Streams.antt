@@ -25,7 +25,7 @@ stream-starts e z s h l p =
 
 module _ (e s : List ℕ) (n : ℕ) (l : length e ≡ 4 * n) (m : n ≤ 8)
     (p : take (length e + 1) s ≡ e ++ (getD (sha256 e) 0 0 ∷ [])) where
-  -- the stream's bits are those that are cut, and others behind them
+  -- the stream's bits are those that are cut, and others after them
   rest : List ℕ
   rest = drop (checksumSize e) (bitsOf 8 (getD (sha256 e) 0 0)) ++ bits 8 (drop (length e + 1) s)
 

@@ -25,7 +25,7 @@ pub fn checksum_bits(entropy_bytes: usize) -> usize
     entropy_bytes * phrase_bits::BYTE_BITS / BITS_PER_CHECKSUM_BIT
 }
 
-// The entropy with the first byte of its SHA-256 behind it, whose first bits are the checksum.
+// The entropy with the first byte of its SHA-256 after it, whose first bits are the checksum.
 fn joined(entropy: &[u8]) -> [u8; 35]
     requires { ⌜ length (now entropy) ≤ 32 ⌝ }
     ensures { λ r. ⌜ take (length (now (entropy .entry)) + 1) r ≡ now (entropy .entry) ++ (getD (sha256 (now (entropy .entry))) 0 0 ∷ []) ⌝ }

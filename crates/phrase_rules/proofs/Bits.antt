@@ -152,7 +152,7 @@ getD-cut w (suc k) zero s h = rw zero-mul
 getD-cut w (suc k) (suc i) s h =
     getD-cut w k i (drop w s) (omega arith) ∙ ap (λ (r : List ℕ). number (take w r)) (drop-drop (i * w) w s ∙ rw (suc-mul, add-comm (i * w)))
 
--- numbers of w bits are cut from their bits again, whatever comes behind
+-- numbers of w bits are cut from their bits again, whatever comes after them
 pub cut-bits : (w : ℕ) (s t : List ℕ) → Below (2 ^ w) s → cut w (length s) (bits w s ++ t) ≡ s
 unfolding cut bits
 cut-bits w [] t h = refl

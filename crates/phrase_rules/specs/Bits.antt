@@ -3,7 +3,7 @@ use mathlib.Core.List.{List, [], _∷_, _++_}
 use Prim.Native.Nat.{ℕ, zero, suc, _+_, _*_, _/_, _%_}
 use lib.ListN.{take, drop}
 
--- the w bits of a number, high bit first: those of its half, and behind them the lowest
+-- the w bits of a number, high bit first: those of its half, and after them the lowest
 unfoldable pub bitsOf : ℕ → ℕ → List ℕ
 bitsOf zero x = []
 bitsOf (suc w) x = bitsOf w (x / 2) ++ (x % 2 ∷ [])

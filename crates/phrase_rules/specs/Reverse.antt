@@ -20,7 +20,7 @@ fromTwoBytes (x ∷ y ∷ s) = (x * 256 + y) ∷ fromTwoBytes s
 abbrev pub checksumSizeIn : List ℕ → ℕ
 checksumSizeIn words = length words / 6
 
--- the bits of the numbers: 32 bits of entropy for each bit of the checksum, and behind them the checksum
+-- the bits of the numbers: 32 bits of entropy for each bit of the checksum, and after them the checksum
 unfoldable pub wordBits : List ℕ → List ℕ
 wordBits words = bits 11 (fromTwoBytes words)
 
@@ -46,7 +46,7 @@ unfoldable pub inElevenBits : List ℕ → Bool
 inElevenBits [] = true
 inElevenBits (x ∷ s) = leb x 2047 && inElevenBits s
 
--- the bits behind the entropy are its checksum
+-- the bits after the entropy are its checksum
 unfoldable pub isChecked : List ℕ → Bool
 isChecked words = sameBytes (checksumIn words) (checksum (entropyIn words))
 

@@ -25,7 +25,7 @@ rem-result : tie.Need-rem-result
 rem-result c = rw (power-fits (c .args .width-bits) (omega arith)) (one-le-pow (c .args .width-bits) 2 (omega arith))
 
 returns : tie.Need-returns
-returns c = ap (λ (p : ℕ). c .args .x / 2 ^ (c .args .behind-bits) % p) (power-fits (c .args .width-bits) (omega arith))
+returns c = ap (λ (p : ℕ). c .args .x / 2 ^ (c .args .bits-after) % p) (power-fits (c .args .width-bits) (omega arith))
 
 pub bits-at-spec : {M : Type 1} → statement M
 bits-at-spec =

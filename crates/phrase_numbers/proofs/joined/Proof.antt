@@ -1,4 +1,4 @@
--- The entropy is put from the start, and one byte behind it (`stream-starts`).
+-- The entropy is put from the start, and one byte after it (`stream-starts`).
 -- Assumes nothing.
 use mathlib.Core.Path.{ap, _∙_}
 use mathlib.Core.List.{List, [], _∷_, _++_}
