@@ -3,3 +3,4 @@ pub mod CountFacts
 pub mod OneFacts
 pub mod BatchFacts
 pub mod ReportFacts
+pub mod Examples
