@@ -38,6 +38,10 @@ notGenuine = 7
 abbrev pub notRecord : ℕ
 notRecord = 8
 
+-- PLAN: no plan is made
+abbrev pub noPlan : ℕ
+noPlan = 12
+
 -- ---- the rooms (RULES 3.2); that of WRITE follows from the record's fields and is with them (crate `record_rules`, specs/Lengths.antt)
 abbrev pub askRoom : ℕ
 askRoom = 255

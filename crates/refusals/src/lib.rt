@@ -28,6 +28,9 @@ pub const REFUSAL_NOT_GENUINE: u8 = 7;
 // READ: not a record.
 pub const REFUSAL_NOT_RECORD: u8 = 8;
 
+// PLAN: no plan is made.
+pub const REFUSAL_NO_PLAN: u8 = 12;
+
 // The room that each operation asks for, in bytes. That of WRITE follows from the stored record's fields: `record_rules::WRITE_ROOM_BYTES`.
 pub const ASK_ROOM_BYTES: usize = 255;
 

@@ -1,0 +1,3 @@
+pub mod CommandFacts
+pub mod Blind
+pub mod RunFacts
