@@ -1,60 +1,53 @@
 -- What a plan does depends on the flag of INIT, the PIN's tries, verification and the keys alone: not on PIN, PUK, identity, pairing or
 -- channel. Assumes nothing.
-use mathlib.Core.Path.{_≡_, refl, sym, ap, ap₂, _∙_}
-use mathlib.Core.Bool.{Bool, true, false, _&&_, _||_, not, cond}
-use mathlib.Core.List.{List, []}
+use mathlib.Core.Path.{_≡_, refl, sym, ap, _∙_}
+use mathlib.Core.Bool.{Bool, true, false, not, cond}
+use mathlib.Core.List.{List}
 use mathlib.Core.Option.{Option, none, some}
 use Prim.Native.Nat.{ℕ, zero, suc, _-_}
 use lib.Dec.{leb, eqb}
 use lib.ListN.{length, drop}
 use Rattle.card.specs.declared.Card.{Card}
-use Rattle.card.specs.State.{withSecrets}
+use Rattle.card.specs.State.{withPins, withSecrets}
 use Rattle.card.specs.Slots.{isZero}
 use Rattle.card.specs.Sound.{isSound}
 use Rattle.rules.specs.declared.Command.{Command}
 use Rattle.rules.specs.declared.Command.the-variants as command
 use Rattle.rules.specs.Words.{success, triesLeft, verdict}
-use Rattle.rules.specs.Commands.{isPath, isVerified, isSet, ruleOf, verifyChecks, verifyReply, pinlessChecks, pinlessReply, deriveChecks, deriveReply}
+use Rattle.rules.specs.Supplies.{noSupply, deriveSupply}
+use Rattle.rules.specs.Commands.{pinWrong, ruleOf, verifyChecks, verifyReply, pinlessChecks, pinlessReply, deriveChecks, deriveReply}
 use Rattle.rules.specs.Steps.{isInitialised, claOf, insOf, p1Of, p2Of}
-use Rattle.plan_rules.specs.Plan.{commandAt, firstCommand, firstData, firstBytes, takenAsRight, after, afterThat, afterFirst, onward, runPlan, endsAs, accepts, checkAnswer}
+use Rattle.plan_rules.specs.Plan.{commandAt, firstCommand, firstData, firstBytes, reads, yes, takenAsRight, nextOf, after, afterThat, afterFirst, onward, runPlan, endsAs, accepts, checkAnswer}
 use Rattle.plan_rules.specs.Known.{bare, isHead, known, knownOf}
 use Rattle.plan_rules.proofs.CommandFacts.{commandOf, command-at, by-command}
 
+-- ---- knownOf: of a card that is there by a test
+next-known : (t : Bool) (x : Card) → knownOf (cond t (some x) none) ≡ cond t (some (known x)) none
+next-known true x = refl
+next-known false x = refl
+
+when-known : (t : Bool) (o : Option Card) {u : Option Card} → knownOf o ≡ u → knownOf (cond t o none) ≡ cond t u none
+when-known true o e = e
+when-known false o e = refl
+
 -- ---- after: for each of the three commands
 module _ (c : Card) (d : List ℕ) where
+  reply-known : (right : Bool) → knownOf (nextOf (verifyReply right c)) ≡ nextOf (verifyReply right (known c))
+  unfolding verifyReply
+  reply-known true = refl
+  reply-known false = next-known (eqb (triesLeft (c .pins .«pin_tries» - 1)) success) (withPins c (pinWrong (c .pins)))
+
   verify-known : knownOf (after command.Verify c d) ≡ after command.Verify (known c) d
-  unfolding after ruleOf verifyChecks verifyReply
-  verify-known = by-tests (not (isZero (c .pins .«pin_tries»))) (takenAsRight d) (eqb (triesLeft (c .pins .«pin_tries» - 1)) success) refl refl refl
-    where
-      by-tests : (t r s : Bool) → not (isZero (c .pins .«pin_tries»)) ≡ t → takenAsRight d ≡ r
-          → eqb (triesLeft (c .pins .«pin_tries» - 1)) success ≡ s → knownOf (after command.Verify c d) ≡ after command.Verify (known c) d
-      by-tests false r s e f g = rw e
-      by-tests true true s e f g = rw (e, f)
-      by-tests true false true e f g = rw (e, f, g)
-      by-tests true false false e f g = rw (e, f, g)
+  unfolding after ruleOf verifyChecks
+  verify-known = when-known (reads (verdict noSupply (verifyChecks (c .pins)))) (nextOf (verifyReply (takenAsRight d) c)) (reply-known (takenAsRight d))
 
   pinless-known : knownOf (after command.SetPinless c d) ≡ after command.SetPinless (known c) d
   unfolding after ruleOf pinlessChecks pinlessReply
-  pinless-known = by-tests (isVerified (c .pins)) (isPath d) refl refl
-    where
-      by-tests : (v p : Bool) → isVerified (c .pins) ≡ v → isPath d ≡ p
-          → knownOf (after command.SetPinless c d) ≡ after command.SetPinless (known c) d
-      by-tests false p e f = rw e
-      by-tests true false e f = rw (e, f)
-      by-tests true true e f = rw (e, f)
-
-  abbrev mayDerive : Bool
-  mayDerive = (isVerified (c .pins) || isSet (c .keys .pinless)) && eqb (c .keys .kind) 2
+  pinless-known = when-known (reads (verdict noSupply (pinlessChecks (c .pins) d))) (nextOf (pinlessReply c d)) refl
 
   derive-known : knownOf (after command.Derive c d) ≡ after command.Derive (known c) d
   unfolding after ruleOf deriveChecks deriveReply
-  derive-known = by-tests mayDerive (isPath d) refl refl
-    where
-      by-tests : (v p : Bool) → mayDerive ≡ v → isPath d ≡ p
-          → knownOf (after command.Derive c d) ≡ after command.Derive (known c) d
-      by-tests false p e f = rw e
-      by-tests true false e f = rw (e, f)
-      by-tests true true e f = rw (e, f)
+  derive-known = when-known (reads (verdict deriveSupply (deriveChecks (c .pins) (c .keys) d))) (nextOf (deriveReply c d yes)) refl
 
   -- a command of a plan, whatever its head
   that-known : (b : ℕ) → knownOf (afterThat c d (commandOf b)) ≡ afterThat (known c) d (commandOf b)
@@ -62,29 +55,22 @@ module _ (c : Card) (d : List ℕ) where
 
   headed : (i : Bool) (cla b p1 p2 : ℕ)
       → knownOf (afterThat c d (commandAt i cla b p1 p2)) ≡ afterThat (known c) d (commandAt i cla b p1 p2)
-  headed i cla b p1 p2 = rw (command-at i cla p1 p2 b) (by-test (isHead i cla p1 p2))
+  headed i cla b p1 p2 = rw (command-at i cla p1 p2 b) (by-head (isHead i cla p1 p2))
     where
-      by-test : (h : Bool) → knownOf (afterThat c d (cond h (commandOf b) none)) ≡ afterThat (known c) d (cond h (commandOf b) none)
-      by-test true = that-known b
-      by-test false = refl
+      by-head : (h : Bool) → knownOf (afterThat c d (cond h (commandOf b) none)) ≡ afterThat (known c) d (cond h (commandOf b) none)
+      by-head true = that-known b
+      by-head false = refl
 
 -- ---- afterFirst, runPlan
 first-known : (c : Card) (s : List ℕ) → knownOf (afterFirst c s) ≡ afterFirst (known c) s
 unfolding afterFirst
-first-known c s = by-test (leb (firstBytes s) (length s))
-  where
-    by-test : (w : Bool) → knownOf (cond w (afterThat c (firstData s) (firstCommand c s)) none)
-        ≡ cond w (afterThat (known c) (firstData s) (firstCommand c s)) none
-    by-test true = headed c (firstData s) (isInitialised c) (claOf s) (insOf s) (p1Of s) (p2Of s)
-    by-test false = refl
+first-known c s =
+    when-known (leb (firstBytes s) (length s)) (afterThat c (firstData s) (firstCommand c s))
+    (headed c (firstData s) (isInitialised c) (claOf s) (insOf s) (p1Of s) (p2Of s))
 
 run-known : (n : ℕ) (c : Card) (s : List ℕ) → knownOf (runPlan n c s) ≡ runPlan n (known c) s
 unfolding runPlan
-run-known zero c s = by-test (isZero (length s))
-  where
-    by-test : (w : Bool) → knownOf (cond w (some c) none) ≡ cond w (some (known c)) none
-    by-test true = refl
-    by-test false = refl
+run-known zero c s = next-known (isZero (length s)) c
 run-known (suc n) c s =
     by-test (λ (x : Card). runPlan n x (drop (firstBytes s) s)) (λ (x : Card). run-known n x (drop (firstBytes s) s)) (isZero (length s))
   where

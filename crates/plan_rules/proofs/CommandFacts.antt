@@ -1,7 +1,7 @@
 -- The commands of a plan are VERIFY, SET PIN-LESS PATH and DERIVE, of class 80, on an initialised card, with P1 and P2 00.
 -- Assumes nothing.
-use mathlib.Core.Path.{_≡_, refl, sym, subst, _∙_}
-use mathlib.Core.Bool.{Bool, true, false, _&&_, _||_, cond, false≢true}
+use mathlib.Core.Path.{_≡_, refl, sym, ap, subst, _∙_}
+use mathlib.Core.Bool.{Bool, true, false, _&&_, cond, false≢true}
 use mathlib.Core.Option.{Option, none, some}
 use Prim.Native.Nat.{ℕ}
 use lib.Dec.{eqb}
@@ -81,13 +81,29 @@ module _ (i : Bool) (cla p1 p2 : ℕ) where
       by-kind {b} (other e) = unplanned (isPlanned b) (isHead i cla p1 p2) _ _ e
 
 -- ---- commandOf: one of three commands, or none
+module _ {b : ℕ} where
+  pub at-verify : b ≡ 0x20 → commandOf b ≡ some command.Verify
+  unfolding commandAt nameOf
+  at-verify e = ap commandOf e
+
+  pub at-pinless : b ≡ 0xC1 → commandOf b ≡ some command.SetPinless
+  unfolding commandAt nameOf
+  at-pinless e = ap commandOf e
+
+  pub at-derive : b ≡ 0xD1 → commandOf b ≡ some command.Derive
+  unfolding commandAt nameOf
+  at-derive e = ap commandOf e
+
+pub at-other : (b : ℕ) → isPlanned b ≡ false → commandOf b ≡ none
+unfolding commandAt
+at-other b e = rw e
+
 pub by-command : (P : Option Command → Type 0) → P none → P (some command.Verify) → P (some command.SetPinless) → P (some command.Derive)
     → (b : ℕ) → P (commandOf b)
-unfolding commandAt nameOf
 by-command P n v s d b = by-kind (kind b)
   where
     by-kind : {b : ℕ} → Kind b → P (commandOf b)
-    by-kind verify = v
-    by-kind setPinless = s
-    by-kind derive = d
-    by-kind {b} (other e) = rw e n
+    by-kind verify = rw (at-verify refl) v
+    by-kind setPinless = rw (at-pinless refl) s
+    by-kind derive = rw (at-derive refl) d
+    by-kind {b} (other e) = rw (at-other b e) n

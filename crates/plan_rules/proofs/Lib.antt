@@ -1,3 +1,4 @@
 pub mod CommandFacts
-pub mod Blind
+pub mod AfterFacts
 pub mod RunFacts
+pub mod Blind

@@ -1,16 +1,22 @@
 -- A plan's run, step by step: it ends, it stops, or it goes on past its first command. Lengths are in bytes.
 -- Assumes nothing.
-use mathlib.Core.Path.{_≡_, refl}
+use mathlib.Core.Path.{_≡_, refl, ap}
 use mathlib.Core.Bool.{Bool, true, false, cond}
 use mathlib.Core.List.{List}
 use mathlib.Core.Option.{Option, none, some}
-use Prim.Native.Nat.{ℕ, zero, suc, _≤_}
+use Prim.Native.Nat.{ℕ, zero, suc, _-_, _≤_, _<_}
 use native.Mathlib.Omega.{arith}
 use lib.Dec.{leb}
 use lib.ListN.{length, drop}
-use borrow.Author.Tests.{leb-true, eq-eqb, ne-eqb}
+use borrow.Author.Tests.{leb-true, le-leb, lt-leb, eq-eqb, ne-eqb}
 use Rattle.card.specs.declared.Card.{Card}
-use Rattle.plan_rules.specs.Plan.{firstBytes, afterFirst, onward, runPlan}
+use Rattle.rules.specs.Steps.{claOf, insOf, p1Of, p2Of, isInitialised}
+use Rattle.plan_rules.specs.Plan.{firstBytes, firstData, afterThat, afterFirst, onward, runPlan}
+use Rattle.plan_rules.specs.Known.{isHead}
+use Rattle.plan_rules.proofs.CommandFacts.{commandOf, command-at}
+
+suc-minus : (n : ℕ) → suc n - 1 ≡ n
+suc-minus n = omega arith
 
 -- ---- runPlan
 module _ (c : Card) (s : List ℕ) where
@@ -23,11 +29,25 @@ module _ (c : Card) (s : List ℕ) where
   unfolding runPlan
   run-spent e = rw (ne-eqb (length s) 0 e)
 
-  pub run-next : (n : ℕ) → (length s ≡ 0 → ⊥) → runPlan (suc n) c s ≡ onward (afterFirst c s) (λ next. runPlan n next (drop (firstBytes s) s))
+  pub run-next : (n : ℕ) → (n ≡ 0 → ⊥) → (length s ≡ 0 → ⊥)
+      → runPlan n c s ≡ onward (afterFirst c s) (λ next. runPlan (n - 1) next (drop (firstBytes s) s))
   unfolding runPlan
-  run-next n e = rw (ne-eqb (length s) 0 e)
+  run-next zero z e = absurd (z refl)
+  run-next (suc n) z e = rw (ne-eqb (length s) 0 e, suc-minus n)
 
-  -- ---- afterFirst: where it gives a card, the first command is whole
+  -- ---- afterFirst: by whether the first command is whole, and by its head
+  pub first-short : length s < firstBytes s → afterFirst c s ≡ none
+  unfolding afterFirst
+  first-short h = rw (lt-leb (firstBytes s) (length s) h)
+
+  pub first-by-head : firstBytes s ≤ length s
+      → afterFirst c s ≡ afterThat c (firstData s) (cond (isHead (isInitialised c) (claOf s) (p1Of s) (p2Of s)) (commandOf (insOf s)) none)
+  unfolding afterFirst
+  first-by-head h =
+      rw (le-leb (firstBytes s) (length s) h)
+      (ap (afterThat c (firstData s)) (command-at (isInitialised c) (claOf s) (p1Of s) (p2Of s) (insOf s)))
+
+  -- where it gives a card, the first command is whole
   pub first-whole : (x : Card) → afterFirst c s ≡ some x → firstBytes s ≤ length s
   unfolding afterFirst
   first-whole x e = leb-true (firstBytes s) (length s) (by-test (leb (firstBytes s) (length s)) _ e)
