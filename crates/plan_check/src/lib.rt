@@ -1,6 +1,7 @@
-// The check of job sheets (RULES 6.20): whether the commands of a plan, one after the other on a card, all give 9000 and leave both paths as asked.
-// Every length and place is in bytes; a plan's limit is in commands.
-// Proved: the answer is the definition's, for every card, every plan and all asked paths; nothing is required. PIN and PUK are read for soundness alone.
+// The check of job sheets (RULES 6.20): whether the commands of a plan, one after the other on a card, all give 9000 and leave both paths as
+// asked. Every length and place is in bytes; a plan's limit is in commands.
+// Proved: the answer is the definition's, for every card, every plan and all asked paths; nothing is required. PIN and PUK are read for
+// soundness alone.
 ghost use mathlib.Core.Bool.{not};
 ghost use mathlib.Core.Path.{_≡_};
 ghost use lib.Dec.{leb};

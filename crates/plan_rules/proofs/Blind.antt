@@ -93,15 +93,23 @@ accepts-known c plan current pinless = ends (runPlan 3 c plan) ∙ ap (endsAs cu
     ends none = refl
     ends (some x) = refl
 
--- whether a plan is accepted does not depend on PIN and PUK
-module _ (c : Card) (p q plan current pinless : List ℕ) where
-  pub accepts-blind : accepts c plan current pinless ≡ accepts (withSecrets p q c) plan current pinless
-  accepts-blind = accepts-known c plan current pinless ∙ sym (accepts-known (withSecrets p q c) plan current pinless)
+-- two cards that agree in what a plan looks at, and are both sound or both not, get the same answer
+module _ (plan current pinless : List ℕ) where
+  accepts-agree : (c d : Card) → known c ≡ known d → accepts c plan current pinless ≡ accepts d plan current pinless
+  accepts-agree c d e =
+      accepts-known c plan current pinless
+      ∙ ap (λ (x : Card). accepts x plan current pinless) e
+      ∙ sym (accepts-known d plan current pinless)
 
-  -- beyond soundness the check does not look at PIN and PUK
-  pub check-blind : isSound c ≡ isSound (withSecrets p q c) → checkAnswer c plan current pinless ≡ checkAnswer (withSecrets p q c) plan current pinless
+  pub check-agree : (c d : Card) → isSound c ≡ isSound d → known c ≡ known d
+      → checkAnswer c plan current pinless ≡ checkAnswer d plan current pinless
   unfolding checkAnswer
-  check-blind e = rw (e, accepts-blind)
+  check-agree c d s e = rw (s, accepts-agree c d e)
+
+  -- so beyond soundness the check does not look at PIN and PUK
+  pub check-blind : (p q : List ℕ) (c : Card) → isSound c ≡ isSound (withSecrets p q c)
+      → checkAnswer c plan current pinless ≡ checkAnswer (withSecrets p q c) plan current pinless
+  check-blind p q c s = check-agree c (withSecrets p q c) s refl
 
 -- the card of a card's parts alone
 pub accepts-bare : (c : Card) (plan current pinless : List ℕ)

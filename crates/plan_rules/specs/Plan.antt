@@ -1,16 +1,17 @@
 -- Job sheets (RULES 6.20): what a plan of opened commands does on a card, which plans the check accepts, and when the planner refuses. Each
 -- command of a plan is judged and answered by its own rule (crate `rules`). Every length is in bytes.
-use Prim.Native.Nat.{ℕ, zero, suc, _+_}
+use Prim.Native.Nat.{ℕ, zero, suc, _+_, _-_, _≤_}
+use mathlib.Core.Path.{_≡_}
 use mathlib.Core.Bool.{Bool, true, false, _&&_, _||_, not, cond}
 use mathlib.Core.List.{List, [], _∷_}
 use mathlib.Core.Option.{Option, none, some}
 use lib.Dec.{leb, eqb}
-use lib.ListN.{length, drop}
+use lib.ListN.{length, take, drop}
 use Rattle.octets.specs.Bytes.{sameBytes}
 use Rattle.refusals.specs.Refusals.{noRefusal, unsound, noPlan}
 use Rattle.card.specs.declared.Card.{Card}
-use Rattle.card.specs.Sizes.{pinBytes}
-use Rattle.card.specs.State.{pathBytes}
+use Rattle.card.specs.Sizes.{pinBytes, pathMostBytes}
+use Rattle.card.specs.State.{zeros, pathBytes}
 use Rattle.card.specs.Slots.{isZero}
 use Rattle.card.specs.Sound.{isSound}
 use Rattle.rules.specs.declared.Instruction.the-variants as ins
@@ -25,6 +26,7 @@ use Rattle.rules.specs.Commands.{areDigits, isPath, ruleOf}
 use Rattle.rules.specs.Rows.{rowOf}
 use Rattle.rules.specs.Steps.{claOf, insOf, p1Of, p2Of, lcOf, nameOf, isInitialised, inStage, checksOf, supplyOf}
 use Rattle.plan_rules.specs.declared.Checked.{Checked}
+use Rattle.plan_rules.specs.declared.Planned.{Planned}
 
 -- ---- a plan's bytes: opened commands, one after the other, each 80 INS P1 P2, the number of its data bytes, and the data
 -- the most commands, and the bytes of a command before its data
@@ -126,3 +128,16 @@ canPlan c pin current pinless =
 
 unfoldable pub planRefusal : Card → List ℕ → List ℕ → List ℕ → ℕ
 planRefusal c pin current pinless = cond (isSound c) (cond (canPlan c pin current pinless) noRefusal noPlan) unsound
+
+-- ---- what is promised of the planner's answer
+-- the longest plan: VERIFY with a PIN, and two commands with a path each
+abbrev pub planMostBytes : ℕ
+planMostBytes = (headBytes + pinBytes) + ((headBytes + pathMostBytes) + (headBytes + pathMostBytes))
+
+-- the refusal; with it the empty plan, without it a plan that the check accepts; and zeros after the plan
+pub record Plans (c : Card) (pin current pinless : List ℕ) (r : Planned) : Type 0 where
+  pub refusal : r .refusal ≡ planRefusal c pin current pinless
+  pub refused : (r .refusal ≡ noRefusal → ⊥) → r .count ≡ 0
+  pub accepted : r .refusal ≡ noRefusal → accepts c (take (r .count) (r .bytes)) current pinless ≡ true
+  pub most : r .count ≤ planMostBytes
+  pub after : drop (r .count) (r .bytes) ≡ zeros (planMostBytes - r .count)

@@ -1,22 +1,22 @@
 -- `run`, which calls itself, is the definition, command by command. The measure is the number of commands left.
 -- Assumes nothing.
-use Rattle.plan_check.proofs.Running.{halted, whole, gone}
 use mathlib.Core.Path.{ap, _∙_}
+use Prim.Native.Nat.{ℕ, _<_}
 use native.Mathlib.Omega.{arith}
 use borrow.Author.Needs.{needs}
 use borrow.Author.Tests.{not-true, not-false}
+use borrow.Fn.Kinds.{In}
+use borrow.Fn.PlainCycle.{Measures, is, falls, and}
 use Rattle.plan_rules.specs.Plan.{runPlan}
 use Rattle.plan_rules.specs.Known.{bare}
 use Rattle.plan_rules.proofs.RunFacts.{run-ended, run-spent}
-use Prim.Native.Nat.{ℕ, _<_}
-use borrow.Fn.Kinds.{In}
-use borrow.Fn.PlainCycle.{Measures, is, falls, and}
+use Rattle.plan_steps.proofs.stopped.Reads as stopped
+use Rattle.plan_check.proofs.Running.{halted, whole, gone}
 use Rattle.plan_check.proofs.run.Reads as run
 use Rattle.plan_check.proofs.run.Kinds as run-kinds
 use Rattle.plan_check.proofs.+run.Lts-run as run-lts
 use Rattle.plan_check.proofs.after_first.Reads as after-first
 use Rattle.plan_check.proofs.first_bytes.Reads as first-bytes
-use Rattle.plan_steps.proofs.stopped.Reads as stopped
 use Rattle.plan_check.proofs.+run.{statement}
 use Rattle.plan_check.proofs.+run.Tie.{close}
 

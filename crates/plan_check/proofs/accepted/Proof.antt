@@ -2,9 +2,9 @@
 -- Assumes nothing.
 use mathlib.Core.Path.{sym, ap, ap₂, _∙_}
 use mathlib.Core.Bool.{Bool, _&&_}
+use borrow.Author.Needs.{needs}
 use Rattle.plan_rules.specs.Plan.{endsAs, accepts}
 use Rattle.plan_check.proofs.Running.{ends-stepped}
-use borrow.Author.Needs.{needs}
 use Rattle.plan_check.proofs.accepted.Statement.{statement}
 use Rattle.plan_check.proofs.accepted.Tie as tie
 

@@ -8,12 +8,12 @@ use Prim.Native.Nat.{ℕ, _+_, _-_}
 use native.Mathlib.Omega.{arith}
 use lib.ListN.{take, drop}
 use borrow.Author.Tests.{not-true, not-false}
+use borrow.Author.Needs.{needs}
 use Rattle.rules.specs.Steps.{insOf}
 use Rattle.plan_rules.specs.Plan.{firstData, afterThat}
 use Rattle.plan_rules.specs.Known.{bare}
 use Rattle.plan_rules.proofs.CommandFacts.{commandOf}
 use Rattle.plan_rules.proofs.RunFacts.{first-short, first-by-head}
-use borrow.Author.Needs.{needs}
 use Rattle.plan_check.proofs.after_first.Statement.{statement}
 use Rattle.plan_check.proofs.after_first.Tie as tie
 

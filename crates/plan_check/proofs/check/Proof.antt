@@ -2,9 +2,9 @@
 -- Assumes nothing.
 use mathlib.Core.Path.{sym, _∙_}
 use borrow.Author.Tests.{not-true, not-false}
+use borrow.Author.Needs.{needs}
 use Rattle.plan_rules.specs.Plan.{checkAnswer}
 use Rattle.plan_rules.proofs.Blind.{accepts-bare}
-use borrow.Author.Needs.{needs}
 use Rattle.plan_check.proofs.check.Statement.{statement}
 use Rattle.plan_check.proofs.check.Tie as tie
 

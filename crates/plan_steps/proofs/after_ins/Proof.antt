@@ -2,10 +2,10 @@
 -- Assumes nothing.
 use mathlib.Core.Path.{ap, _∙_}
 use borrow.Author.Tests.{ne-eqb}
+use borrow.Author.Needs.{needs}
 use Rattle.plan_rules.specs.Known.{bare}
 use Rattle.plan_rules.specs.Plan.{afterThat}
 use Rattle.plan_rules.proofs.CommandFacts.{at-verify, at-pinless, at-derive, at-other}
-use borrow.Author.Needs.{needs}
 use Rattle.plan_steps.proofs.after_ins.Statement.{statement}
 use Rattle.plan_steps.proofs.after_ins.Tie as tie
 

@@ -1,14 +1,14 @@
 -- VERIFY goes where a try is left and the data are six digits.
 -- Assumes nothing.
 use mathlib.Core.Path.{_∙_, sym, ap, ap₂}
-use Rattle.plan_rules.specs.Known.{bare}
-use Rattle.plan_rules.proofs.AfterFacts.{after-verify}
 use mathlib.Core.Bool.{Bool, _&&_, cond}
 use mathlib.Core.Option.{Option, none, some}
+use borrow.Author.Needs.{needs}
 use Rattle.card.specs.declared.Pins.{Pins}
 use Rattle.card.specs.declared.Card.{Card}
+use Rattle.plan_rules.specs.Known.{bare}
+use Rattle.plan_rules.proofs.AfterFacts.{after-verify}
 use Rattle.plan_rules.specs.Plan.{reads}
-use borrow.Author.Needs.{needs}
 use Rattle.plan_steps.proofs.after_verify.Statement.{statement}
 use Rattle.plan_steps.proofs.after_verify.Tie as tie
 

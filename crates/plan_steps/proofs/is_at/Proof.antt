@@ -6,8 +6,8 @@ use Prim.Native.Nat.{ℕ}
 use native.Mathlib.Omega.{arith}
 use lib.ListN.{length}
 use lib.Seq.{length-take-le}
-use Rattle.octets.specs.Bytes.{sameBytes}
 use borrow.Author.Needs.{needs}
+use Rattle.octets.specs.Bytes.{sameBytes}
 use Rattle.plan_steps.proofs.is_at.Statement.{statement}
 use Rattle.plan_steps.proofs.is_at.Tie as tie
 
