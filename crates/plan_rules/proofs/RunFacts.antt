@@ -1,17 +1,19 @@
 -- A plan's run, step by step: it ends, it stops, or it goes on past its first command. Lengths are in bytes.
 -- Assumes nothing.
 use mathlib.Core.Path.{_≡_, refl, ap}
-use mathlib.Core.Bool.{Bool, true, false, cond}
-use mathlib.Core.List.{List}
+use mathlib.Core.Bool.{Bool, true, false, _&&_, cond}
+use mathlib.Core.List.{List, []}
 use mathlib.Core.Option.{Option, none, some}
 use Prim.Native.Nat.{ℕ, zero, suc, _-_, _≤_, _<_}
 use native.Mathlib.Omega.{arith}
 use lib.Dec.{leb}
 use lib.ListN.{length, drop}
 use borrow.Author.Tests.{leb-true, le-leb, lt-leb, eq-eqb, ne-eqb}
+use Rattle.octets.specs.Bytes.{sameBytes}
 use Rattle.card.specs.declared.Card.{Card}
+use Rattle.card.specs.State.{pathBytes, freshOf}
 use Rattle.rules.specs.Steps.{claOf, insOf, p1Of, p2Of, isInitialised}
-use Rattle.plan_rules.specs.Plan.{firstBytes, firstData, afterThat, afterFirst, onward, runPlan}
+use Rattle.plan_rules.specs.Plan.{firstBytes, firstData, afterThat, afterFirst, onward, runPlan, accepts}
 use Rattle.plan_rules.specs.Known.{isHead}
 use Rattle.plan_rules.proofs.CommandFacts.{commandOf, command-at}
 
@@ -55,3 +57,12 @@ module _ (c : Card) (s : List ℕ) where
       by-test : (w : Bool) (o : Option Card) → cond w o none ≡ some x → w ≡ true
       by-test true o e = refl
       by-test false o e = let z : _≡_ {A = ℕ} 0 1 = cc in absurd (omega arith)
+
+-- ---- accepts: the empty plan, where both paths are as asked already; on a card before INIT, where both asked paths are empty
+pub empty-plan : (c : Card) (current pinless : List ℕ)
+    → accepts c [] current pinless ≡ (sameBytes (pathBytes (c .keys .current)) current && sameBytes (pathBytes (c .keys .pinless)) pinless)
+unfolding accepts runPlan
+empty-plan c current pinless = refl
+
+pub fresh-empty : (uid key : List ℕ) → accepts (freshOf uid key) [] [] [] ≡ true
+fresh-empty uid key = empty-plan (freshOf uid key) [] []
