@@ -11,7 +11,7 @@ use Rattle.card.specs.declared.Path.{Path}
 use Rattle.card.specs.State.{zeros, pathOf}
 
 -- ---- pathOf: the bytes written into zeros from the start
-zeros-left : (n m : ℕ) → drop m (zeros n) ≡ zeros (n - m)
+pub zeros-left : (n m : ℕ) → drop m (zeros n) ≡ zeros (n - m)
 zeros-left n zero = ap zeros (sym (sub-zero n))
 zeros-left zero (suc m) = ap zeros (sym (zero-sub (suc m)))
 zeros-left (suc n) (suc m) = zeros-left n m ∙ ap zeros (sym (suc-sub-suc n m))

@@ -106,7 +106,7 @@ pub fn pinless_verdict(pins: Pins, data: &[u8]) -> Verdict
 }
 
 // The keys with this PIN-less path.
-fn with_pinless(mut keys: Keys, path: Path) -> Keys
+pub fn with_pinless(mut keys: Keys, path: Path) -> Keys
     ensures { λ r. ⌜ r ≡ withPinless keys path ⌝ }
 {
     keys.pinless = path;

@@ -27,7 +27,8 @@ pub fn verify_verdict(pins: Pins) -> Verdict
     must(pins.pin_tries != 0, TRIES_LEFT, reads_none())
 }
 
-fn pin_right(pins: Pins) -> Pins
+// PIN and PUK once the PIN was right: full tries, and verified.
+pub fn pin_right(pins: Pins) -> Pins
     ensures { λ r. ⌜ r ≡ pinRight pins ⌝ }
 {
     let mut verified = pins;

@@ -50,6 +50,10 @@ numberTooLarge = 10
 abbrev pub wrongChecksum : ℕ
 wrongChecksum = 11
 
+-- PLAN: no plan is made
+abbrev pub noPlan : ℕ
+noPlan = 12
+
 -- the stock count: one record more, or the sum of two counts, would hold more than 65,535 records fed
 abbrev pub countFull : ℕ
 countFull = 13

@@ -37,6 +37,9 @@ pub const REFUSAL_NUMBER_TOO_LARGE: u8 = 10;
 // Word numbers back to entropy: the checksum is not the entropy's.
 pub const REFUSAL_WRONG_CHECKSUM: u8 = 11;
 
+// PLAN: no plan is made.
+pub const REFUSAL_NO_PLAN: u8 = 12;
+
 // The stock count: one record more, or the sum of two counts, would hold more than 65,535 records fed.
 pub const REFUSAL_COUNT_FULL: u8 = 13;
 

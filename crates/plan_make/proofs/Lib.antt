@@ -1,0 +1,4 @@
+pub mod Commands
+pub mod Planning
+pub mod Written
+pub mod Proposed

@@ -1,0 +1,4 @@
+pub mod CommandFacts
+pub mod AfterFacts
+pub mod RunFacts
+pub mod Blind
