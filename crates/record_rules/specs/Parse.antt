@@ -10,8 +10,9 @@ use Rattle.card.specs.declared.Slot.{Slot}
 use Rattle.card.specs.declared.Pairing.{Pairing}
 use Rattle.card.specs.declared.Path.{Path}
 use Rattle.card.specs.declared.Keys.{Keys}
+use Rattle.card.specs.declared.Tap.{Tap}
 use Rattle.card.specs.declared.Card.{Card}
-use Rattle.card.specs.Sizes.{uidBytes, publicKeyBytes, pinBytes, pukBytes, keyBytes, pathMostBytes, slotBytes, slotCount}
+use Rattle.card.specs.Sizes.{uidBytes, publicKeyBytes, pinBytes, pukBytes, keyBytes, pathMostBytes, tapMostBytes, slotBytes, slotCount}
 use Rattle.card.specs.State.{zeros, closedOf}
 use Rattle.record_rules.specs.Lengths.{headBytes}
 
@@ -77,7 +78,10 @@ keysFrom f = record {
   pinless = pathFrom (f 11);
 }
 
--- the whole card, reset
+abbrev pub tapFrom : List ℕ → Tap
+tapFrom x = record { len = min (length x) tapMostBytes; bytes = fit tapMostBytes x }
+
+-- the whole card, reset; the content of a field that is not there is empty
 abbrev pub cardFrom : (ℕ → List ℕ) → Card
 cardFrom f = record {
   initialised = getD (f 0) 0 0;
@@ -86,6 +90,7 @@ cardFrom f = record {
   pairing = pairingFrom f;
   keys = keysFrom f;
   channel = closedOf;
+  tap = tapFrom (f 12);
 }
 
 unfoldable pub cardOf : List ℕ → Card
