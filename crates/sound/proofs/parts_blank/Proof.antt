@@ -16,6 +16,9 @@ keys-blank-requires c κs = search needs
 channel-blank-requires : tie.Need-channel-blank-requires
 channel-blank-requires c κs = search needs
 
+tap-blank-requires : tie.Need-tap-blank-requires
+tap-blank-requires c κs = search needs
+
 returns : tie.Need-returns
 returns c = cc
 
@@ -27,4 +30,5 @@ parts-blank-spec =
     pairing-blank-requires
     keys-blank-requires
     channel-blank-requires
+    tap-blank-requires
     returns)

@@ -16,6 +16,9 @@ keys-sound-requires c κs = search needs
 channel-sound-requires : tie.Need-channel-sound-requires
 channel-sound-requires c κs = search needs
 
+tap-sound-requires : tie.Need-tap-sound-requires
+tap-sound-requires c κs = search needs
+
 returns : tie.Need-returns
 returns c = cc
 
@@ -27,4 +30,5 @@ parts-sound-spec =
     pairing-sound-requires
     keys-sound-requires
     channel-sound-requires
+    tap-sound-requires
     returns)
