@@ -78,7 +78,7 @@ written-describes = record {
 
 -- a card that the form without field 34 holds: initialised, and without a tap record
 module _ (c : Card) (h : untappedForm .holds c ≡ true) where
-  untapped : (c .tap .len ≡ 0) × (isZero (c .initialised) ≡ false)
+  pub untapped : (c .tap .len ≡ 0) × (isZero (c .initialised) ≡ false)
   untapped =
       let p = both (not (isZero (c .initialised))) (isZero (c .tap .len)) h in
       (eqb-true (c .tap .len) 0 (p .1), not-true _ (p .0))
