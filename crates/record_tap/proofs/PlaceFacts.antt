@@ -1,5 +1,5 @@
 -- The three places of the tap record, by what READ gives, and that the part is within the record. Assumes nothing.
-use mathlib.Core.Path.{_≡_, refl, sym, ap, _∙_}
+use mathlib.Core.Path.{_≡_, refl, sym, ap, subst, _∙_}
 use mathlib.Core.Bool.{Bool, true, false}
 use mathlib.Core.List.{List, []}
 use Prim.Native.Nat.{ℕ, _+_, _-_, _≤_}
@@ -14,7 +14,7 @@ use Rattle.record_rules.proofs.ReadFacts.{read-sound, read-shaped, read-taken}
 use Rattle.record_rules.proofs.TapFacts.{tap-long, tap-start, tap-within}
 use Rattle.record_tap.specs.declared.TapPlace.{TapPlace}
 use Rattle.record_tap.specs.declared.TapPlace.the-variants as place
-use Rattle.record_tap.specs.Tap.{field34, tapPlace, partAt, tapPart}
+use Rattle.record_tap.specs.Tap.{field34, tapPlace, partAt, tapPart, LentFrom}
 
 -- the end of a part of the record
 abbrev endOf : TapPlace → ℕ
@@ -105,3 +105,7 @@ module _ (s f : List ℕ) where
   pub part-factory : place.Factory ≡ tapPlace s → f ≡ tapPart s f
   unfolding partAt
   part-factory e = ap (λ (p : TapPlace). partAt p s f) e
+
+-- ---- LentFrom, by the place
+pub lent : (p q : TapPlace) (part stored factory : ℕ × ℕ) → p ≡ q → LentFrom p part stored factory → LentFrom q part stored factory
+lent p q part stored factory e h = subst (λ (x : TapPlace). LentFrom x part stored factory) e h

@@ -1,8 +1,8 @@
 -- The part that the place names.
 -- Assumes nothing.
-use mathlib.Core.Path.{sym, _∙_}
+use mathlib.Core.Path.{refl, sym, _∙_}
 use native.Mathlib.Omega.{arith}
-use Rattle.record_tap.proofs.PlaceFacts.{part-within, part-nowhere, part-own, part-factory}
+use Rattle.record_tap.proofs.PlaceFacts.{part-within, part-nowhere, part-own, part-factory, lent}
 use borrow.Author.Needs.{needs}
 use Rattle.record_tap.proofs.tap_record.Statement.{statement}
 use Rattle.record_tap.proofs.tap_record.Tie as tie
@@ -35,13 +35,13 @@ enum-told-2 : tie.Need-enum-told-2
 enum-told-2 c = search needs
 
 returns : tie.Need-returns
-returns c = part-nowhere _ _ (sym (c .before .enum-told .given .1) ∙ c .before .before .before .tap-place .ensures)
+returns c = let e = (sym (c .before .enum-told .given .1) ∙ c .before .before .before .tap-place .ensures) in (part-nowhere _ _ e, lent _ _ _ _ _ e tt)
 
 returns-2 : tie.Need-returns-2
-returns-2 c = part-own _ _ (sym (c .before .before .start .given .1) ∙ c .before .before .before .before .tap-place .ensures)
+returns-2 c = let e = (sym (c .before .before .start .given .1) ∙ c .before .before .before .before .tap-place .ensures) in (part-own _ _ e, lent _ _ _ _ _ e (refl, refl))
 
 returns-3 : tie.Need-returns-3
-returns-3 c = part-factory _ _ (sym (c .enum-told2 .given .1) ∙ c .before .before .tap-place .ensures)
+returns-3 c = let e = (sym (c .enum-told2 .given .1) ∙ c .before .before .tap-place .ensures) in (part-factory _ _ e, lent _ _ _ _ _ e refl)
 
 pub tap-record-spec : {M : Type 1} → statement M
 tap-record-spec =
