@@ -1,0 +1,24 @@
+-- The tap record is new.
+-- Assumes nothing.
+use borrow.Author.Needs.{needs}
+use Rattle.rules.specs.Commands.{ndefReply}
+use Rattle.command_ndef.proofs.CheckFacts.{ndef-data}
+use Rattle.command_ndef.proofs.ndef.Statement.{statement}
+use Rattle.command_ndef.proofs.ndef.Tie as tie
+
+tap-of-requires : tie.Need-tap-of-requires
+tap-of-requires c κs = ndef-data (c .before .args .card .pins) _ (c .before .pre)
+
+with-tap-requires : tie.Need-with-tap-requires
+with-tap-requires c κs = search needs
+
+done-requires : tie.Need-done-requires
+done-requires c κs = search needs
+
+returns : tie.Need-returns
+unfolding ndefReply
+returns c = rw (c .done .ensures, c .before .with-tap .ensures, c .before .before .tap-of .ensures)
+
+pub ndef-spec : {M : Type 1} → statement M
+ndef-spec =
+    tie.close (tie.spec tap-of-requires with-tap-requires done-requires returns)
