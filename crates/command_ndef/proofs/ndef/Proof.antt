@@ -1,8 +1,8 @@
 -- The tap record is new.
 -- Assumes nothing.
 use borrow.Author.Needs.{needs}
-use Rattle.rules.specs.Commands.{ndefReply}
 use Rattle.command_ndef.proofs.CheckFacts.{ndef-data}
+use Rattle.command_ndef.proofs.Responses.{ndef-replied}
 use Rattle.command_ndef.proofs.ndef.Statement.{statement}
 use Rattle.command_ndef.proofs.ndef.Tie as tie
 
@@ -16,8 +16,11 @@ done-requires : tie.Need-done-requires
 done-requires c κs = search needs
 
 returns : tie.Need-returns
-unfolding ndefReply
-returns c = rw (c .done .ensures, c .before .with-tap .ensures, c .before .before .tap-of .ensures)
+returns c =
+    let b2 = c .before .before in
+    ndef-replied (b2 .before .before .args .card) (b2 .before .before .args .«data» .now) (b2 .tap-of .result) (c .before .with-tap .result)
+    (c .done .result)
+    (b2 .tap-of .ensures) (c .before .with-tap .ensures) (c .done .ensures)
 
 pub ndef-spec : {M : Type 1} → statement M
 ndef-spec =

@@ -1,7 +1,7 @@
 -- The chain is that of SET NDEF's checks.
 -- Assumes nothing.
 use borrow.Author.Needs.{needs}
-use Rattle.rules.specs.Commands.{ndefChecks}
+use Rattle.command_ndef.proofs.CheckFacts.{ndef-chain}
 use Rattle.command_ndef.proofs.ndef_verdict.Statement.{statement}
 use Rattle.command_ndef.proofs.ndef_verdict.Tie as tie
 
@@ -18,9 +18,12 @@ must-requires-2 : tie.Need-must-requires-2
 must-requires-2 c κs = search needs
 
 returns : tie.Need-returns
-unfolding ndefChecks
-returns c = let b3 = c .before .before .before in
-    rw (← b3 .is-ndef .ensures, ← c .before .before .reads-none .ensures, ← c .before .must .ensures) (c .must2 .ensures)
+returns c =
+    let b3 = c .before .before .before in
+    let start = b3 .before .before .before in
+    ndef-chain (start .args .pins) (start .args .«data» .now) (b3 .is-ndef .result) (c .before .before .reads-none .result)
+    (c .before .must .result) (c .must2 .result)
+    (b3 .is-ndef .ensures) (c .before .before .reads-none .ensures) (c .before .must .ensures) (c .must2 .ensures)
 
 pub ndef-verdict-spec : {M : Type 1} → statement M
 ndef-verdict-spec =
