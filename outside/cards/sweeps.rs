@@ -23,6 +23,8 @@ const MOST_TEMPLATE_BYTES: usize = 4;
 const EDGES: [u8; 8] = [0x00, 0x01, 0x02, 0x05, 0x06, b'0', b'9' + 1, 0xff];
 /// How many sessions see a response with the old Lr at each length.
 const OLD_LR_SESSIONS: usize = 4;
+/// A factory's tap record, an empty message of 3 bytes.
+const FACTORY: [u8; 5] = [0x00, 0x03, 0xd0, 0x00, 0x00];
 const SELECT: &[u8] = b"\x00\xa4\x04\x00\x0fStatusWalletApp";
 
 pub fn run(both: &mut Both, seed: u64) {
@@ -170,9 +172,14 @@ fn records(both: &mut Both, random: &mut Random, record: &[u8], old: &[u8]) {
     }
 }
 
-/// Whether READ takes a record; WRITE of the card that it gives has to write it again, one of the old form with an empty field 34 after it.
+/// Whether READ takes a record; the tap read refuses exactly what READ refuses, and WRITE of the card that it gives has to write it again, one of the old form with an empty field 34 after it.
 fn is_taken(both: &mut Both, random: &mut Random, record: &[u8]) -> bool {
     let (refusal, card) = both.read(record);
+    let tapped = both.tap(record, &FACTORY);
+    if tapped.refusal != refusal {
+        println!("THE SWEEP read with {refusal} and got {tapped:?} for the record {}", hex(record));
+        std::process::exit(1);
+    }
     if refusal != NOT_REFUSED {
         return false;
     }

@@ -157,6 +157,16 @@ fn without_a_channel() {
     assert_eq!(life.card.tap_record().bytes(), tap_record(9));
 }
 
+/// It is no secret, and shown by its bytes in use.
+#[test]
+fn what_debug_shows() {
+    let mut life = verified();
+    assert_eq!(format!("{:?}", life.card.tap_record()), "[]");
+    assert_eq!(life.sealed_status(SET_NDEF, 0x00, &[0x00, 0x01, 0xAB]), StatusWord::SUCCESS);
+    assert_eq!(format!("{:?}", life.card.tap_record()), "[00, 01, AB]");
+    assert!(format!("{:?}", life.card).contains("tap_record: [00, 01, AB]"));
+}
+
 /// INIT starts with none; what is set then stays.
 #[test]
 fn what_keeps_it() {
@@ -313,6 +323,9 @@ fn sound_tap_records() {
     ] {
         assert_eq!(with_tap(&initialised, len, start), is_sound, "{len}, {start:02X?}");
     }
+    let mut too_long = initialised.to_bytes();
+    too_long[own.start] = 255;
+    assert_eq!(Card::from_bytes(&too_long).tap_record().bytes().len(), TAP_MAX_BYTES);
     let fresh = Life::fresh().card;
     assert!(with_tap(&fresh, 0, &[]) && !with_tap(&fresh, 2, &[]) && !with_tap(&fresh, 0, &[0x01]));
 }
