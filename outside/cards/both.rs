@@ -7,7 +7,7 @@ use crate::tally::Tally;
 use outside::ffi::treadlewisp::{self, CARD_BYTES};
 use outside::model::card::{Card, Session, POINT_BYTES, UID_BYTES};
 use outside::model::commands::Name;
-use outside::model::engine::{self, Answered, Asked, Source, Tapped, Told, ASK_ROOM_BYTES};
+use outside::model::engine::{self, Answered, Asked, Tapped, Told, ASK_ROOM_BYTES};
 use outside::model::message::HEADER_BYTES;
 use outside::model::status::{SHORT_BUFFER, SUCCESS, UNSOUND};
 use outside::random::Random;
@@ -380,51 +380,29 @@ impl Both {
         (model, card)
     }
 
+    /// The tap read. Where both records are the same slice, the same memory is lent for both.
     pub fn tap(&mut self, record: &[u8], factory: &[u8]) -> Tapped {
-        let (lent, lent_factory) = (self.guarded(record), self.guarded(factory));
+        let lent = self.guarded(record);
+        let other = (!std::ptr::eq(record, factory)).then(|| self.guarded(factory));
+        let lent_factory = other.as_ref().unwrap_or(&lent);
         let library = treadlewisp::tap(lent.content(), lent_factory.content());
         let model = engine::tap(record, factory);
         let call = Call {
             operation: Operation::Tap,
             inputs: vec![("record", record), ("factory record", factory)],
         };
-        self.same_part(&call, model, library);
-        self.unchanged(&call, &[&lent, &lent_factory]);
-        self.tally.operation(Operation::Tap, model.refusal);
-        self.tally.tap(record, model.refusal, model.source);
-        model
-    }
-
-    /// The tap read of bytes that are lent as both records at once.
-    pub fn tap_of_one(&mut self, bytes: &[u8]) -> Tapped {
-        let lent = self.guarded(bytes);
-        let library = treadlewisp::tap(lent.content(), lent.content());
-        let model = engine::tap(bytes, bytes);
-        let call = Call {
-            operation: Operation::Tap,
-            inputs: vec![("both records", bytes)],
-        };
-        self.same_part(&call, model, library);
-        self.unchanged(&call, &[&lent]);
-        self.tally.operation(Operation::Tap, model.refusal);
-        self.tally.tap(bytes, model.refusal, model.source);
-        model
-    }
-
-    fn same_part(&self, call: &Call, model: Tapped, library: treadlewisp::Tapped) {
-        let source = match model.source {
-            Source::None => 0,
-            Source::Record => 1,
-            Source::Factory => 2,
-        };
         let wanted = treadlewisp::Tapped {
             refusal: model.refusal,
-            source,
+            source: model.source as u8,
             offset: model.offset,
             length: model.length,
         };
         if wanted != library {
-            self.differ(call, "the part", &format!("{wanted:?}"), &format!("{library:?}"));
+            self.differ(&call, "the part", &format!("{wanted:?}"), &format!("{library:?}"));
         }
+        self.unchanged(&call, &[&lent, lent_factory]);
+        self.tally.operation(Operation::Tap, model.refusal);
+        self.tally.tap(record, model.refusal, model.source);
+        model
     }
 }

@@ -19,6 +19,7 @@ mod standing;
 mod states;
 mod sweeps;
 mod tally;
+mod tap_fields;
 mod taps;
 mod templates;
 mod terminal;
@@ -87,6 +88,7 @@ fn main() {
     second_client::run(&mut both, options.seed);
     exports::run(&mut both, options.seed);
     taps::run(&mut both, options.seed);
+    tap_fields::run(&mut both, options.seed);
     let mut lives = 0;
     while both.tally.calls() < options.calls / 100 * (100 - PAIRS_PERCENT) {
         lives::live(&mut both, options.seed, lives);

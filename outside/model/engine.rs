@@ -29,13 +29,14 @@ pub struct Told {
 
 /// Where the tap read's part lies.
 #[derive(Clone, Copy, PartialEq, Eq, PartialOrd, Ord, Debug)]
+#[repr(u8)]
 pub enum Source {
     /// Nowhere: the read is refused.
-    None,
+    None = 0,
     /// In the lent stored record.
-    Record,
+    Record = 1,
     /// It is the lent factory record, whole.
-    Factory,
+    Factory = 2,
 }
 
 /// The tap read's part: `length` bytes from `offset` on.
