@@ -7,6 +7,7 @@ use Rattle.claims.proofs.WalkReads.{walk-reads}
 use Rattle.claims.proofs.Ciphers.{ciphers}
 use Rattle.claims.proofs.Templates.{templates}
 use Rattle.claims.proofs.Trips.{trips}
+use Rattle.claims.proofs.TapReads.{tap-reads}
 use Rattle.claims.proofs.Verified.{verified}
 use Rattle.claims.proofs.Export.{export}
 use Rattle.claims.proofs.Rows.{rows}
@@ -22,6 +23,7 @@ claims = record {
   templates = templates;
   trips = trips;
   together = together;
+  tapreads = tap-reads;
   verified = verified;
   export = export;
   rows = rows;

@@ -11,6 +11,7 @@ pub mod WalkReads
 pub mod Ciphers
 pub mod Templates
 pub mod Trips
+pub mod TapReads
 pub mod Verified
 pub mod Elsewhere
 pub mod Exporting

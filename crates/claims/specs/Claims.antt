@@ -7,6 +7,7 @@ use Rattle.claims.specs.WalkReads.{WalkReads}
 use Rattle.claims.specs.Ciphers.{Ciphers}
 use Rattle.claims.specs.Templates.{Templates}
 use Rattle.claims.specs.Trips.{Trips}
+use Rattle.claims.specs.TapReads.{TapReads}
 use Rattle.claims.specs.Verified.{Verified}
 use Rattle.claims.specs.Export.{Export}
 use Rattle.claims.specs.Rows.{Rows}
@@ -25,6 +26,8 @@ pub record Claims : Type 0 where
   pub templates : Templates
   pub trips : Trips
   pub together : Together
+  -- the tap read (RULES 10.7)
+  pub tapreads : TapReads
   -- verification ends with the channel (RULES 6.2)
   pub verified : Verified
   -- a private key goes out of EIP-1581's subtree alone (RULES 6.19)
