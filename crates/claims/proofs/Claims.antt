@@ -10,6 +10,7 @@ use Rattle.claims.proofs.Trips.{trips}
 use Rattle.claims.proofs.TapReads.{tap-reads}
 use Rattle.claims.proofs.Verified.{verified}
 use Rattle.claims.proofs.Export.{export}
+use Rattle.claims.proofs.TapRecord.{tap-record}
 use Rattle.claims.proofs.Rows.{rows}
 use Rattle.claims.proofs.RowsMet.{rows-met}
 use Rattle.claims.proofs.WrongEngines.{wrong-engines}
@@ -26,6 +27,7 @@ claims = record {
   tapreads = tap-reads;
   verified = verified;
   export = export;
+  taprecord = tap-record;
   rows = rows;
   rowsmet = rows-met;
   wrongengines = wrong-engines;

@@ -16,5 +16,6 @@ pub mod Verified
 pub mod Elsewhere
 pub mod Exporting
 pub mod Export
+pub mod TapRecord
 pub mod Secrecy
 pub mod Claims

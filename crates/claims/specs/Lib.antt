@@ -6,6 +6,7 @@ pub mod Trips
 pub mod TapReads
 pub mod Verified
 pub mod Export
+pub mod TapRecord
 pub mod Rows
 pub mod RowsMet
 pub mod WrongEngines
