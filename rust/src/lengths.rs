@@ -57,7 +57,7 @@ pub const WRITE_ROOM_BYTES: usize = RECORD_MAX_BYTES;
 /// Length of a page of memory, in bytes.
 pub const PAGE_BYTES: usize = 4096;
 /// How much of the stack [`wipe_stack`](crate::wipe_stack) overwrites, in bytes. Every call of this crate uses less.
-pub const STACK_WIPE_BYTES: usize = 6 * PAGE_BYTES;
+pub const STACK_WIPE_BYTES: usize = 8 * PAGE_BYTES;
 
 /// The most data that SEAL takes, in bytes.
 pub const DATA_MAX_BYTES: usize = 223;
