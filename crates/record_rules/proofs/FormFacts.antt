@@ -1,7 +1,7 @@
 -- The forms of the record: what the test over a list of forms says, and that the record of a card, in whichever form, describes that card reset.
 -- Assumes nothing.
 use mathlib.Core.Path.{_≡_, refl, sym, ap, _∙_}
-use mathlib.Core.Bool.{Bool, true, false, _||_, not, false≢true}
+use mathlib.Core.Bool.{Bool, true, false, _&&_, _||_, not, false≢true}
 use mathlib.Core.List.{List, [], _∷_, _++_, append-assoc}
 use Prim.Native.Nat.{ℕ}
 use lib.ListN.{take}
@@ -48,6 +48,17 @@ module _ (s : List ℕ) (c : Card) where
   pub passes : (fs : List Form) → InForm s c fs → someOf (isInForm s c) fs ≡ true
   passes fs r = finds (r .form) fs (r .listed) (rw (r .held, r .bytes, same-refl s))
 
+-- the two forms, one after the other
+pub two-forms : (s : List ℕ) (c : Card)
+    → someOf (isInForm s c) forms ≡ (sameBytes (encodeAll (fieldsIn true c)) s || (untappedForm .holds c && sameBytes (encodeAll (fieldsIn false c)) s))
+unfolding someOf
+two-forms s c =
+    ap (λ (b : Bool). sameBytes (encodeAll (fieldsIn true c)) s || b) (or-false (untappedForm .holds c && sameBytes (encodeAll (fieldsIn false c)) s))
+  where
+    or-false : (b : Bool) → (b || false) ≡ b
+    or-false true = refl
+    or-false false = refl
+
 -- ---- what a form keeps to: it holds a card and writes it as it does that card reset; what it writes of a sound card describes it, and is
 -- renewed to what WRITE writes
 pub record Describes (f : Form) : Type 0 where
@@ -67,7 +78,7 @@ written-describes = record {
 
 -- a card that the form without field 34 holds: initialised, and without a tap record
 module _ (c : Card) (h : untappedForm .holds c ≡ true) where
-  untapped : (c .tap .len ≡ 0) × (isZero (c .initialised) ≡ false)
+  pub untapped : (c .tap .len ≡ 0) × (isZero (c .initialised) ≡ false)
   untapped =
       let p = both (not (isZero (c .initialised))) (isZero (c .tap .len)) h in
       (eqb-true (c .tap .len) 0 (p .1), not-true _ (p .0))

@@ -23,6 +23,7 @@ use Rattle.card.specs.Slots.{isZero, allZero}
 use Rattle.card.proofs.Tests.{zero-list}
 use Rattle.card.proofs.Rules.{PathRules, TapRules}
 use Rattle.record_rules.specs.Fields.{Field, encode, encodeAll, slotsBytes}
+use Rattle.record_rules.specs.Lengths.{headBytes}
 use Rattle.record_rules.specs.Parse.{headLength, body, rest, behind, content, fit, pathFrom, tapFrom, slotsFrom}
 
 -- ---- body and rest of encoded fields
@@ -52,7 +53,7 @@ unfolding rest encodeAll
 rest-all [] = refl
 rest-all (f ∷ fs) = rest-encode (f .tag) (f .content) (encodeAll fs)
 
-behind-all : (fs : List Field) (k : ℕ) → behind k (encodeAll fs) ≡ encodeAll (drop k fs)
+pub behind-all : (fs : List Field) (k : ℕ) → behind k (encodeAll fs) ≡ encodeAll (drop k fs)
 behind-all fs zero = refl
 behind-all fs (suc k) =
     ap rest (behind-all fs k) ∙ rest-all (drop k fs)
@@ -60,6 +61,15 @@ behind-all fs (suc k) =
 
 pub content-all : (fs : List Field) (k : ℕ) → content (encodeAll fs) k ≡ firstContent (drop k fs)
 content-all fs k = ap body (behind-all fs k) ∙ body-all (drop k fs)
+
+-- what is behind some fields is no longer than the whole
+rest-short : (s : List ℕ) → length (rest s) ≤ length s
+unfolding rest
+rest-short s = omega (arith, length-drop (headLength s) (drop headBytes s), length-drop headBytes s)
+
+pub behind-short : (s : List ℕ) (k : ℕ) → length (behind k s) ≤ length s
+behind-short s zero = omega arith
+behind-short s (suc k) = omega (arith, behind-short s k, rest-short (behind k s))
 
 -- ---- fit
 pub fit-exact : (n : ℕ) (x : List ℕ) → length x ≡ n → fit n x ≡ x

@@ -4,17 +4,17 @@ use mathlib.Core.Path.{_≡_, refl, sym, ap, subst, _∙_}
 use mathlib.Core.Bool.{Bool, true, false, cond}
 use mathlib.Core.Logic.{_⊎_, inl, inr, ⊎-elim}
 use mathlib.Core.List.{List, [], _∷_, _++_}
-use Prim.Native.Nat.{ℕ, _+_, _≤_}
+use Prim.Native.Nat.{ℕ, zero, suc, _+_, _*_, _≤_}
 use native.Mathlib.Omega.{arith}
 use lib.Dec.{ltb}
-use lib.ListN.{length, length-append}
+use lib.ListN.{length, drop, length-append}
 use lib.Seq.{length-take-le}
 use borrow.Author.Tests.{le-ltb}
 use Rattle.card.specs.declared.Card.{Card}
 use Rattle.card.specs.declared.Path.{Path}
-use Rattle.card.specs.Sizes.{uidBytes, publicKeyBytes, keyBytes, pathMostBytes, tapMostBytes}
+use Rattle.card.specs.Sizes.{uidBytes, publicKeyBytes, keyBytes, pathMostBytes, tapMostBytes, slotBytes, slotCount}
 use Rattle.card.specs.State.{zeros, freshOf, resetOf, keyUid, pathBytes, tapBytes}
-use Rattle.card.specs.Shape.{Shaped}
+use Rattle.card.specs.Shape.{KeysLong, Shaped}
 use Rattle.card.specs.Slots.{someOf, isZero}
 use Rattle.card.specs.Sound.{isSound}
 use Rattle.card.proofs.Tests.{both}
@@ -25,11 +25,36 @@ use Rattle.refusals.specs.Refusals.{noRefusal, unsound, noRoom, notRecord}
 use Rattle.sound.specs.Reset.{done, refused}
 use Rattle.record_rules.specs.Fields.{Field, encode, encodeAll, identityFields, ownerFields, fieldsIn, recordOf}
 use Rattle.record_rules.specs.Lengths.{recordFieldBytes, recordFresh, recordLeast, recordMost, writeRoom}
-use Rattle.record_rules.specs.Parse.{cardOf}
+use Rattle.record_rules.specs.Parse.{content, fit, slotsFrom, cardOf}
 use Rattle.record_rules.specs.Forms.{Form, writtenForm, untappedForm, forms, isInForm, Listed, first, InForm}
 use Rattle.record_rules.specs.Answers.{writeRefusal, writeBytes, isRecordOf, readAnswer}
 use Rattle.record_rules.proofs.ParseFacts.{slots-long}
 use Rattle.record_rules.proofs.FormFacts.{found, passes, of-each, form-describes, reset-in-form, card-in-form}
+
+-- ---- cardOf
+-- however many slots are read, their keys have their length
+slots-keyed : (n : ℕ) (x : List ℕ) → KeysLong (slotsFrom n x)
+unfolding slotsFrom
+slots-keyed zero x = tt
+slots-keyed (suc n) x = (refl, slots-keyed n (drop slotBytes x))
+
+-- the card of any bytes has its shape
+pub card-of-shaped : (s : List ℕ) → Shaped (cardOf s)
+unfolding cardOf slotsFrom
+card-of-shaped s = record {
+  uid = refl;
+  «public_key» = refl;
+  pin = refl;
+  puk = refl;
+  secret = refl;
+  slots = refl;
+  keys = slots-keyed slotCount (fit (slotBytes * slotCount) (content s 7));
+  expected = refl;
+  keyuid = refl;
+  current = refl;
+  pinless = refl;
+  tap = refl;
+}
 
 -- ---- READ of WRITE of a sound card is RESET of it
 pub read-in-form : (s : List ℕ) (c : Card) → Shaped c → isSound c ≡ true → InForm s c forms → readAnswer s ≡ done (resetOf c)
@@ -98,15 +123,21 @@ read-reset s = ⊎-elim
     (read-cases s)
 
 -- ---- WRITE of what READ took: the record as its form is renewed
+eight : _≡_ {A = ℕ} 8 0 → ⊥
+eight p = omega arith
+
 -- the card of an answer without refusal, and in which form the bytes are its record
 pub read-taken : (s : List ℕ) → readAnswer s .refusal ≡ noRefusal → InForm s (readAnswer s .card) forms
 read-taken s h = ⊎-elim
     (λ t. subst (λ (a : Answer). InForm s (a .card) forms) (sym (t .0)) (found s (cardOf s) forms (t .1 .tested)))
     (λ e. absurd (eight (sym (ap (λ (a : Answer). a .refusal) e) ∙ h)))
     (read-cases s)
-  where
-    eight : _≡_ {A = ℕ} 8 0 → ⊥
-    eight p = omega arith
+
+pub read-shaped : (s : List ℕ) → readAnswer s .refusal ≡ noRefusal → Shaped (readAnswer s .card)
+read-shaped s h = ⊎-elim
+    (λ t. subst (λ (a : Answer). Shaped (a .card)) (sym (t .0)) (card-of-shaped s))
+    (λ e. absurd (eight (sym (ap (λ (a : Answer). a .refusal) e) ∙ h)))
+    (read-cases s)
 
 -- a card is written as it is reset
 record-reset : (c : Card) → recordOf (resetOf c) ≡ recordOf c

@@ -1,6 +1,6 @@
 -- The card that bytes describe, if they are a record (RULES 10.4): the fields taken one after the other, whatever their tags, each content
 -- cut or filled with zeros to the length that the card has for it. Every length is in bytes.
-use Prim.Native.Nat.{ℕ, zero, suc, _+_, _*_, min}
+use Prim.Native.Nat.{ℕ, zero, suc, _+_, _-_, _*_, min}
 use mathlib.Core.List.{List, [], _∷_}
 use lib.ListN.{length, take, drop, getD}
 use Rattle.octets.specs.Bytes.{tabulate}
@@ -34,6 +34,10 @@ behind (suc k) s = rest (behind k s)
 
 abbrev pub content : List ℕ → ℕ → List ℕ
 content s k = body (behind k s)
+
+-- where the content of the field number k begins, in bytes from the start of s
+abbrev pub contentStart : List ℕ → ℕ → ℕ
+contentStart s k = length s - length (behind k s) + headBytes
 
 -- ---- the parts of a card, from the contents f 0, f 1, .. in the order of the table
 -- x cut, or filled with zeros, to n bytes

@@ -1,0 +1,32 @@
+-- The tap read (RULES 10.5): which part of a stored record and a factory record is the card's tap record. Every length and place is in bytes.
+use Prim.Native.Nat.{ℕ}
+use mathlib.Core.Bool.{cond}
+use mathlib.Core.List.{List, []}
+use lib.ListN.{length, take, drop}
+use Rattle.card.specs.Slots.{isZero}
+use Rattle.record_rules.specs.Parse.{content, contentStart}
+use Rattle.record_rules.specs.Answers.{readAnswer}
+use Rattle.record_tap.specs.declared.TapPlace.{TapPlace}
+use Rattle.record_tap.specs.declared.TapPlace.the-variants as place
+
+-- the number of field 34, counted from 0: those of the identity, of the secrets and of the keys come before it
+abbrev pub field34 : ℕ
+field34 = 12
+
+-- where READ takes the record: the content of its field 34, by its place, unless that is empty or not there; then the factory record
+abbrev pub placeTaken : List ℕ → TapPlace
+placeTaken s =
+    cond (isZero (length (content s field34))) place.Factory (place.Own (contentStart s field34) (length (content s field34)))
+
+-- where READ refuses it: nowhere
+unfoldable pub tapPlace : List ℕ → TapPlace
+tapPlace s = cond (isZero (readAnswer s .refusal)) (placeTaken s) place.Nowhere
+
+-- the part of the record s, or of the factory record f, that a place names
+unfoldable pub partAt : TapPlace → List ℕ → List ℕ → List ℕ
+partAt place.Nowhere s f = []
+partAt (place.Own start count) s f = take count (drop start s)
+partAt place.Factory s f = f
+
+abbrev pub tapPart : List ℕ → List ℕ → List ℕ
+tapPart s f = partAt (tapPlace s) s f
