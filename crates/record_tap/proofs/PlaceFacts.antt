@@ -1,11 +1,11 @@
 -- The three places of the tap record, by what READ gives, and that the part is within the record. Assumes nothing.
-use mathlib.Core.Path.{_≡_, refl, sym, ap, ap₂, _∙_}
-use mathlib.Core.Bool.{Bool, true, false, cond}
-use mathlib.Core.List.{List}
+use mathlib.Core.Path.{_≡_, refl, sym, ap, subst, _∙_}
+use mathlib.Core.Bool.{Bool, true, false}
+use mathlib.Core.List.{List, []}
 use Prim.Native.Nat.{ℕ, _+_, _-_, _≤_}
 use native.Mathlib.Omega.{arith}
-use lib.ListN.{length}
-use borrow.Author.Tests.{eqb-true, eqb-false, eq-eqb, ne-eqb}
+use lib.ListN.{length, take, drop}
+use borrow.Author.Tests.{eqb-true, eqb-false, ne-eqb}
 use Rattle.card.specs.Slots.{isZero}
 use Rattle.sound.specs.declared.Answer.{Answer}
 use Rattle.record_rules.specs.Parse.{content}
@@ -14,7 +14,7 @@ use Rattle.record_rules.proofs.ReadFacts.{read-sound, read-shaped, read-taken}
 use Rattle.record_rules.proofs.TapFacts.{tap-long, tap-start, tap-within}
 use Rattle.record_tap.specs.declared.TapPlace.{TapPlace}
 use Rattle.record_tap.specs.declared.TapPlace.the-variants as place
-use Rattle.record_tap.specs.Tap.{field34, placeTaken, tapPlace}
+use Rattle.record_tap.specs.Tap.{field34, tapPlace, partAt, tapPart, LentFrom}
 
 -- the end of a part of the record
 abbrev endOf : TapPlace → ℕ
@@ -86,3 +86,26 @@ module _ (s : List ℕ) (a : Answer) (e : a ≡ readAnswer s) where
     pub found-own : (n ≡ 0 → ⊥) → place.Own (length s - n) n ≡ tapPlace s
     found-own f =
         ap (λ (k : ℕ). place.Own (length s - k) k) (l ∙ same-len) ∙ place-own s taken (λ z. f (l ∙ same-len ∙ z))
+
+-- ---- a part of the record ends within it
+pub part-within : (s : List ℕ) {start count : ℕ} → place.Own start count ≡ tapPlace s → start + count ≤ length s
+part-within s e = omega (arith, ap endOf e, place-within s)
+
+-- ---- tapPart, by the place
+module _ (s f : List ℕ) where
+  pub part-nowhere : place.Nowhere ≡ tapPlace s → [] ≡ tapPart s f
+  unfolding partAt
+  part-nowhere e = ap (λ (p : TapPlace). partAt p s f) e
+
+  pub part-own : {start count : ℕ} → place.Own start count ≡ tapPlace s → take (start + count - start) (drop start s) ≡ tapPart s f
+  unfolding partAt
+  part-own {start} {count} e =
+      ap (λ (n : ℕ). take n (drop start s)) {x = start + count - start} {y = count} (omega arith) ∙ ap (λ (p : TapPlace). partAt p s f) e
+
+  pub part-factory : place.Factory ≡ tapPlace s → f ≡ tapPart s f
+  unfolding partAt
+  part-factory e = ap (λ (p : TapPlace). partAt p s f) e
+
+-- ---- LentFrom, by the place
+pub lent : (p q : TapPlace) (part stored factory : ℕ × ℕ) → p ≡ q → LentFrom p part stored factory → LentFrom q part stored factory
+lent p q part stored factory e h = subst (λ (x : TapPlace). LentFrom x part stored factory) e h

@@ -1,5 +1,6 @@
 -- The tap read (RULES 10.5): which part of a stored record and a factory record is the card's tap record. Every length and place is in bytes.
-use Prim.Native.Nat.{ℕ}
+use Prim.Native.Nat.{ℕ, _+_}
+use mathlib.Core.Path.{_≡_}
 use mathlib.Core.Bool.{cond}
 use mathlib.Core.List.{List, []}
 use lib.ListN.{length, take, drop}
@@ -30,3 +31,9 @@ partAt place.Factory s f = f
 
 abbrev pub tapPart : List ℕ → List ℕ → List ℕ
 tapPart s f = partAt (tapPlace s) s f
+
+-- which slice the part is lent from, and from where on: a reference's place is a block of memory and an offset in it
+abbrev pub LentFrom : TapPlace → ℕ × ℕ → ℕ × ℕ → ℕ × ℕ → Type 0
+LentFrom place.Nowhere part stored factory = Unit {0}
+LentFrom (place.Own start count) part stored factory = (part .0 ≡ stored .0) × (part .1 ≡ start + stored .1)
+LentFrom place.Factory part stored factory = part ≡ factory

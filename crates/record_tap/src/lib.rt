@@ -4,7 +4,7 @@
 // refuses the record it is empty, and the call beside it answers 8.
 ghost use mathlib.Core.Path.{_≡_};
 ghost use Rattle.record_rules.specs.Answers.{readAnswer};
-ghost use Rattle.record_tap.specs.Tap.{tapPlace, tapPart};
+ghost use Rattle.record_tap.specs.Tap.{tapPlace, tapPart, LentFrom};
 use card::wide;
 use refusals::REFUSAL_NONE;
 
@@ -43,7 +43,8 @@ pub fn tap_refusal(record: &[u8]) -> u8
 
 // The part itself (RULES 10.5).
 pub fn tap_record<'a>(record: &'a [u8], factory: &'a [u8]) -> &'a [u8]
-    ensures { λ r. ⌜ now r ≡ tapPart (now («record» .entry)) (now (factory .entry)) ⌝ }
+    ensures { λ r. ⌜ (now r ≡ tapPart (now («record» .entry)) (now (factory .entry)))
+        × LentFrom (tapPlace (now («record» .entry))) (r .ptr) («record» .entry .ptr) (factory .entry .ptr) ⌝ }
 {
     match tap_place(record) {
         TapPlace::Nowhere => &factory[..0],

@@ -35,10 +35,12 @@ same-length-2 c = search needs
 returns-2 : tie.Need-returns-2
 unfolding fieldsIn
 returns-2 c =
-    let h = c .before .before .before .before .before .before .before .before .before .before .before .before .before .before .before .before .before .before .before .before .before .before .before .before .before .pre in
-    (rw (ne-eqb _ _ (c .before .before .before .before .before .before .before .before .before .before .before .before .before .if1 .left), c .before .before .before .before .if2 .taken)
-    (put-then (c .before .before .before .before .before .before .before .before .before .before .before .before .before .before .before .before .before .put-identity .ensures .0) (put-then (c .before .before .before .before .before .before .before .before .before .before .before .put-secrets .ensures .0)
-    (put-then (c .before .before .before .before .before .before .before .put-keys .ensures .0) (c .before .before .put-tap .ensures .0) (omega arith)) (omega arith)) (omega arith)), omega arith)
+    let h = c .before .before .before .before .before .before .before .before .before .before .before .before .before .before .before .before .before .before .before .before .before .before .before .before .before .pre in (
+      rw (ne-eqb _ _ (c .before .before .before .before .before .before .before .before .before .before .before .before .before .if1 .left), c .before .before .before .before .if2 .taken)
+          (put-then (c .before .before .before .before .before .before .before .before .before .before .before .before .before .before .before .before .before .put-identity .ensures .0) (put-then (c .before .before .before .before .before .before .before .before .before .before .before .put-secrets .ensures .0)
+          (put-then (c .before .before .before .before .before .before .before .put-keys .ensures .0) (c .before .before .put-tap .ensures .0) (omega arith)) (omega arith)) (omega arith)),
+      omega arith,
+    )
 
 same-length-3 : tie.Need-same-length-3
 same-length-3 c = search needs
@@ -46,10 +48,12 @@ same-length-3 c = search needs
 returns-3 : tie.Need-returns-3
 unfolding fieldsIn
 returns-3 c =
-    let h = c .before .before .before .before .before .before .before .before .before .before .before .before .before .before .before .before .before .before .before .before .before .pre in
-    (rw (ne-eqb _ _ (c .before .before .before .before .before .before .before .before .before .if1 .left), c .if2 .left)
-    (put-then (c .before .before .before .before .before .before .before .before .before .before .before .before .before .put-identity .ensures .0) (put-then (c .before .before .before .before .before .before .before .put-secrets .ensures .0)
-    (c .before .before .before .put-keys .ensures .0) (omega arith)) (omega arith)), omega arith)
+    let h = c .before .before .before .before .before .before .before .before .before .before .before .before .before .before .before .before .before .before .before .before .before .pre in (
+      rw (ne-eqb _ _ (c .before .before .before .before .before .before .before .before .before .if1 .left), c .if2 .left)
+          (put-then (c .before .before .before .before .before .before .before .before .before .before .before .before .before .put-identity .ensures .0) (put-then (c .before .before .before .before .before .before .before .put-secrets .ensures .0)
+          (c .before .before .before .put-keys .ensures .0) (omega arith)) (omega arith)),
+      omega arith,
+    )
 
 pub put-record-spec : {M : Type 1} → statement M
 put-record-spec =
