@@ -1,4 +1,4 @@
--- The tap read (RULES 10.5): which part of a stored record and a factory record is the card's tap record. Every length and place is in bytes.
+-- The tap read (RULES 10.7): which part of a stored record and a factory record is the card's tap record. Every length and place is in bytes.
 use Prim.Native.Nat.{ℕ, _+_}
 use mathlib.Core.Path.{_≡_}
 use mathlib.Core.Bool.{cond}

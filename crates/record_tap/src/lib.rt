@@ -15,7 +15,7 @@ pub enum TapPlace {
     Factory,
 }
 
-// Where the tap record of a stored record is (RULES 10.5).
+// Where the tap record of a stored record is (RULES 10.7).
 pub fn tap_place(record: &[u8]) -> TapPlace
     ensures { λ r. ⌜ r ≡ tapPlace (now («record» .entry)) ⌝ }
 {
@@ -41,7 +41,7 @@ pub fn tap_refusal(record: &[u8]) -> u8
     told.refusal
 }
 
-// The part itself (RULES 10.5).
+// The part itself (RULES 10.7).
 pub fn tap_record<'a>(record: &'a [u8], factory: &'a [u8]) -> &'a [u8]
     ensures { λ r. ⌜ (now r ≡ tapPart (now («record» .entry)) (now (factory .entry)))
         × LentFrom (tapPlace (now («record» .entry))) (r .ptr) («record» .entry .ptr) (factory .entry .ptr) ⌝ }
