@@ -80,7 +80,7 @@ fn say_place(place: TapPlace) {
     }
 }
 
-fn say_tap(record: &[u8], factory: &[u8]) {
+fn say_tap<'a>(record: &'a [u8], factory: &'a [u8]) {
     say(b"tap: ");
     let refusal = record_tap::tap_refusal(record);
     if refusal != 0 {
