@@ -26,7 +26,7 @@ use Rattle.sound.specs.Reset.{done, refused}
 use Rattle.record_rules.specs.Fields.{Field, encode, encodeAll, identityFields, ownerFields, fieldsIn, recordOf}
 use Rattle.record_rules.specs.Lengths.{recordFieldBytes, recordFresh, recordLeast, recordMost, writeRoom}
 use Rattle.record_rules.specs.Parse.{content, fit, slotsFrom, cardOf}
-use Rattle.record_rules.specs.Forms.{Form, writtenForm, untappedForm, forms, isInForm, Listed, first, InForm}
+use Rattle.record_rules.specs.Forms.{Form, writtenForm, untappedForm, forms, isInForm, Listed, first, later, InForm}
 use Rattle.record_rules.specs.Answers.{writeRefusal, writeBytes, isRecordOf, readAnswer}
 use Rattle.record_rules.proofs.ParseFacts.{slots-long}
 use Rattle.record_rules.proofs.FormFacts.{found, passes, of-each, form-describes, reset-in-form, card-in-form}
@@ -170,13 +170,32 @@ module _ (s : List ℕ) (room : ℕ) (e : writeRoom ≤ room) where
   write-read h =
       (rw (read-sound s, le-ltb room writeRoom e), rw (read-sound s, le-ltb room writeRoom e) (record-read s h))
 
+  -- of bytes that READ takes as a card's record
+  pub write-of : (c : Card) → readAnswer s ≡ done (resetOf c) → writeBytes (readAnswer s .card) room ≡ recordOf c
+  unfolding writeBytes
+  write-of c g =
+      rw (read-sound s, le-ltb room writeRoom e) (ap (λ (a : Answer). recordOf (a .card)) g ∙ record-reset c)
+
   -- of the record of a sound card, in whichever form
   pub write-renewed : (c : Card) → Shaped c → isSound c ≡ true → (r : InForm s c forms)
       → writeBytes (readAnswer s .card) room ≡ r .form .renewed s
-  unfolding writeBytes
-  write-renewed c w g r =
-      rw (read-sound s, le-ltb room writeRoom e)
-      (ap (λ (a : Answer). recordOf (a .card)) (read-in-form s c w g r) ∙ record-reset c ∙ record-renewed s c r)
+  write-renewed c w g r = write-of c (read-in-form s c w g r) ∙ record-renewed s c r
+
+-- ---- the record without field 34, of a card that has no tap record: READ takes it, and WRITE ends it with an empty field 34
+module _ (c : Card) (w : Shaped c) (e : isSound c ≡ true) (i : c .initialised ≡ 1) (n : c .tap .len ≡ 0) where
+  abbrev untapped-in-form : InForm (encodeAll (fieldsIn false c)) c forms
+  untapped-in-form = record {
+    form = untappedForm;
+    listed = later writtenForm (untappedForm ∷ []) (first []);
+    held = rw (i, n);
+    bytes = refl;
+  }
+
+  pub read-untapped : readAnswer (encodeAll (fieldsIn false c)) ≡ done (resetOf c)
+  read-untapped = read-in-form (encodeAll (fieldsIn false c)) c w e untapped-in-form
+
+  pub record-untapped : recordOf c ≡ encodeAll (fieldsIn false c) ++ encode 0x34 []
+  record-untapped = record-renewed (encodeAll (fieldsIn false c)) c untapped-in-form
 
 -- ---- which bytes READ refuses: those that are no sound card's record in any form
 pub read-refuses : (s : List ℕ) → readAnswer s .refusal ≡ notRecord

@@ -3,11 +3,11 @@
 use mathlib.Core.Path.{_≡_, refl, sym, ap, _∙_}
 use mathlib.Core.Bool.{true, false, cond}
 use mathlib.Core.Logic.{⊎-elim}
-use mathlib.Core.List.{List, [], _++_}
-use Prim.Native.Nat.{ℕ, _-_, _≤_}
+use mathlib.Core.List.{List, [], _∷_, _++_, append-assoc}
+use Prim.Native.Nat.{ℕ, _-_, _/_, _%_, _≤_}
 use native.Mathlib.Omega.{arith}
-use lib.ListN.{length, take, drop}
-use lib.Seq.{length-take-le}
+use lib.ListN.{length, take, drop, length-append, take-append-drop}
+use lib.Seq.{drop-at, take-all, length-take-le}
 use borrow.Author.Tests.{eqb-true}
 use Rattle.card.specs.declared.Card.{Card}
 use Rattle.card.specs.State.{tapBytes}
@@ -20,7 +20,7 @@ use Rattle.card.proofs.SoundFacts.{tap-length}
 use Rattle.record_rules.specs.Fields.{Field, encode, encodeAll, identityFields, tapFields, ownerFields, fieldsIn}
 use Rattle.record_rules.specs.Parse.{behind, content, contentStart}
 use Rattle.record_rules.specs.Forms.{Form, writtenForm, untappedForm, forms, InForm}
-use Rattle.record_rules.proofs.FieldFacts.{encode-one}
+use Rattle.record_rules.proofs.FieldFacts.{encode-append, encode-one}
 use Rattle.record_rules.proofs.ParseFacts.{firstContent, content-all, behind-all, behind-short}
 use Rattle.record_rules.proofs.FormFacts.{of-each, untapped}
 
@@ -88,3 +88,24 @@ module _ (s : List ℕ) (c : Card) (e : isSound c ≡ true) (r : InForm s c form
   pub tap-within : Shaped c → (c .tap .len ≡ 0 → ⊥) → c .tap .len ≤ length s
   tap-within w n =
       omega (arith, ap length (tap-behind n), ap length (sym tap-content), tap-long w, behind-short s before34)
+
+  -- the record's last bytes
+  tap-split : (c .tap .len ≡ 0 → ⊥) → s ≡ encodeAll (take before34 (r .form .fieldsOf c)) ++ encode 0x34 (tapBytes (c .tap))
+  tap-split n =
+      sym (r .bytes)
+      ∙ ap encodeAll (sym (take-append-drop before34 (r .form .fieldsOf c)))
+      ∙ encode-append (take before34 (r .form .fieldsOf c)) (drop before34 (r .form .fieldsOf c))
+      ∙ ap (λ (x : List ℕ). encodeAll (take before34 (r .form .fieldsOf c)) ++ x) (ap encodeAll (ends .last n) ∙ encode-one 0x34 (tapBytes (c .tap)))
+
+  pub tap-inside : Shaped c → (c .tap .len ≡ 0 → ⊥) → take (c .tap .len) (drop (length s - c .tap .len) s) ≡ tapBytes (c .tap)
+  tap-inside w n = last-bytes (tapBytes (c .tap)) (encodeAll (take before34 (r .form .fieldsOf c))) (tap-split n) (sym (ap length tap-content) ∙ tap-long w)
+    where
+      last-bytes : (x front : List ℕ) → s ≡ front ++ encode 0x34 x → length x ≡ c .tap .len
+          → take (c .tap .len) (drop (length s - c .tap .len) s) ≡ x
+      last-bytes x front e l =
+          let whole : s ≡ (front ++ (0x34 ∷ length x / 256 ∷ length x % 256 ∷ [])) ++ x = e ∙ sym (append-assoc front (0x34 ∷ length x / 256 ∷ length x % 256 ∷ []) x) in
+          ap (take (c .tap .len))
+          (ap (drop (length s - c .tap .len)) whole
+          ∙ drop-at (front ++ (0x34 ∷ length x / 256 ∷ length x % 256 ∷ [])) x (length s - c .tap .len)
+          (omega (arith, ap length whole, length-append (front ++ (0x34 ∷ length x / 256 ∷ length x % 256 ∷ [])) x, l)))
+          ∙ take-all (c .tap .len) x (omega (arith, l))

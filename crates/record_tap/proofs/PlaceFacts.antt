@@ -6,12 +6,13 @@ use Prim.Native.Nat.{ℕ, _+_, _-_, _≤_}
 use native.Mathlib.Omega.{arith}
 use lib.ListN.{length, take, drop}
 use borrow.Author.Tests.{eqb-true, eqb-false, ne-eqb}
+use Rattle.card.specs.State.{tapBytes}
 use Rattle.card.specs.Slots.{isZero}
 use Rattle.sound.specs.declared.Answer.{Answer}
 use Rattle.record_rules.specs.Parse.{content}
 use Rattle.record_rules.specs.Answers.{readAnswer}
 use Rattle.record_rules.proofs.ReadFacts.{read-sound, read-shaped, read-taken}
-use Rattle.record_rules.proofs.TapFacts.{tap-long, tap-start, tap-within}
+use Rattle.record_rules.proofs.TapFacts.{tap-content, tap-long, tap-start, tap-within, tap-inside}
 use Rattle.record_tap.specs.declared.TapPlace.{TapPlace}
 use Rattle.record_tap.specs.declared.TapPlace.the-variants as place
 use Rattle.record_tap.specs.Tap.{field34, tapPlace, partAt, tapPart, LentFrom}
@@ -109,3 +110,19 @@ module _ (s f : List ℕ) where
 -- ---- LentFrom, by the place
 pub lent : (p q : TapPlace) (part stored factory : ℕ × ℕ) → p ≡ q → LentFrom p part stored factory → LentFrom q part stored factory
 lent p q part stored factory e h = subst (λ (x : TapPlace). LentFrom x part stored factory) e h
+
+-- ---- the bytes of the part: the tap record of the card that READ gives, or the factory record
+module _ (s f : List ℕ) (h : readAnswer s .refusal ≡ 0) where
+  pub part-tap : (readAnswer s .card .tap .len ≡ 0 → ⊥) → tapPart s f ≡ tapBytes (readAnswer s .card .tap)
+  unfolding partAt
+  part-tap n =
+      sym (ap (λ (p : TapPlace). partAt p s f) (place-own s h n))
+      ∙ tap-inside s (readAnswer s .card) (read-sound s) (read-taken s h) (read-shaped s h) n
+
+  pub part-none : readAnswer s .card .tap .len ≡ 0 → tapPart s f ≡ f
+  unfolding partAt
+  part-none z = sym (ap (λ (p : TapPlace). partAt p s f) (place-factory s h z))
+
+  -- field 34's content
+  pub field-tap : content s field34 ≡ tapBytes (readAnswer s .card .tap)
+  field-tap = tap-content s (readAnswer s .card) (read-sound s) (read-taken s h)
