@@ -419,7 +419,8 @@ tw_told tw_unseal(tw_session *session, const uint8_t *response, size_t response_
 tw_told tw_walk(const uint8_t *input, size_t input_bytes);
 
 /* WRITE: the card's stored record from the buffer's start: TW_RECORD_FRESH_BYTES bytes before INIT, TW_RECORD_MIN_BYTES to
-   TW_RECORD_MAX_BYTES after it. It has the field of the tap record, also where that is empty. The card is only read.
+   TW_RECORD_MAX_BYTES after it. After INIT it has the field of the tap record, also where that is empty. The card is only
+   read.
    Refusals: TW_UNSOUND, TW_ROOM (buf_bytes under TW_WRITE_ROOM_BYTES, also before INIT).
    The caller ensures:
    - card: TW_CARD_BYTES bytes, valid to read, and written by no one during the call;

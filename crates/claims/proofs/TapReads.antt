@@ -7,6 +7,7 @@ use Prim.Native.Nat.{ℕ}
 use native.Mathlib.Omega.{arith}
 use lib.Dec.{leb}
 use lib.ListN.{length}
+use lib.Seq.{take-all}
 use mathlib.Core.Logic.{⊎-elim}
 use borrow.Author.Tests.{eqb-true, eqb-false, leb-true}
 use Rattle.card.specs.declared.Tap.{Tap}
@@ -22,11 +23,13 @@ use Rattle.record_rules.specs.Fields.{recordOf}
 use Rattle.record_rules.specs.Forms.{forms, InForm}
 use Rattle.record_rules.specs.Answers.{readAnswer}
 use Rattle.record_rules.proofs.ReadFacts.{read-in-form, record-in-form, read-cases}
-use Rattle.record_tap.specs.Tap.{tapPlace, tapPart}
+use Rattle.record_tap.specs.declared.TapPlace.{TapPlace}
+use Rattle.record_tap.specs.declared.TapPlace.the-variants as place
+use Rattle.record_tap.specs.Tap.{tapPlace, partAt, tapPart}
 use Rattle.record_tap.proofs.PlaceFacts.{place-nowhere, place-factory, place-own, part-nowhere, part-tap, part-none, field-tap}
 use Rattle.library_calls.specs.Tapped.{tappedOf}
 use Rattle.laws_commands.proofs.Parts.{after-init, tap-kept, tap-shaped}
-use Rattle.claims.specs.TapReads.{Taps, TapReads}
+use Rattle.claims.specs.TapReads.{Gives, named, TapReads}
 
 -- ---- what is told is READ's refusal
 told-zero : (s : List ℕ) (n : ℕ) → readAnswer s .refusal ≡ 0 → tappedOf (tapPlace s) n .refusal ≡ 0
@@ -55,7 +58,7 @@ module _ (s f : List ℕ) (c : Card) (w : Shaped c) (e : isSound c ≡ true) (r 
   tap-is : readAnswer s .card .tap ≡ c .tap
   tap-is = ap (λ (a : Answer). a .card .tap) answer-is
 
-  taps : Taps s c f
+  taps : Gives s c f
   taps = record {
     own = λ n. part-tap s f is-read (λ z. n (sym (ap (λ (t : Tap). t .len) tap-is) ∙ z)) ∙ ap tapBytes tap-is;
     factory = λ z. part-none s f is-read (ap (λ (t : Tap). t .len) tap-is ∙ z);
@@ -81,6 +84,13 @@ told-read s n = ⊎-elim
     (λ e. let h = ap (λ (a : Answer). a .refusal) e in told-refused s n h ∙ sym h)
     (read-cases s)
 
+-- ---- the part that the report of a place names
+placed-at : (s f : List ℕ) (p : TapPlace) → named (tappedOf p (length f)) s f ≡ partAt p s f
+unfolding tappedOf partAt
+placed-at s f place.Nowhere = refl
+placed-at s f (place.Own start count) = refl
+placed-at s f place.Factory = take-all (length f) f (omega arith)
+
 pub tap-reads : TapReads
 tap-reads = record {
   taken = taps;
@@ -88,6 +98,7 @@ tap-reads = record {
   example = refl;
   refused = λ s f h. sym (part-nowhere s f (place-nowhere s (λ z. eight-zero (sym h ∙ z))));
   told = told-read;
+  placed = λ s f. placed-at s f (tapPlace s);
 }
   where
     eight-zero : _≡_ {A = ℕ} 8 0 → ⊥

@@ -52,9 +52,9 @@ pub record Responses : Type 0 where
   pub example : (unsealOut zeroSession (sealedResponse zeroSession (0x90 ∷ 0x00 ∷ [])) 223 .refusal ≡ 0)
       × (unsealOut zeroSession (oldResponse zeroSession (0x90 ∷ 0x00 ∷ [])) 223 .refusal ≡ 7)
 
--- ---- the stored record (RULES 10.5): READ of WRITE is RESET; what READ takes is written as it was, or, where it had no field 34, with an empty
--- one at its end; in the current form byte for byte, and of the old form the new one is stated; and no bytes are, in the forms that READ takes,
--- the records of two cards that RESET leaves different
+-- ---- the stored record (RULES 10.5): READ of WRITE is RESET; what READ takes is written as it was or with an empty field 34 at its end, namely as
+-- its form is renewed: in the current form byte for byte, in the old form with that field; and no bytes are, in the forms that READ takes, the
+-- records of two cards that RESET leaves different
 abbrev pub emptyField34 : List ℕ
 emptyField34 = 0x34 ∷ 0 ∷ 0 ∷ []
 
@@ -70,6 +70,8 @@ pub record Records : Type 0 where
   pub writeread : (s : List ℕ) (room : ℕ) → writeRoom ≤ room → readAnswer s .refusal ≡ 0
       → (writeRefusal (readAnswer s .card) room ≡ 0)
       × ((writeBytes (readAnswer s .card) room ≡ s) ⊎ (writeBytes (readAnswer s .card) room ≡ s ++ emptyField34))
+  pub renewed : (s : List ℕ) (room : ℕ) → writeRoom ≤ room → (c : Card) → Shaped c → isSound c ≡ true → (r : InForm s c forms)
+      → writeBytes (readAnswer s .card) room ≡ r .form .renewed s
   pub current : (c : Card) (room : ℕ) → Shaped c → isSound c ≡ true → writeRoom ≤ room → writeBytes (readAnswer (recordOf c) .card) room ≡ recordOf c
   pub old : (c : Card) (room : ℕ) → Shaped c → isSound c ≡ true → c .initialised ≡ 1 → c .tap .len ≡ 0 → writeRoom ≤ room → OldForm c room
   pub onecard : (s : List ℕ) (c d : Card) → Shaped c → Shaped d → isSound c ≡ true → isSound d ≡ true → InForm s c forms → InForm s d forms

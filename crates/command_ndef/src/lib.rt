@@ -4,6 +4,7 @@
 ghost use mathlib.Core.Path.{_≡_};
 ghost use Prim.Native.Nat.{_≤_};
 ghost use lib.ListN.{length};
+ghost use Rattle.card.specs.Sizes.{tapMostBytes};
 ghost use Rattle.card.specs.State.{tapOf};
 ghost use Rattle.rules.specs.Words.{Hold, verdict};
 ghost use Rattle.rules.specs.Code.{repliedOf};
@@ -25,7 +26,7 @@ use sound_tap::is_ndef;
 
 // The tap record of these bytes, zeros after them.
 pub fn tap_of(data: &[u8]) -> Tap
-    requires { ⌜ length (now «data») ≤ 223 ⌝ }
+    requires { ⌜ length (now «data») ≤ tapMostBytes ⌝ }
     ensures { λ r. ⌜ r ≡ tapOf (now («data» .entry)) ⌝ }
 {
     let mut bytes = [0u8; TAP_MAX_BYTES];

@@ -3,7 +3,7 @@ use Prim.Native.Nat.{ℕ, _≤_}
 use mathlib.Core.Path.{_≡_}
 use mathlib.Core.List.{List}
 use lib.ListN.{length, drop, getD}
-use Rattle.record_rules.specs.Parse.{behind, content, identityFrom, pinsFrom, pairingFrom, keysFrom}
+use Rattle.record_rules.specs.Parse.{behind, content, field34, identityFrom, pinsFrom, pairingFrom, keysFrom}
 use Rattle.record_card.specs.declared.IdentityRead.{IdentityRead}
 use Rattle.record_card.specs.declared.SecretsRead.{SecretsRead}
 use Rattle.record_card.specs.declared.KeysRead.{KeysRead}
@@ -25,4 +25,4 @@ pub record SecretsTaken (s : List ℕ) (r : SecretsRead) : Type 0 where
 
 pub record KeysTaken (s : List ℕ) (r : KeysRead) : Type 0 where
   pub keys : r .keys ≡ keysFrom (content s)
-  pub next : At s 12 (r .next)
+  pub next : At s field34 (r .next)

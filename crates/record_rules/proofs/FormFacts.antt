@@ -14,7 +14,7 @@ use Rattle.card.specs.Shape.{Shaped}
 use Rattle.card.specs.Slots.{someOf, isZero}
 use Rattle.card.specs.Sound.{isSound}
 use Rattle.card.proofs.Tests.{both}
-use Rattle.record_rules.specs.Fields.{encode, encodeAll, identityFields, tapFields, ownerFields, fieldsIn, recordOf}
+use Rattle.record_rules.specs.Fields.{encode, encodeAll, identityFields, tapTag, tapFields, ownerFields, fieldsIn, recordOf}
 use Rattle.record_rules.specs.Parse.{cardOf}
 use Rattle.record_rules.specs.Forms.{Form, writtenForm, untappedForm, forms, isInForm, Listed, first, later, InForm}
 use Rattle.record_rules.proofs.FieldFacts.{encode-append, encode-one}
@@ -83,14 +83,14 @@ module _ (c : Card) (h : untappedForm .holds c ≡ true) where
       let p = both (not (isZero (c .initialised))) (isZero (c .tap .len)) h in
       (eqb-true (c .tap .len) 0 (p .1), not-true _ (p .0))
 
-  untapped-today : recordOf c ≡ encodeAll (fieldsIn false c) ++ encode 0x34 []
+  untapped-today : recordOf c ≡ encodeAll (fieldsIn false c) ++ encode tapTag []
   unfolding recordOf fieldsIn
   untapped-today =
       rw (untapped .1)
       (ap encodeAll (sym (append-assoc (identityFields (c .initialised) (c .identity)) (ownerFields false c) (tapFields (c .tap))))
       ∙ encode-append (identityFields (c .initialised) (c .identity) ++ ownerFields false c) (tapFields (c .tap))
       ∙ ap (λ (x : List ℕ). encodeAll (identityFields (c .initialised) (c .identity) ++ ownerFields false c) ++ x)
-      (encode-one 0x34 (tapBytes (c .tap)) ∙ ap (λ (n : ℕ). encode 0x34 (take n (c .tap .bytes))) (untapped .0)))
+      (encode-one tapTag (tapBytes (c .tap)) ∙ ap (λ (n : ℕ). encode tapTag (take n (c .tap .bytes))) (untapped .0)))
 
 untapped-describes : Describes untappedForm
 unfolding fieldsIn

@@ -23,7 +23,7 @@ use Rattle.card.proofs.SoundFacts.{fresh-sound, reset-sound, path-lengths, tap-
 use Rattle.sound.specs.declared.Answer.{Answer}
 use Rattle.refusals.specs.Refusals.{noRefusal, unsound, noRoom, notRecord}
 use Rattle.sound.specs.Reset.{done, refused}
-use Rattle.record_rules.specs.Fields.{Field, encode, encodeAll, identityFields, ownerFields, fieldsIn, recordOf}
+use Rattle.record_rules.specs.Fields.{Field, encode, encodeAll, identityFields, tapTag, ownerFields, fieldsIn, recordOf}
 use Rattle.record_rules.specs.Lengths.{recordFieldBytes, recordFresh, recordLeast, recordMost, writeRoom}
 use Rattle.record_rules.specs.Parse.{content, fit, slotsFrom, cardOf}
 use Rattle.record_rules.specs.Forms.{Form, writtenForm, untappedForm, forms, isInForm, Listed, first, later, InForm}
@@ -150,13 +150,13 @@ record-renewed s c r =
 
 -- the two forms by name: the record stays, or an empty field 34 ends it
 abbrev Renews : List ℕ → Form → Type 0
-Renews s f = (f .renewed s ≡ s) ⊎ (f .renewed s ≡ s ++ encode 0x34 [])
+Renews s f = (f .renewed s ≡ s) ⊎ (f .renewed s ≡ s ++ encode tapTag [])
 
 either-form : (f : Form) → Listed f forms → (s : List ℕ) → Renews s f
 either-form f l s = of-each (Renews s) f forms l (inl refl, (inr refl, tt))
 
 pub record-read : (s : List ℕ) → readAnswer s .refusal ≡ noRefusal
-    → (recordOf (readAnswer s .card) ≡ s) ⊎ (recordOf (readAnswer s .card) ≡ s ++ encode 0x34 [])
+    → (recordOf (readAnswer s .card) ≡ s) ⊎ (recordOf (readAnswer s .card) ≡ s ++ encode tapTag [])
 record-read s h =
     let r = read-taken s h in
     let e = record-renewed s (readAnswer s .card) r in
@@ -165,7 +165,7 @@ record-read s h =
 module _ (s : List ℕ) (room : ℕ) (e : writeRoom ≤ room) where
   pub write-read : readAnswer s .refusal ≡ noRefusal
       → (writeRefusal (readAnswer s .card) room ≡ noRefusal)
-      × ((writeBytes (readAnswer s .card) room ≡ s) ⊎ (writeBytes (readAnswer s .card) room ≡ s ++ encode 0x34 []))
+      × ((writeBytes (readAnswer s .card) room ≡ s) ⊎ (writeBytes (readAnswer s .card) room ≡ s ++ encode tapTag []))
   unfolding writeRefusal writeBytes
   write-read h =
       (rw (read-sound s, le-ltb room writeRoom e), rw (read-sound s, le-ltb room writeRoom e) (record-read s h))
@@ -194,7 +194,7 @@ module _ (c : Card) (w : Shaped c) (e : isSound c ≡ true) (i : c .initialised 
   pub read-untapped : readAnswer (encodeAll (fieldsIn false c)) ≡ done (resetOf c)
   read-untapped = read-in-form (encodeAll (fieldsIn false c)) c w e untapped-in-form
 
-  pub record-untapped : recordOf c ≡ encodeAll (fieldsIn false c) ++ encode 0x34 []
+  pub record-untapped : recordOf c ≡ encodeAll (fieldsIn false c) ++ encode tapTag []
   record-untapped = record-renewed (encodeAll (fieldsIn false c)) c untapped-in-form
 
 -- ---- which bytes READ refuses: those that are no sound card's record in any form

@@ -62,8 +62,11 @@ keyFields k =
     ∷ []
 
 -- the tap record, of no bytes where there is none
+abbrev pub tapTag : ℕ
+tapTag = 0x34
+
 abbrev pub tapFields : Tap → List Field
-tapFields t = recordField 0x34 (tapBytes t) ∷ []
+tapFields t = recordField tapTag (tapBytes t) ∷ []
 
 -- only the record of an initialised card has the fields past the identity; `tapped` says whether field 34 is one of them, as it is in what
 -- WRITE writes

@@ -7,7 +7,7 @@ use mathlib.Core.List.{List, [], _∷_, _++_}
 use Rattle.octets.specs.Bytes.{sameBytes}
 use Rattle.card.specs.declared.Card.{Card}
 use Rattle.card.specs.Slots.{isZero}
-use Rattle.record_rules.specs.Fields.{Field, encode, encodeAll, fieldsIn}
+use Rattle.record_rules.specs.Fields.{Field, encode, encodeAll, tapTag, fieldsIn}
 
 pub record Form : Type 0 where
   pub holds : Card → Bool
@@ -23,7 +23,7 @@ abbrev pub untappedForm : Form
 untappedForm = record {
   holds = λ c. not (isZero (c .initialised)) && isZero (c .tap .len);
   fieldsOf = fieldsIn false;
-  renewed = λ s. s ++ encode 0x34 [];
+  renewed = λ s. s ++ encode tapTag [];
 }
 
 -- all of them

@@ -39,6 +39,10 @@ content s k = body (behind k s)
 abbrev pub contentStart : List ℕ → ℕ → ℕ
 contentStart s k = length s - length (behind k s) + headBytes
 
+-- the number of field 34, counted from 0: three fields of the identity, five of the secrets and four of the keys come before it
+abbrev pub field34 : ℕ
+field34 = 12
+
 -- ---- the parts of a card, from the contents f 0, f 1, .. in the order of the table
 -- x cut, or filled with zeros, to n bytes
 abbrev pub fit : ℕ → List ℕ → List ℕ
@@ -94,7 +98,7 @@ cardFrom f = record {
   pairing = pairingFrom f;
   keys = keysFrom f;
   channel = closedOf;
-  tap = tapFrom (f 12);
+  tap = tapFrom (f field34);
 }
 
 unfoldable pub cardOf : List ℕ → Card

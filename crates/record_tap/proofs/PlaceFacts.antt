@@ -9,13 +9,13 @@ use borrow.Author.Tests.{eqb-true, eqb-false, ne-eqb}
 use Rattle.card.specs.State.{tapBytes}
 use Rattle.card.specs.Slots.{isZero}
 use Rattle.sound.specs.declared.Answer.{Answer}
-use Rattle.record_rules.specs.Parse.{content}
+use Rattle.record_rules.specs.Parse.{field34, content}
 use Rattle.record_rules.specs.Answers.{readAnswer}
 use Rattle.record_rules.proofs.ReadFacts.{read-sound, read-shaped, read-taken}
 use Rattle.record_rules.proofs.TapFacts.{tap-content, tap-long, tap-start, tap-within, tap-inside}
 use Rattle.record_tap.specs.declared.TapPlace.{TapPlace}
 use Rattle.record_tap.specs.declared.TapPlace.the-variants as place
-use Rattle.record_tap.specs.Tap.{field34, tapPlace, partAt, tapPart, LentFrom}
+use Rattle.record_tap.specs.Tap.{tapPlace, partAt, tapPart, LentFrom}
 
 -- the end of a part of the record
 abbrev endOf : TapPlace → ℕ

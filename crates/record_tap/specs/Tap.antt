@@ -5,14 +5,10 @@ use mathlib.Core.Bool.{cond}
 use mathlib.Core.List.{List, []}
 use lib.ListN.{length, take, drop}
 use Rattle.card.specs.Slots.{isZero}
-use Rattle.record_rules.specs.Parse.{content, contentStart}
+use Rattle.record_rules.specs.Parse.{field34, content, contentStart}
 use Rattle.record_rules.specs.Answers.{readAnswer}
 use Rattle.record_tap.specs.declared.TapPlace.{TapPlace}
 use Rattle.record_tap.specs.declared.TapPlace.the-variants as place
-
--- the number of field 34, counted from 0: those of the identity, of the secrets and of the keys come before it
-abbrev pub field34 : ℕ
-field34 = 12
 
 -- where READ takes the record: the content of its field 34, by its place, unless that is empty or not there; then the factory record
 abbrev pub placeTaken : List ℕ → TapPlace

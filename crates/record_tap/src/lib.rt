@@ -37,8 +37,8 @@ pub fn tap_place(record: &[u8]) -> TapPlace
 pub fn tap_refusal(record: &[u8]) -> u8
     ensures { λ r. ⌜ r ≡ readAnswer (now («record» .entry)) .refusal ⌝ }
 {
-    let told = record_read::read(record);
-    told.refusal
+    let answer = record_read::read(record);
+    answer.refusal
 }
 
 // The part itself (RULES 10.7).
