@@ -16,7 +16,7 @@
 //! | WALK | [`walk`] | how many fields templates hold |
 //! | WRITE | [`Card::write`] | the card's stored record |
 //! | READ | [`Card::read`] | the card of a stored record |
-//! | | [`tap`] | what a phone is to read of a stored card: its own tap record, or the factory's |
+//! | tap read | [`tap`] | what a phone is to read of a stored card: its own tap record, or the factory's |
 //!
 //! Every length, room and count is in bytes; [`walk`] alone counts fields. Buffers are the caller's. An operation that cannot be done gives
 //! a [`Refusal`] and leaves card, session and buffer as they were. No operation panics or allocates, and nothing is kept between calls.
