@@ -40,9 +40,10 @@ fn is_record_of(s: &[u8], card: Card) -> bool
     let before = card.initialised == 0;
     let tapped = tap.len != 0;
     if before | tapped {
-        return false;
+        false
+    } else {
+        is_written(s, card, false)
     }
-    is_written(s, card, false)
 }
 
 // READ (RULES 10.4).

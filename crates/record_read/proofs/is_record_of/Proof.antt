@@ -45,6 +45,6 @@ is-record-of-spec =
     returns
     is-written-requires
     returns-2
-    returns-3
     is-written-requires-2
+    returns-3
     returns-4)
