@@ -26,9 +26,9 @@ extern "C" {
 /* The version: one number for this header, the library, the Rust crate and the crates that they are proved from. CHANGELOG.md says what it
    promises about the card's layout and the stored record. */
 #define TW_VERSION_MAJOR 0
-#define TW_VERSION_MINOR 4
+#define TW_VERSION_MINOR 5
 #define TW_VERSION_PATCH 0
-#define TW_VERSION "0.4.0"
+#define TW_VERSION "0.5.0"
 
 /* Numbers that follow from others are written as their sums; docs/LAYOUT.md has them worked out, and rust/tests/layout.rs holds both against
    each other. */
@@ -51,6 +51,9 @@ enum {
     TW_PATH_MAX_BYTES = 10 * TW_COMPONENT_BYTES, /* 10 components */
     TW_SLOT_BYTES = 1 + TW_KEY_BYTES,            /* a slot, as tw_slot */
     TW_PATH_BYTES = 1 + TW_PATH_MAX_BYTES,       /* a path, as tw_path */
+    TW_TAP_COUNT_BYTES = 2,                      /* what a tap record begins with: how many bytes follow, high byte first */
+    TW_TAP_MAX_BYTES = 223,                      /* the longest tap record, as SET NDEF takes it, its first two bytes included */
+    TW_TAP_BYTES = 1 + TW_TAP_MAX_BYTES,         /* a tap record, as tw_tap_record */
     TW_HEADER_BYTES = 4,                         /* CLA INS P1 P2 */
     TW_STATUS_BYTES = 2,                         /* a status word, the high byte first */
 
@@ -75,18 +78,22 @@ enum {
     TW_AT_ENC_KEY = TW_AT_STAGE + 1,
     TW_AT_MAC_KEY = TW_AT_ENC_KEY + TW_KEY_BYTES,
     TW_AT_IV = TW_AT_MAC_KEY + TW_KEY_BYTES,
+    TW_AT_TAP = TW_AT_IV + TW_IV_BYTES,
 
     /* The length of a card, as tw_card, and of a session, as tw_session, in bytes. A card is not the stored record. */
-    TW_CARD_BYTES = TW_AT_IV + TW_IV_BYTES,
+    TW_CARD_BYTES = TW_AT_TAP + TW_TAP_BYTES,
     TW_SESSION_BYTES = TW_KEY_BYTES + TW_KEY_BYTES + TW_IV_BYTES,
 
     /* The length of a stored record, in bytes: before INIT, and the least and the greatest after it. A field has a tag and a length before
-       its content; there are 3 before INIT and 12 after it, and three of these may be empty. */
+       its content; there are 3 before INIT and 13 after it, and four of these may be empty. Up to version 0.4.0 a record had no field for
+       the tap record, the last one: READ takes these old records too. */
     TW_FIELD_HEAD_BYTES = 1 + 2,
     TW_RECORD_FRESH_BYTES = 3 * TW_FIELD_HEAD_BYTES + 1 + TW_UID_BYTES + TW_PUBLIC_KEY_BYTES,
     TW_RECORD_SECRETS_BYTES = 5 * TW_FIELD_HEAD_BYTES + TW_PIN_BYTES + TW_PUK_BYTES + TW_KEY_BYTES + 1 + 1 + TW_SLOTS * TW_SLOT_BYTES,
-    TW_RECORD_MIN_BYTES = TW_RECORD_FRESH_BYTES + TW_RECORD_SECRETS_BYTES + 4 * TW_FIELD_HEAD_BYTES + 1,
-    TW_RECORD_MAX_BYTES = TW_RECORD_MIN_BYTES + TW_KEY_BYTES + 2 * TW_PATH_MAX_BYTES,
+    TW_RECORD_OLD_MIN_BYTES = TW_RECORD_FRESH_BYTES + TW_RECORD_SECRETS_BYTES + 4 * TW_FIELD_HEAD_BYTES + 1,
+    TW_RECORD_OLD_MAX_BYTES = TW_RECORD_OLD_MIN_BYTES + TW_KEY_BYTES + 2 * TW_PATH_MAX_BYTES,
+    TW_RECORD_MIN_BYTES = TW_RECORD_OLD_MIN_BYTES + TW_FIELD_HEAD_BYTES,
+    TW_RECORD_MAX_BYTES = TW_RECORD_OLD_MAX_BYTES + TW_FIELD_HEAD_BYTES + TW_TAP_MAX_BYTES,
 
     /* The least room of a buffer, in bytes; under it the operation is refused with TW_ROOM. */
     TW_ASK_ROOM_BYTES = 255,
@@ -101,7 +108,7 @@ enum {
     /* A page of memory. */
     TW_PAGE_BYTES = 4096,
     /* How much of the stack tw_wipe_stack overwrites. Every function of the library uses less: outside/c/secrets.c measures. */
-    TW_STACK_WIPE_BYTES = 6 * TW_PAGE_BYTES
+    TW_STACK_WIPE_BYTES = 8 * TW_PAGE_BYTES
 };
 
 /* Refusals. A refused call reports count and kind 0, writes nothing to the buffer and leaves card and session as they were
@@ -115,7 +122,14 @@ enum tw_refusal {
     TW_TOO_DEEP = 5,     /* WALK: templates nest deeper than 4 (TW_WALK_DEPTH_MAX) */
     TW_TOO_LONG = 6,     /* SEAL: more than 223 bytes of data */
     TW_NOT_GENUINE = 7,  /* UNSEAL: the response does not open */
-    TW_NOT_RECORD = 8    /* READ: the bytes are no card's record */
+    TW_NOT_RECORD = 8    /* READ, the tap read: the bytes are no card's record */
+};
+
+/* Where the part that the tap read gives lies. */
+enum tw_tap_source {
+    TW_TAP_NONE = 0,   /* nowhere: the call is refused */
+    TW_TAP_RECORD = 1, /* in the stored record: the card's own tap record */
+    TW_TAP_FACTORY = 2 /* it is the factory record, whole */
 };
 
 /* Kinds of supply, as ASK reports them. A flag is one byte, 00 (no) or 01 (yes); after 00 the rest is there but not read. */
@@ -185,7 +199,8 @@ enum tw_instruction {
     TW_INS_REMOVE = 0xD3,
     TW_INS_SET_PINLESS_PATH = 0xC1,
     TW_INS_SIGN = 0xC0,
-    TW_INS_EXPORT = 0xC2 /* a private key goes out only for paths that begin 8000002B 8000003C 8000062D (EIP-1581) */
+    TW_INS_EXPORT = 0xC2, /* a private key goes out only for paths that begin 8000002B 8000003C 8000062D (EIP-1581) */
+    TW_INS_SET_NDEF = 0xF3 /* data: the tap record, whose first two bytes count those that follow them */
 };
 
 /* P1 where it is a choice. For other commands it is 00. */
@@ -238,6 +253,11 @@ typedef struct tw_path {
     uint8_t bytes[TW_PATH_MAX_BYTES]; /* high byte of a component first, zero past the end */
 } tw_path;
 
+typedef struct tw_tap_record {
+    uint8_t len;                     /* bytes in use, at most TW_TAP_MAX_BYTES; 0 where none was set */
+    uint8_t bytes[TW_TAP_MAX_BYTES]; /* the first two, high byte first, are len less 2; zero past the end */
+} tw_tap_record;
+
 typedef struct tw_card {
     uint8_t initialised; /* flag: 1 after INIT */
     uint8_t uid[TW_UID_BYTES];
@@ -259,6 +279,7 @@ typedef struct tw_card {
     uint8_t enc_key[TW_KEY_BYTES];  /* the channel's, zero in stage 0 */
     uint8_t mac_key[TW_KEY_BYTES];  /* the channel's, zero in stage 0 */
     uint8_t iv[TW_IV_BYTES];        /* the channel's, zero in stage 0 */
+    tw_tap_record tap;              /* the card's own tap record */
 } tw_card;
 
 /* The terminal's end of the channel: both keys, and the IV of the next message. Bytes alone, as a card; any bytes of its length are a
@@ -282,9 +303,18 @@ typedef struct tw_told {
     size_t count;    /* bytes written from the buffer's start; WALK: fields that are not templates */
 } tw_told;
 
+/* What the tap read gives: the part of length bytes from offset on, in the stored record or in the factory record. */
+typedef struct tw_tapped {
+    uint8_t refusal; /* TW_DONE or TW_NOT_RECORD */
+    uint8_t source;  /* TW_TAP_.. */
+    size_t offset;   /* bytes before the part; 0 in the factory record */
+    size_t length;   /* bytes of the part */
+} tw_tapped;
+
 TW_CHECK(sizeof(tw_card) == TW_CARD_BYTES, "the length of a card");
 TW_CHECK(sizeof(tw_slot) == TW_SLOT_BYTES && offsetof(tw_slot, key) == 1, "the length of a slot");
 TW_CHECK(sizeof(tw_path) == TW_PATH_BYTES && offsetof(tw_path, bytes) == 1, "the length of a path");
+TW_CHECK(sizeof(tw_tap_record) == TW_TAP_BYTES && offsetof(tw_tap_record, bytes) == 1, "the length of a tap record");
 TW_CHECK(sizeof(tw_session) == TW_SESSION_BYTES, "the length of a session");
 TW_CHECK(offsetof(tw_session, mac_key) == TW_KEY_BYTES, "mac_key after enc_key");
 TW_CHECK(offsetof(tw_session, iv) == TW_KEY_BYTES + TW_KEY_BYTES, "iv after both keys");
@@ -308,9 +338,13 @@ TW_CHECK(offsetof(tw_card, stage) == TW_AT_STAGE, "where stage begins");
 TW_CHECK(offsetof(tw_card, enc_key) == TW_AT_ENC_KEY, "where enc_key begins");
 TW_CHECK(offsetof(tw_card, mac_key) == TW_AT_MAC_KEY, "where mac_key begins");
 TW_CHECK(offsetof(tw_card, iv) == TW_AT_IV, "where iv begins");
+TW_CHECK(offsetof(tw_card, tap) == TW_AT_TAP, "where tap begins");
 TW_CHECK(sizeof(size_t) == 8, "x86-64: a length has 8 bytes");
 TW_CHECK(sizeof(tw_asked) == 16 && offsetof(tw_asked, kind) == 1 && offsetof(tw_asked, count) == 8, "ASK's report has 16 bytes");
 TW_CHECK(sizeof(tw_told) == 16 && offsetof(tw_told, count) == 8, "a report has 16 bytes");
+TW_CHECK(sizeof(tw_tapped) == 24 && offsetof(tw_tapped, source) == 1, "the tap read's report has 24 bytes");
+TW_CHECK(offsetof(tw_tapped, offset) == 8 && offsetof(tw_tapped, length) == 16, "offset and length of the tap read's report");
+TW_CHECK(TW_TAP_MAX_BYTES == TW_DATA_MAX_BYTES, "the longest tap record is the most data");
 #undef TW_CHECK
 
 /* FRESH: the card becomes that of a new device. What *card held is not read. It has no refusal.
@@ -385,7 +419,8 @@ tw_told tw_unseal(tw_session *session, const uint8_t *response, size_t response_
 tw_told tw_walk(const uint8_t *input, size_t input_bytes);
 
 /* WRITE: the card's stored record from the buffer's start: TW_RECORD_FRESH_BYTES bytes before INIT, TW_RECORD_MIN_BYTES to
-   TW_RECORD_MAX_BYTES after it. The card is only read.
+   TW_RECORD_MAX_BYTES after it. After INIT it has the field of the tap record, also where that is empty. The card is only
+   read.
    Refusals: TW_UNSOUND, TW_ROOM (buf_bytes under TW_WRITE_ROOM_BYTES, also before INIT).
    The caller ensures:
    - card: TW_CARD_BYTES bytes, valid to read, and written by no one during the call;
@@ -394,12 +429,24 @@ tw_told tw_walk(const uint8_t *input, size_t input_bytes);
 tw_told tw_write(const tw_card *card, uint8_t *buf, size_t buf_bytes);
 
 /* READ: the card becomes that of the stored record, sound and reset; refused, it becomes FRESH of zeros. What *card held is not read.
-   Gives the refusal: TW_DONE or TW_NOT_RECORD.
+   Gives the refusal: TW_DONE or TW_NOT_RECORD. An old record, without the field of the tap record, is that of a card with none; WRITE then
+   writes it with the field.
    The caller ensures:
    - card: TW_CARD_BYTES bytes, valid to write, overlapping no other argument, and used by no other thread during the call;
    - record: record_bytes bytes, valid to read, and written by no one during the call;
    - no pointer is null, also where the length is 0, and the length is under 2^63. */
 uint8_t tw_read(tw_card *card, const uint8_t *record, size_t record_bytes);
+
+/* The tap read: which bytes a phone is to read when the card is held to it. Where the stored record has the card's own tap record, they are
+   its bytes inside record: source TW_TAP_RECORD. Where READ takes the record and it has none (the field is empty, or it is an old record, or
+   one before INIT), they are the whole of factory: source TW_TAP_FACTORY, offset 0, length factory_bytes. The bytes of factory are not looked
+   at, and may be none. It needs no card and no buffer, and writes nothing.
+   Refusal: TW_NOT_RECORD, exactly where READ refuses the record. Then source is TW_TAP_NONE, and offset and length are 0.
+   The caller ensures:
+   - record: record_bytes bytes, valid to read, and written by no one during the call;
+   - factory: factory_bytes bytes, valid to read, and written by no one during the call;
+   - no pointer is null, also where a length is 0, and each length is under 2^63. */
+tw_tapped tw_tap(const uint8_t *record, size_t record_bytes, const uint8_t *factory, size_t factory_bytes);
 
 /* Data in AES-256 CBC may be cut. This library has no function for CBC alone; the library aes_c has: tw_cbc_encrypt and tw_cbc_decrypt of
    crates/aes_c/src/lib.rt, with a key of 32 bytes, an IV of 16 bytes, and the data in place, a multiple of 16 bytes. Callers may cut data

@@ -1,5 +1,5 @@
 //! What is measured: works of many calls, whose inputs are made beforehand from a seed. Every card is initialised, in stage 2, with all slots
-//! filled and both paths full, so its record has 448 bytes. Lengths are in bytes.
+//! filled, both paths and the tap record full, so its record has 674 bytes. Lengths are in bytes.
 
 use crate::model_side::Model;
 use crate::sides::{Side, State};
@@ -109,6 +109,9 @@ fn full_card(random: &mut Random) -> Card {
         mac_key: array(random),
         iv: array(random),
     };
+    let mut tap: [u8; TAP_BYTES] = array(random);
+    tap[..TAP_COUNT_BYTES].copy_from_slice(&((TAP_BYTES - TAP_COUNT_BYTES) as u16).to_be_bytes());
+    card.tap = TapRecord::of(&tap);
     card
 }
 

@@ -1,5 +1,5 @@
-/* One card's life through include/treadlewisp.h, with all ten operations: from FRESH over INIT, PAIR, OPEN and MUTUAL to PIN, PUK, keys,
-   signatures and exported keys, its stored record, its refusals and templates. The life is played once for each placing of memory
+/* One card's life through include/treadlewisp.h, with all eleven operations: from FRESH over INIT, PAIR, OPEN and MUTUAL to PIN, PUK, its tap
+   record, keys, signatures and exported keys, its stored record, its refusals and templates. The life is played once for each placing of memory
    (life_places.h), and what holds of every call is checked at every call (life_calls.h). Exit status 0: every answer was the one that the
    rules give. Lengths are in bytes. */
 #include "life_calls.h"
@@ -21,6 +21,11 @@ static const char PUK[] = "918273645546";
 static const uint8_t TWO_COMPONENTS[] = {0x80, 0x00, 0x00, 0x2C, 0x00, 0x00, 0x00, 0x07};
 /* m/43'/60'/1581', from which on down EXPORT gives a private key. */
 static const uint8_t CHAT_NODE[] = {0x80, 0x00, 0x00, 0x2B, 0x80, 0x00, 0x00, 0x3C, 0x80, 0x00, 0x06, 0x2D};
+
+/* A tap record: two bytes that count the message after them, 16 bytes, and the message, the address of a page. */
+static const uint8_t TAP[] = {0x00, 0x10, 0xD1, 0x01, 0x0C, 0x55, 0x04, 'e', 'x', 'a', 'm', 'p', 'l', 'e', '.', 'c', 'o', 'm'};
+/* What every card of a maker tells, until it has its own: here an empty message of 3 bytes. */
+static const uint8_t FACTORY[] = {0x00, 0x03, 0xD0, 0x00, 0x00};
 
 /* The card, and the terminal's end of its channel. */
 static tw_card *card;
@@ -136,6 +141,26 @@ static void fresh_card(void)
     plain_status("another application", plain_command(TW_CLASS_SELECT, TW_INS_SELECT, TW_P1_SELECT, words("Other")), TW_SW_NOT_FOUND);
 }
 
+/* The tap read of the card's record: its own tap record where it has one, else the factory's; and of the record's old form, which has none,
+   and of bytes that are no record. */
+static void tapped(text record)
+{
+    const text factory = text_of(FACTORY, sizeof FACTORY), own = text_of(card->tap.bytes, card->tap.len);
+    const size_t field_bytes = card->initialised == 1 ? TW_FIELD_HEAD_BYTES + own.count : 0;
+    unsigned source;
+    text part;
+    expect(call_tap(record, factory, &source, &part) == TW_DONE, "the tap read is refused");
+    expect(source == (own.count > 0 ? TW_TAP_RECORD : TW_TAP_FACTORY), "where its part lies");
+    expect(same(part, own.count > 0 ? own : factory), "its part");
+    expect(call_tap(text_of(record.bytes, record.count - field_bytes), factory, &source, &part) == TW_DONE, "of an old record");
+    expect(source == TW_TAP_FACTORY && same(part, factory), "its part, of an old record");
+    expect(call_tap(text_of(record.bytes, record.count - field_bytes), none(), &source, &part) == TW_DONE, "with an empty factory record");
+    expect(source == TW_TAP_FACTORY && part.count == 0, "its part, an empty factory record");
+    expect(call_tap(text_of(record.bytes, record.count - 1), factory, &source, &part) == TW_NOT_RECORD, "of a part");
+    expect(call_tap(joined(record, byte(0x34)), factory, &source, &part) == TW_NOT_RECORD, "of a byte more");
+    expect(call_tap(none(), factory, &source, &part) == TW_NOT_RECORD, "of nothing");
+}
+
 /* WRITE and READ: a card like *card as after RESET; a cut or longer record is refused, and leaves FRESH of zeros. */
 static void stored(const char *step, size_t record_bytes)
 {
@@ -157,6 +182,7 @@ static void stored(const char *step, size_t record_bytes)
     expect(call_read(again, joined(record, byte(0))) == TW_NOT_RECORD, "READ of a byte more");
     expect(call_read(again, none()) == TW_NOT_RECORD, "READ of nothing");
     places_release(mark);
+    tapped(record);
 }
 
 /* INIT's data. Its ciphertext is that of SEAL with the same AES key and IV: both pad and encipher the same way. */
@@ -260,6 +286,48 @@ static void pin_and_puk(void)
     tries("GET STATUS when verified", 3, 5, 0x00);
 }
 
+/* SET NDEF: the two bytes at the start count those after them, not themselves and not Lc. What is stored last stays for the rest of the
+   card's life. An old record, without field 34, is read as none, and written with an empty one. */
+static void tap_record(void)
+{
+    const unsigned ins = TW_INS_SET_NDEF;
+    const text tap = text_of(TAP, sizeof TAP), message = text_of(TAP + TW_TAP_COUNT_BYTES, sizeof TAP - TW_TAP_COUNT_BYTES);
+    const text longest = joined(text_of((const uint8_t[]){0x00, TW_TAP_MAX_BYTES - TW_TAP_COUNT_BYTES}, 2), filled(0x5A, 221));
+    expect(card->tap.len == 0, "none at first");
+    sealed_status("SET NDEF of nothing", ins, 0, none(), TW_SW_WRONG_DATA);
+    sealed_status("SET NDEF of a byte", ins, 0, byte(0), TW_SW_WRONG_DATA);
+    sealed_status("SET NDEF, its count counts itself", ins, 0, joined(text_of((const uint8_t[]){0x00, 18}, 2), message), TW_SW_WRONG_DATA);
+    sealed_status("SET NDEF, its count is Lc", ins, 0, joined(text_of((const uint8_t[]){0x00, 48}, 2), message), TW_SW_WRONG_DATA);
+    sealed_status("SET NDEF, the low byte first", ins, 0, joined(text_of((const uint8_t[]){16, 0x00}, 2), message), TW_SW_WRONG_DATA);
+    sealed_status("SET NDEF with P1 01", ins, 1, tap, TW_SW_WRONG_PARAMETERS);
+    sealed_p2("SET NDEF with P2 01", ins, 0, 1, tap, TW_SUPPLY_NONE, none(), status(TW_SW_WRONG_PARAMETERS));
+    expect(card->tap.len == 0, "none still");
+    sealed_status("SET NDEF, the longest", ins, 0, longest, TW_SW_SUCCESS);
+    expect(same(text_of(card->tap.bytes, card->tap.len), longest), "the longest tap record");
+    stored("the record with the longest tap record", TW_RECORD_MIN_BYTES + TW_TAP_MAX_BYTES);
+    sealed_status("SET NDEF of 00 00", ins, 0, filled(0, 2), TW_SW_SUCCESS);
+    stored("the record with the shortest tap record", TW_RECORD_MIN_BYTES + 2);
+    sealed_status("SET NDEF", ins, 0, tap, TW_SW_SUCCESS);
+    const tw_tap_record wanted = card->tap;
+    expect(same(text_of(wanted.bytes, wanted.len), tap), "the tap record");
+    expect(wanted.bytes[sizeof TAP] == 0 && wanted.bytes[TW_TAP_MAX_BYTES - 1] == 0, "zero past its end");
+    about("an old record");
+    text record;
+    tw_card again;
+    expect(call_write(card, TW_WRITE_ROOM_BYTES, &record) == TW_DONE, "WRITE is refused");
+    record.count -= TW_FIELD_HEAD_BYTES + sizeof TAP;
+    expect(record.count == TW_RECORD_OLD_MIN_BYTES && call_read(&again, record) == TW_DONE && again.tap.len == 0, "it is read as none");
+    expect(call_write(&again, TW_WRITE_ROOM_BYTES, &record) == TW_DONE && record.count == TW_RECORD_MIN_BYTES, "and written with field 34");
+    again = *card;
+    again.tap.bytes[1]++;
+    expect(tw_sound(&again) == 0 && call_reset(&again) == TW_UNSOUND, "another count is not sound");
+    again.tap = wanted;
+    again.tap.bytes[sizeof TAP] = 1;
+    expect(tw_sound(&again) == 0, "a byte past the end is not sound");
+    again.tap = wanted;
+    expect(tw_sound(&again) == 1, "as it was it is sound");
+}
+
 /* The template of an extended key: A1 holding 81 and 82, 32 bytes each. */
 static text extended_key(void)
 {
@@ -325,7 +393,8 @@ static void keys(void)
     sealed_status("SET PIN-LESS PATH", TW_INS_SET_PINLESS_PATH, 0, path(), TW_SW_SUCCESS);
     sealed_status("VERIFY, wrong", TW_INS_VERIFY, 0, words(WRONG_PIN), TW_SW_TRIES_LEFT + 2);
     sealed("SIGN on the PIN-less path", TW_INS_SIGN, 0, filled(0x5F, HASH_BYTES), TW_SUPPLY_SIGN, sign_supply, signature());
-    stored("the record with a key and two paths", TW_RECORD_MIN_BYTES + TW_KEY_BYTES + 2 * sizeof TWO_COMPONENTS);
+    stored("the record with a key and two paths", TW_RECORD_MIN_BYTES + TW_KEY_BYTES + 2 * sizeof TWO_COMPONENTS + sizeof TAP);
+    sealed_status("SET NDEF without a PIN", TW_INS_SET_NDEF, 0, filled(0, 2), TW_SW_CONDITIONS_NOT_MET);
     sealed_status("REMOVE without a PIN", TW_INS_REMOVE, 0, none(), TW_SW_CONDITIONS_NOT_MET);
     sealed_status("VERIFY, right", TW_INS_VERIFY, 0, words(PIN), TW_SW_SUCCESS);
     sealed_status("REMOVE", TW_INS_REMOVE, 0, none(), TW_SW_SUCCESS);
@@ -455,9 +524,12 @@ static void play(enum placing placing)
     pair();
     open_channel();
     pin_and_puk();
+    tap_record();
     keys();
     messages();
     second_client();
+    about("the end of its life");
+    expect(same(text_of(card->tap.bytes, card->tap.len), text_of(TAP, sizeof TAP)), "all else kept the tap record");
     published_vector();
     templates();
     places_release(0);

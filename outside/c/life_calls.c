@@ -228,3 +228,22 @@ unsigned call_read(tw_card *card, text record)
     places_release(mark);
     return refusal;
 }
+
+unsigned call_tap(text record, text factory, unsigned *source, text *part)
+{
+    const size_t mark = places_mark();
+    const uint8_t *bytes = placed_text(&record);
+    const uint8_t *factory_bytes = placed_text(&factory);
+    const tw_tapped tapped = tw_tap(bytes, record.count, factory_bytes, factory.count);
+    expect(places_intact() && holds(bytes, &record) && holds(factory_bytes, &factory), "the tap read changed memory");
+    expect(tapped.refusal == TW_DONE || (tapped.source == TW_TAP_NONE && tapped.offset == 0 && tapped.length == 0), "a refusal with a part");
+    expect(tapped.refusal != TW_DONE || tapped.source != TW_TAP_NONE, "no refusal, and no part");
+    expect(tapped.source != TW_TAP_FACTORY || (tapped.offset == 0 && tapped.length == factory.count), "not the whole factory record");
+    const text from = tapped.source == TW_TAP_RECORD ? record : factory;
+    const int within = tapped.offset <= from.count && tapped.length <= from.count - tapped.offset;
+    expect(within, "the part ends after its record");
+    *source = tapped.source;
+    *part = within ? text_of(from.bytes + tapped.offset, tapped.length) : none();
+    places_release(mark);
+    return tapped.refusal;
+}

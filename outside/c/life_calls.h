@@ -8,7 +8,7 @@
 /* Bytes that are handed to a call, and bytes that it wrote. */
 typedef struct text {
     size_t count;
-    uint8_t bytes[512];
+    uint8_t bytes[1024];
 } text;
 
 /* A check: counted, and reported where it does not hold. */
@@ -41,5 +41,7 @@ unsigned call_unseal(tw_session *session, text response, size_t room_bytes, text
 unsigned call_walk(text input, size_t *fields);
 unsigned call_write(const tw_card *card, size_t room_bytes, text *wrote);
 unsigned call_read(tw_card *card, text record);
+/* The tap read's refusal; where its part lies, and the part itself, go to *source and *part. */
+unsigned call_tap(text record, text factory, unsigned *source, text *part);
 
 #endif

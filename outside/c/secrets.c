@@ -31,7 +31,7 @@ static tw_card card;
 static tw_session terminal;
 static uint8_t header[TW_HEADER_BYTES];
 static text command, supply, data, response;
-static uint8_t buffer[512];
+static uint8_t buffer[1024];
 static unsigned refusal;
 static size_t count;
 
@@ -103,6 +103,13 @@ static void do_write(void)
 static void do_read(void)
 {
     refusal = tw_read(&card, data.bytes, data.count);
+    count = 0;
+}
+
+static void do_tap(void)
+{
+    const tw_tapped tapped = tw_tap(data.bytes, data.count, header, sizeof header);
+    refusal = tapped.refusal;
     count = 0;
 }
 
@@ -324,6 +331,7 @@ static void sealed_commands(text pin, text puk)
     sealed(NAMES("EXPORT"), TW_INS_EXPORT, TW_P1_EXPORT_CURRENT, none(), joined(joined(byte(1), point()), exported_key));
     sealed(NAMES("SIGN"), TW_INS_SIGN, 0, filled(0x5F, 32), signature);
     sealed(NAMES("SET PIN-LESS PATH"), TW_INS_SET_PINLESS_PATH, 0, node, none());
+    sealed(NAMES("SET NDEF"), TW_INS_SET_NDEF, 0, text_of((const uint8_t[]){0x00, 0x03, 0xD0, 0x00, 0x00}, 5), none());
 }
 
 static void stored_record(void)
@@ -332,6 +340,7 @@ static void stored_record(void)
     look("WRITE", do_write);
     data = text_of(buffer, count);
     look("READ", do_read);
+    look("the tap read", do_tap);
     look("RESET", do_reset);
 }
 

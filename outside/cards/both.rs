@@ -6,9 +6,10 @@ use crate::standing::{standing_after, standing_of, Standing};
 use crate::tally::Tally;
 use outside::ffi::treadlewisp::{self, CARD_BYTES};
 use outside::model::card::{Card, Session, POINT_BYTES, UID_BYTES};
-use outside::model::engine::{self, Answered, Asked, Told, ASK_ROOM_BYTES};
+use outside::model::commands::Name;
+use outside::model::engine::{self, Answered, Asked, Tapped, Told, ASK_ROOM_BYTES};
 use outside::model::message::HEADER_BYTES;
-use outside::model::status::{SHORT_BUFFER, UNSOUND};
+use outside::model::status::{SHORT_BUFFER, SUCCESS, UNSOUND};
 use outside::random::Random;
 use std::hint::black_box;
 
@@ -236,6 +237,10 @@ impl Both {
         let Some(stood) = standing_of(before) else {
             self.differ(call, "a verified PIN outside stage 2 was taken for sound", "", "");
         };
+        let sets_tap = name == Some(Name::SetNdef) && status == SUCCESS;
+        if after.tap != before.tap && !sets_tap {
+            self.differ(call, "another answer than SET NDEF's success changed the tap record", "", "");
+        }
         let stands = standing_after(stood, name, status, answered.sealed);
         self.stands(call, after, stands);
         self.tally.passage(stood, stands, (name, status, answered.sealed));
@@ -373,5 +378,31 @@ impl Both {
         self.stands(&call, &card, Standing::Closed);
         self.tally.operation(Operation::Read, model);
         (model, card)
+    }
+
+    /// The tap read. Where both records are the same slice, the same memory is lent for both.
+    pub fn tap(&mut self, record: &[u8], factory: &[u8]) -> Tapped {
+        let lent = self.guarded(record);
+        let other = (!std::ptr::eq(record, factory)).then(|| self.guarded(factory));
+        let lent_factory = other.as_ref().unwrap_or(&lent);
+        let library = treadlewisp::tap(lent.content(), lent_factory.content());
+        let model = engine::tap(record, factory);
+        let call = Call {
+            operation: Operation::Tap,
+            inputs: vec![("record", record), ("factory record", factory)],
+        };
+        let wanted = treadlewisp::Tapped {
+            refusal: model.refusal,
+            source: model.source as u8,
+            offset: model.offset,
+            length: model.length,
+        };
+        if wanted != library {
+            self.differ(&call, "the part", &format!("{wanted:?}"), &format!("{library:?}"));
+        }
+        self.unchanged(&call, &[&lent, lent_factory]);
+        self.tally.operation(Operation::Tap, model.refusal);
+        self.tally.tap(record, model.refusal, model.source);
+        model
     }
 }

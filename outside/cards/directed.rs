@@ -20,7 +20,7 @@ use outside::random::Random;
 const UNLISTED_P1: [u8; 3] = [SLOTS as u8, 0x80, 0xff];
 
 /// A sound card in this situation that has all that a command can need: in stage 2 a verified PIN, an extended key on the PIN-less path,
-/// a filled slot and free ones.
+/// a filled slot and free ones. It may have a tap record, or none.
 pub fn ready_card(random: &mut Random, situation: Situation) -> Card {
     if situation == Situation::PreInitialised {
         return Card::fresh(array(random), array(random));
@@ -114,7 +114,7 @@ pub fn trial(both: &mut Both, random: &mut Random, (name, situation, status, sea
 fn no_command(random: &mut Random, status: u16) -> Vec<u8> {
     let (class, instruction) = match status {
         UNKNOWN_CLASS => (pick(random, &[0x00, 0x84, 0xff]), pick(random, &[0x10, 0xf2, 0xfe])),
-        _ => (0x80, pick(random, &[0xa4, 0xf3, 0xd2, 0xd4, 0xd5, 0xc3])),
+        _ => (0x80, pick(random, &[0xa4, 0xf4, 0xd2, 0xd4, 0xd5, 0xc3])),
     };
     vec![class, instruction, byte(random), byte(random)]
 }
@@ -160,6 +160,7 @@ fn spoil(random: &mut Random, card: &Card, request: &mut Request, status: u16) {
         WRONG_P1_P2 if chance(random, 50) => request.header[2] = pick(random, &UNLISTED_P1),
         WRONG_P1_P2 if request.name == Name::Export => request.header[3] = 2 + random.below(254) as u8,
         WRONG_P1_P2 => request.header[3] = 1 + random.below(255) as u8,
+        WRONG_DATA if request.name == Name::SetNdef => request.data = vec![0x00, 0x02, byte(random)],
         WRONG_DATA => request.data = random.bytes(3),
         NOT_FOUND => request.data[random.below(15)] ^= 1 << random.below(8),
         SECURITY_NOT_SATISFIED if request.name == Name::Pair => {

@@ -96,6 +96,7 @@ fn store(both: &mut Both, random: &mut Random, card: &mut Card) {
     let told = both.write(card, &mut buffer);
     let record = &buffer[..told.count];
     let (_, read) = both.read(record);
+    both.tap(record, &some_bytes(random, 0, 300));
     both.read(&damaged(random, record));
     if chance(random, 50) {
         *card = read;
@@ -106,6 +107,7 @@ fn read_some(both: &mut Both, random: &mut Random, card: &Card) {
     for _ in 0..READS {
         let record = random_record(random, card);
         both.read(&record);
+        both.tap(&record, &some_bytes(random, 0, 300));
     }
 }
 

@@ -1,5 +1,5 @@
 //! The proved library beside the plain model of the rules, over the C boundary: the rows to settle, sweeps, every way to keep or lose a
-//! verified PIN, every way to export a key, whole lives of cards, and the two runs of demand 3. The first difference ends the run with a status that is not 0, and so
+//! verified PIN, every way to export a key, tap records, whole lives of cards, and the two runs of demand 3. The first difference ends the run with a status that is not 0, and so
 //! does a row of the tables that never occurred, or an answer that they do not have.
 
 mod both;
@@ -19,6 +19,8 @@ mod standing;
 mod states;
 mod sweeps;
 mod tally;
+mod tap_fields;
+mod taps;
 mod templates;
 mod terminal;
 
@@ -85,6 +87,8 @@ fn main() {
     joining::run(&mut both, options.seed);
     second_client::run(&mut both, options.seed);
     exports::run(&mut both, options.seed);
+    taps::run(&mut both, options.seed);
+    tap_fields::run(&mut both, options.seed);
     let mut lives = 0;
     while both.tally.calls() < options.calls / 100 * (100 - PAIRS_PERCENT) {
         lives::live(&mut both, options.seed, lives);

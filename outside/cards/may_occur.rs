@@ -3,6 +3,7 @@
 
 use crate::exports::{EVERY_P1, EVERY_P2};
 use crate::paths::{place_of, Place, EVERY_PLACE};
+use crate::records::is_old;
 use outside::ciphers::plain::BLOCK_BYTES;
 use outside::model::card::{is_path_length, Card, Session, AUTHENTICATED, EXTENDED_KEY, NO, OPENED, YES};
 use outside::model::commands::*;
@@ -22,10 +23,11 @@ pub enum Operation {
     Walk,
     Write,
     Read,
+    Tap,
 }
 
 /// The refusals that each operation can give, 0 being none.
-pub const REFUSALS: [(Operation, &[u8]); 10] = [
+pub const REFUSALS: [(Operation, &[u8]); 11] = [
     (Operation::Fresh, &[NOT_REFUSED]),
     (Operation::Sound, &[NOT_REFUSED]),
     (Operation::Reset, &[NOT_REFUSED, UNSOUND]),
@@ -36,7 +38,50 @@ pub const REFUSALS: [(Operation, &[u8]); 10] = [
     (Operation::Walk, &[NOT_REFUSED, MALFORMED, TOO_DEEP]),
     (Operation::Write, &[NOT_REFUSED, UNSOUND, SHORT_BUFFER]),
     (Operation::Read, &[NOT_REFUSED, NOT_A_RECORD]),
+    (Operation::Tap, &[NOT_REFUSED, NOT_A_RECORD]),
 ];
+
+/// A record that the tap read is lent, by what READ says of it.
+#[derive(Clone, Copy, PartialEq, Eq, PartialOrd, Ord, Debug)]
+pub enum Recorded {
+    /// READ refuses it.
+    NotRecord,
+    PreInitialised,
+    /// It ends before field 34.
+    Old,
+    /// Its field 34 is empty.
+    NeverSet,
+    /// Its field 34 has the card's own tap record.
+    Own,
+}
+
+pub const EVERY_RECORDED: [Recorded; 5] = [
+    Recorded::NotRecord,
+    Recorded::PreInitialised,
+    Recorded::Old,
+    Recorded::NeverSet,
+    Recorded::Own,
+];
+
+pub fn recorded(record: &[u8]) -> Recorded {
+    let (refusal, card) = read(record);
+    match refusal {
+        NOT_REFUSED if card.initialised == NO => Recorded::PreInitialised,
+        NOT_REFUSED if card.tap.used_bytes != 0 => Recorded::Own,
+        NOT_REFUSED if is_old(record) => Recorded::Old,
+        NOT_REFUSED => Recorded::NeverSet,
+        _ => Recorded::NotRecord,
+    }
+}
+
+/// What the tap read gives for a record: its refusal, and where the part lies.
+pub fn tapped_of(recorded: Recorded) -> (u8, Source) {
+    match recorded {
+        Recorded::NotRecord => (NOT_A_RECORD, Source::None),
+        Recorded::PreInitialised | Recorded::Old | Recorded::NeverSet => (NOT_REFUSED, Source::Factory),
+        Recorded::Own => (NOT_REFUSED, Source::Record),
+    }
+}
 
 /// What Lr counts in the MAC of a response, by the session that it is opened with.
 #[derive(Clone, Copy, PartialEq, Eq, PartialOrd, Ord, Debug)]
@@ -192,7 +237,7 @@ fn sealed_words_of(name: Name) -> &'static [u16] {
         Name::Unblock => &[0x63c0, 0x63c1, 0x63c2, 0x63c3, 0x63c4, 0x6985, 0x6a80, 0x6a86, 0x9000],
         Name::Unpair | Name::Remove => &[0x6985, 0x6a86, 0x9000],
         Name::Derive | Name::Export => &[0x6984, 0x6985, 0x6a80, 0x6a86, 0x9000],
-        Name::Change | Name::Load | Name::SetPinlessPath | Name::Sign => &[0x6985, 0x6a80, 0x6a86, 0x9000],
+        Name::Change | Name::Load | Name::SetPinlessPath | Name::Sign | Name::SetNdef => &[0x6985, 0x6a80, 0x6a86, 0x9000],
     }
 }
 

@@ -2,9 +2,9 @@
 //! a wrong one. Lengths are in bytes.
 
 use crate::paths::place_of;
-use crate::states::random_path;
+use crate::states::{random_path, random_tap_data, tap_data};
 use crate::templates::{key_template, wrong_key_template};
-use outside::ciphers::plain::{Block, Key};
+use outside::ciphers::plain::{Block, Key, BLOCK_BYTES};
 use outside::model::card::*;
 use outside::model::commands::{Name, INSTRUCTIONS};
 use outside::model::message::{encrypt, pad, HEADER_BYTES, MAX_DATA_BYTES};
@@ -82,6 +82,7 @@ pub fn right(random: &mut Random, card: &Card, name: Name, init_key: &Key) -> Re
         Name::SetPinlessPath => request(0x00, near_path(random, &card.current_path).used()),
         Name::Remove => request(0x00, &[]),
         Name::Export => right_export(random, card),
+        Name::SetNdef => request(0x00, &random_tap_data(random)),
     }
 }
 
@@ -179,8 +180,30 @@ fn wrong_data(random: &mut Random, card: &Card, right: &Request, init_key: &Key)
             let bytes = pick(random, &[0, 1, 2, 3, 4, 38, 39, 40, 41, 44]);
             random.bytes(bytes)
         }
+        Name::SetNdef => wrong_tap_data(random),
         _ => damaged(random, &right.data),
     }
+}
+
+/// A tap record whose two bytes count something else: themselves too, the field as it is sent, one more or less, or with the low byte first;
+/// and one that is too short to have them.
+fn wrong_tap_data(random: &mut Random) -> Vec<u8> {
+    let bytes = TAP_COUNT_BYTES + random.below(TAP_BYTES - TAP_COUNT_BYTES + 1);
+    let mut data = tap_data(random, bytes);
+    let padded_bytes = pad(&data).len();
+    let told = match random.below(6) {
+        0 => bytes,
+        1 => BLOCK_BYTES + padded_bytes,
+        2 => bytes - 1,
+        3 => bytes.wrapping_sub(3),
+        4 => (bytes - TAP_COUNT_BYTES) << 8,
+        _ => {
+            data.truncate(random.below(TAP_COUNT_BYTES));
+            return data;
+        }
+    };
+    data[..TAP_COUNT_BYTES].copy_from_slice(&(told as u16).to_be_bytes());
+    data
 }
 
 /// A wrong PIN or PUK: a digit or another byte changed, one cut off or added, none at all.

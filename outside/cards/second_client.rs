@@ -10,7 +10,7 @@ use crate::may_occur::{every_supplied, Situation, Supplied};
 use crate::paths::{path_at, Place};
 use crate::requests::{is_sealed_kind, right, Request};
 use crate::standing::{standing_of, Standing};
-use crate::states::random_session;
+use crate::states::{random_session, random_tap_data};
 use crate::templates::key_template;
 use outside::ciphers::plain::BLOCK_BYTES;
 use outside::model::card::*;
@@ -243,6 +243,7 @@ fn for_the_pin(random: &mut Random, card: &Card) -> Vec<Request> {
         Request::new(Name::Load, 0x03, &random.bytes(64)),
         Request::new(Name::Remove, 0x00, &[]),
         Request::new(Name::SetPinlessPath, 0x00, &random.bytes(COMPONENT_BYTES)),
+        Request::new(Name::SetNdef, 0x00, &random_tap_data(random)),
     ]
 }
 
@@ -277,7 +278,7 @@ fn keeping_sealed(random: &mut Random) -> Vec<Trial> {
         }
         if matches!(
             request.name,
-            Name::Change | Name::Load | Name::Derive | Name::SetPinlessPath | Name::Sign | Name::Export
+            Name::Change | Name::Load | Name::Derive | Name::SetPinlessPath | Name::Sign | Name::Export | Name::SetNdef
         ) {
             let wrong = Request {
                 data: vec![0x30; 3],

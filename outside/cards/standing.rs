@@ -81,7 +81,7 @@ fn can_be_verified(name: Option<Name>, status: u16) -> bool {
     match name {
         Some(Name::Verify) => !(0x63c0..=0x63c1).contains(&status),
         Some(Name::Unblock) => matches!(status, 0x6985 | 0x6a86),
-        Some(Name::Unpair | Name::Change | Name::Load | Name::Remove | Name::SetPinlessPath) => status != 0x6985,
+        Some(Name::Unpair | Name::Change | Name::Load | Name::Remove | Name::SetPinlessPath | Name::SetNdef) => status != 0x6985,
         _ => true,
     }
 }

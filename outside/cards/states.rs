@@ -25,7 +25,23 @@ pub fn random_path(random: &mut Random) -> Path {
     Path::of(&random.bytes(components * COMPONENT_BYTES))
 }
 
-/// An initialised sound card: any tries, slots, key and paths, in any stage, with or without a pending pairing.
+/// What SET NDEF takes, of so many bytes: the number of those that follow, and these.
+pub fn tap_data(random: &mut Random, bytes: usize) -> Vec<u8> {
+    let after_count = bytes - TAP_COUNT_BYTES;
+    [&(after_count as u16).to_be_bytes()[..], &random.bytes(after_count)].concat()
+}
+
+/// What SET NDEF takes: often of the least or the greatest length.
+pub fn random_tap_data(random: &mut Random) -> Vec<u8> {
+    let bytes = match random.below(5) {
+        0 => pick(random, &[TAP_COUNT_BYTES, TAP_COUNT_BYTES + 1]),
+        1 => TAP_BYTES - random.below(2),
+        _ => TAP_COUNT_BYTES + random.below(TAP_BYTES - TAP_COUNT_BYTES + 1),
+    };
+    tap_data(random, bytes)
+}
+
+/// An initialised sound card: any tries, slots, key, paths and tap record, in any stage, with or without a pending pairing.
 pub fn sound_card(random: &mut Random) -> Card {
     let mut card = Card::fresh(array(random), array(random));
     card.initialised = YES;
@@ -45,6 +61,9 @@ pub fn sound_card(random: &mut Random) -> Card {
     } else if card.first_free_slot().is_some() && chance(random, 50) {
         card.pending = YES;
         card.expected = array(random);
+    }
+    if chance(random, 70) {
+        card.tap = TapRecord::of(&random_tap_data(random));
     }
     card
 }
@@ -106,7 +125,7 @@ fn pre_initialised_with_more(random: &mut Random) -> Card {
 }
 
 /// How many rules of soundness `break_rule` breaks.
-pub const RULES: usize = 21;
+pub const RULES: usize = 26;
 
 /// Breaks one rule of soundness (RULES 2.3); some need another field to be as it is not, so a card may stay sound.
 pub fn break_rule(random: &mut Random, card: &mut Card, rule: usize) {
@@ -146,12 +165,25 @@ pub fn break_rule(random: &mut Random, card: &mut Card, rule: usize) {
         17 => (card.slots[slot].filled, card.slots[slot].key) = (NO, array(random)),
         18 => (card.pending, card.expected) = (NO, array(random)),
         19 => (card.stage, card.session) = (CLOSED, random_session(random)),
-        _ => {
+        20 => {
             (card.verified, card.pin_tries) = (YES, PIN_TRIES);
             if card.stage == AUTHENTICATED {
                 card.stage = OPENED;
             }
         }
+        _ => break_tap(random, &mut card.tap, rule),
+    }
+}
+
+/// Breaks a rule of the tap record: too long, a byte after its end, one byte alone, another count at its start, or another length.
+fn break_tap(random: &mut Random, tap: &mut TapRecord, rule: usize) {
+    let used_bytes = (tap.used_bytes as usize).min(TAP_BYTES);
+    match rule {
+        21 => tap.used_bytes = TAP_BYTES as u8 + 1 + random.below(255 - TAP_BYTES) as u8,
+        22 if used_bytes < TAP_BYTES => tap.bytes[used_bytes + random.below(TAP_BYTES - used_bytes)] ^= 1 << random.below(8),
+        23 => (tap.used_bytes, tap.bytes) = (1, [0; TAP_BYTES]),
+        24 => tap.bytes[random.below(TAP_COUNT_BYTES)] ^= 1 << random.below(8),
+        _ => tap.used_bytes = tap.used_bytes.wrapping_add(pick(random, &[1, 2, 3, 254, 255])),
     }
 }
 

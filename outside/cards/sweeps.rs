@@ -4,11 +4,11 @@
 use crate::both::{hex, Both};
 use crate::directed::ready_card;
 use crate::may_occur::{Room, Situation, EVERY_ROOM, EVERY_SITUATION};
-use crate::records::moved_fields;
-use crate::states::{break_rule, random_session, RULES};
+use crate::records::{is_old, moved_fields, old_record_of};
+use crate::states::{break_rule, random_session, tap_data, RULES};
 use crate::terminal::with_old_lr;
 use outside::ffi::treadlewisp::{card_bytes, card_of, session_bytes, CARD_BYTES};
-use outside::model::card::{Card, Path, KEY_UID_BYTES, NO_KEY, PATH_BYTES, YES};
+use outside::model::card::{Card, Path, TapRecord, KEY_UID_BYTES, NO_KEY, PATH_BYTES, TAP_BYTES, YES};
 use outside::model::engine::*;
 use outside::model::message::{seal_response, MAX_DATA_BYTES};
 use outside::model::record::record_of;
@@ -23,6 +23,8 @@ const MOST_TEMPLATE_BYTES: usize = 4;
 const EDGES: [u8; 8] = [0x00, 0x01, 0x02, 0x05, 0x06, b'0', b'9' + 1, 0xff];
 /// How many sessions see a response with the old Lr at each length.
 const OLD_LR_SESSIONS: usize = 4;
+/// A factory's tap record, an empty message of 3 bytes.
+const FACTORY: [u8; 5] = [0x00, 0x03, 0xd0, 0x00, 0x00];
 const SELECT: &[u8] = b"\x00\xa4\x04\x00\x0fStatusWalletApp";
 
 pub fn run(both: &mut Both, seed: u64) {
@@ -37,8 +39,11 @@ pub fn run(both: &mut Both, seed: u64) {
         rooms_of_a_card(both, random, situation);
     }
     for card in cards_to_store(random) {
-        records(both, random, &card);
+        let old = old_record_of(&card);
+        records(both, random, &record_of(&card), &old);
     }
+    let old = old_record_of(&ready_card(random, Situation::Closed));
+    records(both, random, &old, &old);
     messages(both, random);
     for _ in 0..OLD_LR_SESSIONS {
         old_responses(both, random);
@@ -126,54 +131,62 @@ fn rooms_of_a_session(both: &mut Both, random: &mut Random) {
     }
 }
 
-/// A card before INIT, one with an extended key and both paths of the longest, and one with no key and a PIN-less path.
+/// A card before INIT, one with an extended key and the longest paths and tap record, and one with no key, a PIN-less path and no tap record.
 fn cards_to_store(random: &mut Random) -> [Card; 3] {
     let fresh = ready_card(random, Situation::PreInitialised);
     let mut longest = ready_card(random, Situation::Authenticated);
     longest.current_path = Path::of(&random.bytes(PATH_BYTES));
     longest.pinless_path = Path::of(&random.bytes(PATH_BYTES));
+    longest.tap = TapRecord::of(&tap_data(random, TAP_BYTES));
     let mut keyless = ready_card(random, Situation::Closed);
     (keyless.key_kind, keyless.key_uid) = (NO_KEY, [0; KEY_UID_BYTES]);
     keyless.current_path = Path::of(&[]);
+    keyless.tap = TapRecord::NONE;
     [fresh, longest, keyless]
 }
 
-/// A card's record cut at each length, with each byte replaced, with bytes after it, and with its fields moved about.
-fn records(both: &mut Both, random: &mut Random, card: &Card) {
-    let record = record_of(card);
-    let mut is_right = is_taken(both, random, &record);
+/// A card's record cut at each length, with each byte replaced, with bytes after it, and with its fields moved about. Cut to the one of the
+/// old form it is a record.
+fn records(both: &mut Both, random: &mut Random, record: &[u8], old: &[u8]) {
+    let mut is_right = is_taken(both, random, record);
     for at in 0..record.len() {
-        is_right &= !is_taken(both, random, &record[..at]);
+        is_right &= is_taken(both, random, &record[..at]) == (record[..at] == *old);
         let flipped = record[at] ^ 1 << random.below(8);
         for byte in EDGES.into_iter().chain([flipped]) {
-            let mut replaced = record.clone();
+            let mut replaced = record.to_vec();
             replaced[at] = byte;
             is_taken(both, random, &replaced);
         }
     }
     for after in [0x00, 0x34] {
         for more_bytes in 1..=16 {
-            is_right &= !is_taken(both, random, &[&record[..], &vec![after; more_bytes]].concat());
+            is_right &= !is_taken(both, random, &[record, &vec![after; more_bytes]].concat());
         }
     }
-    for moved in moved_fields(&record) {
+    for moved in moved_fields(record) {
         is_right &= !is_taken(both, random, &moved);
     }
     if !is_right {
-        println!("THE SWEEP of records took or refused one wrongly, near {}", hex(&record));
+        println!("THE SWEEP of records took or refused one wrongly, near {}", hex(record));
         std::process::exit(1);
     }
 }
 
-/// Whether READ takes a record; WRITE of the card that it gives has to write it again.
+/// Whether READ takes a record; the tap read refuses exactly what READ refuses, and WRITE of the card that it gives has to write it again, one of the old form with an empty field 34 after it.
 fn is_taken(both: &mut Both, random: &mut Random, record: &[u8]) -> bool {
     let (refusal, card) = both.read(record);
+    let tapped = both.tap(record, &FACTORY);
+    if tapped.refusal != refusal {
+        println!("THE SWEEP read with {refusal} and got {tapped:?} for the record {}", hex(record));
+        std::process::exit(1);
+    }
     if refusal != NOT_REFUSED {
         return false;
     }
     let mut buffer = random.bytes(WRITE_ROOM_BYTES);
     let told = both.write(&card, &mut buffer);
-    if &buffer[..told.count] != record {
+    let added: &[u8] = if is_old(record) { &[0x34, 0x00, 0x00] } else { &[] };
+    if buffer[..told.count] != [record, added].concat() {
         println!("THE SWEEP read the record {} and wrote {}", hex(record), hex(&buffer[..told.count]));
         std::process::exit(1);
     }

@@ -5,7 +5,7 @@ use crate::may_occur::*;
 use crate::standing::{every_verified_row, Standing, VerifiedRow, PASSAGES};
 use outside::model::card::Card;
 use outside::model::commands::{Comparison, Name};
-use outside::model::engine::{Answered, Asked};
+use outside::model::engine::{Answered, Asked, Source};
 use outside::model::status::*;
 use std::collections::BTreeMap;
 use std::fmt::Debug;
@@ -39,6 +39,8 @@ pub struct Tally {
     forms: BTreeMap<(Situation, Form), usize>,
     /// Status words of EXPORT past its data.
     exports: BTreeMap<(Exported, u16), usize>,
+    /// What the tap read gave, by the record that it was lent.
+    taps: BTreeMap<(Recorded, (u8, Source)), usize>,
     /// Supplies by the kind that was read.
     supplies: BTreeMap<(u8, Supplied), usize>,
 }
@@ -61,6 +63,11 @@ impl Tally {
     /// What UNSEAL gave for a response with this Lr.
     pub fn response(&mut self, lr: Lr, refusal: u8) {
         *self.responses.entry((lr, refusal)).or_default() += 1;
+    }
+
+    /// What the tap read gave for this record.
+    pub fn tap(&mut self, record: &[u8], refusal: u8, source: Source) {
+        *self.taps.entry((recorded(record), (refusal, source))).or_default() += 1;
     }
 
     /// A call that this card, as it was before, did not refuse as unsound.
@@ -147,6 +154,11 @@ impl Tally {
                 export_words(exported).iter().map(|&status| (exported, status)),
             ));
         }
+        missing.extend(lacking(
+            "tap read",
+            &self.taps,
+            EVERY_RECORDED.map(|recorded| (recorded, tapped_of(recorded))),
+        ));
         for kind in 1..=MOST_KIND {
             missing.extend(lacking(
                 "supply",
@@ -181,12 +193,15 @@ impl Tally {
             .keys()
             .filter(|(exported, status)| !export_words(*exported).contains(status));
         let exported = exported.map(|row| format!("export {row:x?}"));
+        let tapped = self.taps.keys().filter(|(recorded, tapped)| tapped_of(*recorded) != *tapped);
+        let tapped = tapped.map(|row| format!("tap read {row:?}"));
         answers
             .chain(verified)
             .chain(passed)
             .chain(asked)
             .chain(opened)
             .chain(exported)
+            .chain(tapped)
             .collect()
     }
 
@@ -235,6 +250,10 @@ impl Tally {
         println!("forms of commands, by the card's situation:");
         for situation in EVERY_SITUATION {
             print_part(&self.forms, situation);
+        }
+        println!("tap reads by the record that was lent, and of them per refusal and place:");
+        for recorded in EVERY_RECORDED {
+            print_part(&self.taps, recorded);
         }
         println!("EXPORT past its data, by P1, P2 and the place of the path:");
         for exported in every_exported() {

@@ -134,7 +134,7 @@ impl Terminal {
             2 => some_bytes(random, 0, 300),
             3 => command[..random.below(command.len().min(7) + 1)].to_vec(),
             4 => with_byte(command, 0, pick(random, &[0x00, 0x81, 0x84, 0xff])),
-            5 => with_byte(command, 1, pick(random, &[0xa4, 0xf3, 0xd2, 0xd4, 0xd5, 0x00, 0x14, 0xc3])),
+            5 => with_byte(command, 1, pick(random, &[0xa4, 0xf4, 0xd2, 0xd4, 0xd5, 0x00, 0x14, 0xc3])),
             6 => with_byte(command, 1, pick(random, &INSTRUCTIONS).1),
             7 => with_byte(command, 2 + random.below(2), byte(random)),
             8 => with_byte(command, HEADER_BYTES, pick(random, &[0, 1, 16, 32, 255])),
@@ -177,7 +177,7 @@ fn choose_sealed(random: &mut Random, card: &Card) -> Name {
     let any = pick(random, &sealed);
     match (card.verified, card.pin_tries, card.key_kind) {
         (YES, _, EXTENDED_KEY) => pick(random, &[Name::Derive, Name::SetPinlessPath, Name::Sign, Name::Export, any, any]),
-        (YES, _, _) => pick(random, &[Name::Load, any, any]),
+        (YES, _, _) => pick(random, &[Name::Load, Name::SetNdef, any, any]),
         (_, 0, _) => pick(random, &[Name::Unblock, Name::Unblock, Name::Unblock, Name::Verify, any]),
         (_, _, EXTENDED_KEY) => pick(random, &[Name::Verify, Name::Derive, Name::Sign, any]),
         _ => pick(random, &[Name::Verify, any]),

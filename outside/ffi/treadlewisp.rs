@@ -21,8 +21,18 @@ pub struct Told {
     pub count: usize,
 }
 
+/// The tap read's part; `source` is 0 for none, 1 for the stored record and 2 for the factory record.
+#[repr(C)]
+#[derive(Clone, Copy, PartialEq, Eq, Debug)]
+pub struct Tapped {
+    pub refusal: u8,
+    pub source: u8,
+    pub offset: usize,
+    pub length: usize,
+}
+
 mod c {
-    use super::{Asked, Told};
+    use super::{Asked, Tapped, Told};
 
     extern "C" {
         pub fn tw_fresh(card: *mut u8, uid: *const u8, public_key: *const u8);
@@ -43,6 +53,7 @@ mod c {
         pub fn tw_walk(input: *const u8, input_bytes: usize) -> Told;
         pub fn tw_write(card: *const u8, buf: *mut u8, buf_bytes: usize) -> Told;
         pub fn tw_read(card: *mut u8, record: *const u8, record_bytes: usize) -> u8;
+        pub fn tw_tap(record: *const u8, record_bytes: usize, factory: *const u8, factory_bytes: usize) -> Tapped;
     }
 }
 
@@ -131,4 +142,8 @@ pub fn write(card: &[u8], buffer: &mut [u8]) -> Told {
 
 pub fn read(card: &mut [u8], record: &[u8]) -> u8 {
     unsafe { c::tw_read(writable(card, CARD_BYTES), record.as_ptr(), record.len()) }
+}
+
+pub fn tap(record: &[u8], factory: &[u8]) -> Tapped {
+    unsafe { c::tw_tap(record.as_ptr(), record.len(), factory.as_ptr(), factory.len()) }
 }

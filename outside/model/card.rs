@@ -12,6 +12,9 @@ pub const CRYPTOGRAM_BYTES: usize = 32;
 pub const KEY_UID_BYTES: usize = 32;
 pub const COMPONENT_BYTES: usize = 4;
 pub const PATH_BYTES: usize = 40;
+/// The most that a tap record has, and what the two bytes at its start, which count the rest, have.
+pub const TAP_BYTES: usize = 223;
+pub const TAP_COUNT_BYTES: usize = 2;
 
 pub const SLOTS: usize = 5;
 pub const PIN_TRIES: u8 = 3;
@@ -43,6 +46,13 @@ pub struct Path {
     pub bytes: [u8; PATH_BYTES],
 }
 
+/// The customer's tap record: the bytes in use, none where it was never set, then unused ones.
+#[derive(Clone, Copy, PartialEq, Eq, Debug)]
+pub struct TapRecord {
+    pub used_bytes: u8,
+    pub bytes: [u8; TAP_BYTES],
+}
+
 /// One end's session: both keys and the IV.
 #[derive(Clone, Copy, PartialEq, Eq, Debug)]
 pub struct Session {
@@ -72,6 +82,7 @@ pub struct Card {
     pub pinless_path: Path,
     pub stage: u8,
     pub session: Session,
+    pub tap: TapRecord,
 }
 
 impl Slot {
@@ -117,6 +128,41 @@ pub fn is_path_length(bytes: usize) -> bool {
     bytes <= PATH_BYTES && bytes % COMPONENT_BYTES == 0
 }
 
+impl TapRecord {
+    pub const NONE: TapRecord = TapRecord {
+        used_bytes: 0,
+        bytes: [0; TAP_BYTES],
+    };
+
+    /// The tap record of these bytes, at most 223.
+    pub fn of(used: &[u8]) -> TapRecord {
+        let mut tap = TapRecord::NONE;
+        tap.used_bytes = used.len() as u8;
+        tap.bytes[..used.len()].copy_from_slice(used);
+        tap
+    }
+
+    pub fn used(&self) -> &[u8] {
+        &self.bytes[..self.used_bytes as usize]
+    }
+
+    /// None, or what SET NDEF takes; unused bytes are zero.
+    fn is_sound(&self) -> bool {
+        let Some((used, unused)) = self.bytes.split_at_checked(self.used_bytes as usize) else {
+            return false;
+        };
+        (used.is_empty() || is_tap_record(used)) && is_zero(unused)
+    }
+}
+
+/// What SET NDEF takes: at least two bytes and at most 223, of which the first two, high byte first, are the number of the others.
+pub fn is_tap_record(data: &[u8]) -> bool {
+    match data {
+        [high, low, rest @ ..] => data.len() <= TAP_BYTES && u16::from_be_bytes([*high, *low]) as usize == rest.len(),
+        _ => false,
+    }
+}
+
 impl Session {
     pub const ZERO: Session = Session {
         enc_key: [0; KEY_BYTES],
@@ -147,6 +193,7 @@ impl Card {
             pinless_path: Path::EMPTY,
             stage: CLOSED,
             session: Session::ZERO,
+            tap: TapRecord::NONE,
         }
     }
 
@@ -194,7 +241,21 @@ impl Card {
         let slots = self.slots.iter().all(Slot::is_sound);
         let expected = self.pending == YES || is_zero(&self.expected);
         let session = self.stage != CLOSED || self.session == Session::ZERO;
-        flags && key_kind && digits && tries && verified && stage && pending && paths && current && key_uid && slots && expected && session
+        let tap = self.tap.is_sound();
+        flags
+            && key_kind
+            && digits
+            && tries
+            && verified
+            && stage
+            && pending
+            && paths
+            && current
+            && key_uid
+            && slots
+            && expected
+            && session
+            && tap
     }
 }
 

@@ -33,10 +33,11 @@ pub enum Name {
     SetPinlessPath,
     Sign,
     Export,
+    SetNdef,
 }
 
 /// The instruction byte of each command.
-pub const INSTRUCTIONS: [(Name, u8); 16] = [
+pub const INSTRUCTIONS: [(Name, u8); 17] = [
     (Name::Select, 0xa4),
     (Name::Init, 0xfe),
     (Name::Open, 0x10),
@@ -53,6 +54,7 @@ pub const INSTRUCTIONS: [(Name, u8); 16] = [
     (Name::SetPinlessPath, 0xc1),
     (Name::Sign, 0xc0),
     (Name::Export, 0xc2),
+    (Name::SetNdef, 0xf3),
 ];
 
 /// A supply: its kind, how many bytes it has, and whether the first is a flag.

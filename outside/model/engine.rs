@@ -4,7 +4,7 @@
 use super::card::{Card, Session, POINT_BYTES, UID_BYTES};
 use super::commands::{run, Caller, Comparison, End};
 use super::message::{open_response, seal_command, seal_response, HEADER_BYTES, MAX_DATA_BYTES};
-use super::record::{card_of, record_of};
+use super::record::{card_of, own_tap_record, record_of};
 use super::status::*;
 use super::template;
 
@@ -12,7 +12,7 @@ pub const ASK_ROOM_BYTES: usize = 255;
 pub const ANSWER_ROOM_BYTES: usize = 258;
 pub const SEAL_ROOM_BYTES: usize = 261;
 pub const UNSEAL_ROOM_BYTES: usize = 223;
-pub const WRITE_ROOM_BYTES: usize = 448;
+pub const WRITE_ROOM_BYTES: usize = 674;
 
 #[derive(Clone, Copy, PartialEq, Eq, Debug)]
 pub struct Asked {
@@ -25,6 +25,27 @@ pub struct Asked {
 pub struct Told {
     pub refusal: u8,
     pub count: usize,
+}
+
+/// Where the tap read's part lies.
+#[derive(Clone, Copy, PartialEq, Eq, PartialOrd, Ord, Debug)]
+#[repr(u8)]
+pub enum Source {
+    /// Nowhere: the read is refused.
+    None = 0,
+    /// In the lent stored record.
+    Record = 1,
+    /// It is the lent factory record, whole.
+    Factory = 2,
+}
+
+/// The tap read's part: `length` bytes from `offset` on.
+#[derive(Clone, Copy, PartialEq, Eq, Debug)]
+pub struct Tapped {
+    pub refusal: u8,
+    pub source: Source,
+    pub offset: usize,
+    pub length: usize,
 }
 
 /// What ANSWER tells, and beside it what it decided: the status word, whether it was sealed, and the comparison that was made.
@@ -155,5 +176,22 @@ pub fn read(record: &[u8]) -> (u8, Card) {
     match card_of(record) {
         Some(card) => (NOT_REFUSED, card),
         None => (NOT_A_RECORD, Card::fresh([0; UID_BYTES], [0; POINT_BYTES])),
+    }
+}
+
+/// The tap read: the card's own tap record where the stored record has one, else the whole factory record, at which it does not look.
+pub fn tap(record: &[u8], factory: &[u8]) -> Tapped {
+    let part = |refusal, source, offset, length| Tapped {
+        refusal,
+        source,
+        offset,
+        length,
+    };
+    if card_of(record).is_none() {
+        return part(NOT_A_RECORD, Source::None, 0, 0);
+    }
+    match own_tap_record(record) {
+        Some(place) if !place.is_empty() => part(NOT_REFUSED, Source::Record, place.start, place.len()),
+        _ => part(NOT_REFUSED, Source::Factory, 0, factory.len()),
     }
 }

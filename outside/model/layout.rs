@@ -4,7 +4,7 @@
 use super::card::*;
 use super::cipher::{BLOCK_BYTES, KEY_BYTES};
 
-pub const CARD_BYTES: usize = 529;
+pub const CARD_BYTES: usize = 753;
 pub const SESSION_BYTES: usize = 2 * KEY_BYTES + BLOCK_BYTES;
 
 pub fn card_bytes(card: &Card) -> Vec<u8> {
@@ -29,6 +29,8 @@ pub fn card_bytes(card: &Card) -> Vec<u8> {
     }
     bytes.push(card.stage);
     bytes.extend(session_bytes(&card.session));
+    bytes.push(card.tap.used_bytes);
+    bytes.extend(card.tap.bytes);
     bytes
 }
 
@@ -47,7 +49,7 @@ fn next_byte(left: &mut &[u8]) -> u8 {
     next::<1>(left)[0]
 }
 
-/// The card of these 529 bytes, sound or not.
+/// The card of these 753 bytes, sound or not.
 pub fn card_of(bytes: &[u8]) -> Card {
     let mut left = bytes;
     let initialised = next_byte(&mut left);
@@ -70,7 +72,10 @@ pub fn card_of(bytes: &[u8]) -> Card {
         path.bytes = next(&mut left);
     }
     card.stage = next_byte(&mut left);
-    card.session = session_of(left);
+    card.session = session_of(&next::<SESSION_BYTES>(&mut left));
+    card.tap.used_bytes = next_byte(&mut left);
+    card.tap.bytes = next(&mut left);
+    assert!(left.is_empty());
     card
 }
 

@@ -1,5 +1,5 @@
 //! The rules (docs/RULES.md) once more, plainly, in Rust: the card, its commands, the sealed message, templates and the stored record. It was
-//! written from the build definition alone, apart from the definitions of crates/, and shares no code with the engine. Lengths and counts are in bytes; a refusal of 0 means none.
+//! written from the build definition and the requests alone, apart from the definitions of crates/, and shares no code with the engine. Lengths and counts are in bytes; a refusal of 0 means none.
 
 pub mod card;
 pub mod commands;

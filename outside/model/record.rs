@@ -1,8 +1,9 @@
 //! The stored record (RULES 10): what WRITE writes and READ takes. A field is a tag, a length of two bytes, high byte first, and its
 //! content; lengths are in bytes.
 
-use super::card::{Card, Path, Slot, EXTENDED_KEY, KEY_UID_BYTES, NO_KEY, PATH_BYTES, SLOTS, YES};
+use super::card::{is_tap_record, Card, Path, Slot, TapRecord, EXTENDED_KEY, KEY_UID_BYTES, NO_KEY, PATH_BYTES, SLOTS, YES};
 use super::cipher::KEY_BYTES;
+use std::ops::Range;
 
 const INITIALISED: u8 = 0x10;
 const UID: u8 = 0x11;
@@ -16,6 +17,7 @@ const KEY_KIND: u8 = 0x30;
 const KEY_UID: u8 = 0x31;
 const CURRENT_PATH: u8 = 0x32;
 const PINLESS_PATH: u8 = 0x33;
+const TAP: u8 = 0x34;
 
 const SLOT_BYTES: usize = 1 + KEY_BYTES;
 
@@ -43,6 +45,7 @@ pub fn record_of(card: &Card) -> Vec<u8> {
         record.extend(field(KEY_UID, key_uid));
         record.extend(field(CURRENT_PATH, card.current_path.used()));
         record.extend(field(PINLESS_PATH, card.pinless_path.used()));
+        record.extend(field(TAP, card.tap.used()));
     }
     record
 }
@@ -88,12 +91,35 @@ fn take_initialised(left: &mut &[u8], card: &mut Card) -> Option<()> {
     };
     card.current_path = take_path(left, CURRENT_PATH)?;
     card.pinless_path = take_path(left, PINLESS_PATH)?;
+    card.tap = take_tap(left)?;
     (card.key_kind <= EXTENDED_KEY).then_some(())
 }
 
 fn take_path(left: &mut &[u8], tag: u8) -> Option<Path> {
     let content = take(left, tag)?;
     (content.len() <= PATH_BYTES).then(|| Path::of(content))
+}
+
+/// Field 34: empty, or what SET NDEF takes. An old record ends before it.
+fn take_tap(left: &mut &[u8]) -> Option<TapRecord> {
+    if left.is_empty() {
+        return Some(TapRecord::NONE);
+    }
+    let content = take(left, TAP)?;
+    (content.is_empty() || is_tap_record(content)).then(|| TapRecord::of(content))
+}
+
+/// Where the content of field 34 lies in a record that has one, found field after field.
+pub fn own_tap_record(record: &[u8]) -> Option<Range<usize>> {
+    let mut left = record;
+    while let Some(&tag) = left.first() {
+        let content = take(&mut left, tag)?;
+        let end = record.len() - left.len();
+        if tag == TAP {
+            return Some(end - content.len()..end);
+        }
+    }
+    None
 }
 
 /// The content of the next field, which must have this tag and N bytes.

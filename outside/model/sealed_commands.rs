@@ -54,6 +54,7 @@ fn opened(card: &mut Card, name: Name, apdu: &Apdu, data: &[u8], caller: &Caller
         Name::SetPinlessPath => set_pinless_path(card, data),
         Name::Sign => sign(card, data, caller),
         Name::Export => export(card, apdu, data, caller),
+        Name::SetNdef => set_ndef(card, data),
         Name::Select | Name::Init | Name::Open | Name::Mutual | Name::Pair => unreachable!("not of this kind"),
     }
 }
@@ -283,4 +284,11 @@ fn exported_path(card: &Card, p1: u8, data: &[u8]) -> Option<Path> {
         GIVEN_PATH | GIVEN_PATH_THEN_CURRENT => is_path_length(data.len()).then(|| Path::of(data)),
         _ => data.is_empty().then_some(card.current_path),
     }
+}
+
+fn set_ndef(card: &mut Card, data: &[u8]) -> Outcome {
+    require_pin(card)?;
+    require(is_tap_record(data), WRONG_DATA)?;
+    card.tap = TapRecord::of(data);
+    done()
 }

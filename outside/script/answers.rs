@@ -81,7 +81,7 @@ pub fn card_text(card: &[u8]) -> String {
     let slots: Vec<String> = (0..SLOTS).map(|index| byte(&format!("slot{index}.filled")).to_string()).collect();
     format!(
         "  card: initialised {}, stage {}, verified {}, PIN tries {}, PUK tries {}, slots {}, pending {}, key kind {}, \
-         current path {}, PIN-less path {}",
+         current path {}, PIN-less path {}, tap record {}",
         byte("initialised"),
         byte("stage"),
         byte("verified"),
@@ -92,6 +92,7 @@ pub fn card_text(card: &[u8]) -> String {
         byte("key_kind"),
         length_text(byte("current.len").into()),
         length_text(byte("pinless.len").into()),
+        length_text(byte("tap.len").into()),
     )
 }
 

@@ -29,6 +29,8 @@ pub enum Call {
     Walk(Vec<u8>),
     Write(usize),
     Read(Vec<u8>),
+    /// Stored record and factory record.
+    Tap(Vec<u8>, Vec<u8>),
     Sound,
     Card,
     Set(Field, Vec<u8>),
@@ -39,7 +41,7 @@ pub enum Call {
 }
 
 /// Each call and how many words it can have, its name included.
-const CALLS: [(&str, &[usize]); 15] = [
+const CALLS: [(&str, &[usize]); 16] = [
     ("help", &[1]),
     ("fresh", &[3]),
     ("reset", &[1]),
@@ -51,6 +53,7 @@ const CALLS: [(&str, &[usize]); 15] = [
     ("walk", &[2]),
     ("write", &[1, 3]),
     ("read", &[2]),
+    ("tap", &[3]),
     ("sound", &[1]),
     ("card", &[1]),
     ("set", &[3]),
@@ -138,6 +141,7 @@ fn arguments_of(name: &str, mut arguments: Arguments) -> Result<Call, String> {
         ("walk", _) => Call::Walk(a.bytes("BYTES")?),
         ("write", _) => Call::Write(a.room(WRITE_ROOM_BYTES)?),
         ("read", _) => Call::Read(a.bytes("RECORD")?),
+        ("tap", _) => Call::Tap(a.bytes("RECORD")?, a.bytes("FACTORY")?),
         ("sound", _) => Call::Sound,
         ("card", _) => Call::Card,
         ("set", _) => a.set()?,

@@ -4,11 +4,11 @@
 use outside::ciphers::plain::KEY_BYTES;
 use outside::ffi::treadlewisp::{self, CARD_BYTES, SESSION_BYTES};
 use outside::model::card::{Card, Session, POINT_BYTES, UID_BYTES};
-use outside::model::engine::{self, Asked, Told};
+use outside::model::engine::{self, Asked, Source, Tapped, Told};
 use outside::model::message::HEADER_BYTES;
 
 pub trait Engine {
-    /// The card as its 529 bytes, and the session as its 80 bytes.
+    /// The card as its 753 bytes, and the session as its 80 bytes.
     fn card(&self) -> Vec<u8>;
     fn put_card(&mut self, card: &[u8]);
     fn session(&self) -> Vec<u8>;
@@ -26,6 +26,7 @@ pub trait Engine {
     fn write(&self, buffer: &mut [u8]) -> Told;
     /// READ's refusal.
     fn read(&mut self, record: &[u8]) -> u8;
+    fn tap(&self, record: &[u8], factory: &[u8]) -> Tapped;
 }
 
 pub struct Model {
@@ -104,6 +105,10 @@ impl Engine for Model {
         let (refusal, card) = engine::read(record);
         self.card = card;
         refusal
+    }
+
+    fn tap(&self, record: &[u8], factory: &[u8]) -> Tapped {
+        engine::tap(record, factory)
     }
 }
 
@@ -187,5 +192,20 @@ impl Engine for Library {
 
     fn read(&mut self, record: &[u8]) -> u8 {
         treadlewisp::read(&mut self.card, record)
+    }
+
+    fn tap(&self, record: &[u8], factory: &[u8]) -> Tapped {
+        let tapped = treadlewisp::tap(record, factory);
+        Tapped {
+            refusal: tapped.refusal,
+            source: match tapped.source {
+                0 => Source::None,
+                1 => Source::Record,
+                2 => Source::Factory,
+                other => panic!("no rule has the source {other}"),
+            },
+            offset: tapped.offset,
+            length: tapped.length,
+        }
     }
 }

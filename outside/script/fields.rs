@@ -4,11 +4,11 @@ use outside::ciphers::plain::{BLOCK_BYTES, KEY_BYTES};
 use outside::model::card::*;
 use std::ops::Range;
 
-/// The fields of a session, which the record ends with.
+/// The fields of a session, which a card has after its stage.
 const SESSION_FIELDS: [(&str, usize); 3] = [("enc_key", KEY_BYTES), ("mac_key", KEY_BYTES), ("iv", BLOCK_BYTES)];
 
 /// Every field's name and size.
-const CARD_FIELDS: [(&str, usize); 31] = [
+const CARD_FIELDS: [(&str, usize); 33] = [
     ("initialised", 1),
     ("uid", UID_BYTES),
     ("public_key", POINT_BYTES),
@@ -40,6 +40,8 @@ const CARD_FIELDS: [(&str, usize); 31] = [
     SESSION_FIELDS[0],
     SESSION_FIELDS[1],
     SESSION_FIELDS[2],
+    ("tap.len", 1),
+    ("tap.bytes", TAP_BYTES),
 ];
 
 /// A field's name and its place in the record.
@@ -62,6 +64,12 @@ pub fn card_fields() -> Vec<Field> {
 
 pub fn session_fields() -> Vec<Field> {
     placed(&SESSION_FIELDS)
+}
+
+/// The card's own session.
+pub fn session_place() -> Range<usize> {
+    let place = |name: &str| card_field(name.as_bytes()).expect("a field of the card").1;
+    place(SESSION_FIELDS[0].0).start..place(SESSION_FIELDS[2].0).end
 }
 
 /// The field of the card with this name, if it has one.

@@ -3,7 +3,7 @@
 use super::answers::*;
 use super::call::{call_of, Call};
 use super::engine::Engine;
-use super::fields::{card_fields, session_fields, Field};
+use super::fields::{card_fields, session_fields, session_place, Field};
 use super::lines::{lines_of, Line, MOST_LINE_BYTES};
 use outside::ffi::treadlewisp::{CARD_BYTES, SESSION_BYTES};
 use outside::model::engine::*;
@@ -85,12 +85,13 @@ impl<'a> Player<'a> {
             Call::Walk(input) => self.walk(&input),
             Call::Write(room) => self.write(room),
             Call::Read(record) => self.read(&record),
+            Call::Tap(record, factory) => self.tap(&record, &factory),
             Call::Sound => self.say(if self.engine.sound() { "sound: yes" } else { "sound: no" }),
             Call::Card => self.say_fields("card", &self.engine.card(), CARD_BYTES, card_fields()),
             Call::Set(field, bytes) => self.set(field, &bytes),
             Call::Session => self.say_fields("session", &self.engine.session(), SESSION_BYTES, session_fields()),
             Call::TakeSession(enc_key, mac_key, iv) => self.take_session(&[&enc_key[..], &mac_key, &iv].concat()),
-            Call::TakeSessionOfCard => self.take_session(&self.engine.card()[CARD_BYTES - SESSION_BYTES..]),
+            Call::TakeSessionOfCard => self.take_session(&self.engine.card()[session_place()]),
         }
         Ok(())
     }
@@ -210,6 +211,21 @@ impl<'a> Player<'a> {
             refusal => self.say(&format!("read: {}, the card is FRESH of zeros", refusal_text(refusal, 0))),
         }
         self.say_card();
+    }
+
+    /// The part is shown, and is not the last bytes: nothing was written.
+    fn tap(&mut self, record: &[u8], factory: &[u8]) {
+        let tapped = self.engine.tap(record, factory);
+        let (from, bytes) = match tapped.source {
+            Source::None => {
+                self.say(&format!("tap: {}, the part is empty", refusal_text(tapped.refusal, 0)));
+                return;
+            }
+            Source::Record => ("record", record),
+            Source::Factory => ("factory", factory),
+        };
+        let part = &bytes[tapped.offset..][..tapped.length];
+        self.say(&bytes_text(&format!("tap: {from}, offset {},", tapped.offset), part));
     }
 
     fn set(&mut self, (name, place): Field, bytes: &[u8]) {

@@ -13,11 +13,11 @@ fn bytes(word: &str) -> Result<Vec<u8>, Fault> {
 }
 
 fn reason(line: &str) -> String {
-    call_of(line.as_bytes(), &[7; 448]).expect_err(line)
+    call_of(line.as_bytes(), &[7; 674]).expect_err(line)
 }
 
 fn call(line: &str) -> Call {
-    call_of(line.as_bytes(), &[7; 448]).expect(line)
+    call_of(line.as_bytes(), &[7; 674]).expect(line)
 }
 
 /// All that is written for a script, on the model and the same on the library.
@@ -33,7 +33,7 @@ fn played(script: &str) -> String {
 
 const CARD_OF_ZEROS: &str =
     "  card: initialised 0, stage 0, verified 0, PIN tries 0, PUK tries 0, slots 0 0 0 0 0, pending 0, key kind 0, \
-                             current path 0 bytes, PIN-less path 0 bytes\n";
+                             current path 0 bytes, PIN-less path 0 bytes, tap record 0 bytes\n";
 
 #[test]
 fn lines_end_with_lf_and_may_have_a_cr() {
@@ -120,7 +120,7 @@ fn a_word_means_at_most_1024_bytes() {
     assert_eq!(bytes(&"00".repeat(1025)), Err(Fault::TooMany));
     assert_eq!(bytes("00*1024.00*0"), Ok(vec![0; 1024]));
     assert_eq!(bytes("00*1024.00"), Err(Fault::TooMany));
-    assert_eq!(bytes_of(b"last.last.last", &[7; 448]), Err(Fault::TooMany));
+    assert_eq!(bytes_of(b"last.last", &[7; 674]), Err(Fault::TooMany));
 }
 
 #[test]
@@ -151,9 +151,10 @@ fn unknown_calls() {
 #[test]
 fn wrong_numbers_of_words() {
     let names = [
-        "help", "fresh", "reset", "ask", "answer", "seal", "unseal", "send", "walk", "write", "read", "sound", "card", "set", "session",
+        "help", "fresh", "reset", "ask", "answer", "seal", "unseal", "send", "walk", "write", "read", "tap", "sound", "card", "set",
+        "session",
     ];
-    let counts: [&[usize]; 15] = [
+    let counts: [&[usize]; 16] = [
         &[1],
         &[3],
         &[1],
@@ -165,6 +166,7 @@ fn wrong_numbers_of_words() {
         &[2],
         &[1, 3],
         &[2],
+        &[3],
         &[1],
         &[1],
         &[3],
@@ -196,6 +198,8 @@ fn arguments_are_not_bytes() {
         ("send 00*4 - zz", "SUPPLY"),
         ("walk zz", "BYTES"),
         ("read zz", "RECORD"),
+        ("tap zz zz", "RECORD"),
+        ("tap - zz", "FACTORY"),
         ("set pin zz", "BYTES"),
         ("session zz zz zz", "ENC"),
         ("session 00*32 zz zz", "MAC"),
@@ -217,9 +221,12 @@ fn arguments_of_wrong_length() {
         ("send 00 zz zz", "HEADER has 4 bytes, not 1 byte"),
         ("session 00*31 zz zz", "ENC has 32 bytes, not 31 bytes"),
         ("session 00*32 00*33 zz", "MAC has 32 bytes, not 33 bytes"),
-        ("session 00*32 00*32 last", "IV has 16 bytes, not 448 bytes"),
+        ("session 00*32 00*32 last", "IV has 16 bytes, not 674 bytes"),
         ("set pin 00*7", "pin has 6 bytes, not 7 bytes"),
         ("set stage 0000", "stage has 1 byte, not 2 bytes"),
+        ("set tap.len 0000", "tap.len has 1 byte, not 2 bytes"),
+        ("set tap.bytes 00*222", "tap.bytes has 223 bytes, not 222 bytes"),
+        ("set tap 00", "the card has no such field"),
         ("set slot4.key -", "slot4.key has 32 bytes, not 0 bytes"),
         ("set nothing zz", "the card has no such field"),
         ("set slot5.key 00*32", "the card has no such field"),
@@ -236,7 +243,7 @@ fn rooms() {
     assert_eq!(call("answer - -"), Call::Answer(vec![], vec![], 258));
     assert_eq!(call("seal 00*4 -"), Call::Seal([0; 4], vec![], 261));
     assert_eq!(call("unseal -"), Call::Unseal(vec![], 223));
-    assert_eq!(call("write"), Call::Write(448));
+    assert_eq!(call("write"), Call::Write(674));
     assert_eq!(call("ask 01 room 0"), Call::Ask(vec![1], 0));
     assert_eq!(call("answer 01 02 room 1024"), Call::Answer(vec![1], vec![2], 1024));
     assert_eq!(call("seal 00*4 01 room 0261"), Call::Seal([0; 4], vec![1], 261));
@@ -274,6 +281,8 @@ fn the_fields_fill_the_records() {
         ("pending", 300),
         ("pinless.len", 407),
         ("iv", 513),
+        ("tap.len", 529),
+        ("tap.bytes", 530),
     ] {
         assert_eq!(place(name), Some(start), "{name}");
     }
@@ -291,12 +300,12 @@ fn every_line_is_written_again() {
 #[test]
 fn the_last_bytes_are_those_that_were_written() {
     let script =
-        "walk last\nwrite\nwrite room 447\nread last\nask 80F20000\nwalk last\nanswer - -\nsound\nread 80.last\nwalk last\nwalk 80.last\n";
+        "walk last\nwrite\nwrite room 673\nread last\nask 80F20000\nwalk last\nanswer - -\nsound\nread 80.last\nwalk last\nwalk 80.last\n";
     let record = ["10000100110010", &"00".repeat(16), "120041", &"00".repeat(65)].concat();
     let wanted = [
         "> walk last\nwalk: 0 fields\n> write\nwrite: 91 bytes: ",
         &record,
-        "\n> write room 447\nwrite: refusal 2, the buffer has fewer than 448 bytes\n> read last\nread: done\n",
+        "\n> write room 673\nwrite: refusal 2, the buffer has fewer than 674 bytes\n> read last\nread: done\n",
         CARD_OF_ZEROS,
         "> ask 80F20000\nask: kind 0, no supply is read\n> walk last\nwalk: refusal 4, malformed\n",
         "> answer - -\nanswer: 2 bytes: 6700\n  status word 6700, wrong length\n",
@@ -306,6 +315,47 @@ fn the_last_bytes_are_those_that_were_written() {
         "> walk last\nwalk: 0 fields\n> walk 80.last\nwalk: refusal 4, malformed\n",
     ];
     assert_eq!(played(script), wanted.concat());
+}
+
+#[test]
+fn a_tap_read_shows_the_part_and_changes_nothing() {
+    let record =
+        "10000101.110010.A0+16.120041.04+65.200006.31+6.21000C.30*12.220020.70+32.2300020305.2400A5.00*165.30000100.310000.320000.330000";
+    let script = format!(
+        "tap - -\ntap 00 0102\ntap {record} 0102\ntap {record}.340000 -\ntap {record}.3400020000 0102\ntap {record}.340003000155 0102\n\
+         tap {record}.340003000255 0102\nwalk last\nwrite\ntap last AB\nread last\n"
+    );
+    let written = played(&script);
+    let said: Vec<&str> = written.lines().filter(|line| !line.starts_with("> ")).collect();
+    let refused = "tap: refusal 8, the bytes are no stored record, the part is empty";
+    let fresh = format!("write: 91 bytes: 10000100110010{}120041{}", "00".repeat(16), "00".repeat(65));
+    let wanted = [
+        refused,
+        refused,
+        "tap: factory, offset 0, 2 bytes: 0102",
+        "tap: factory, offset 0, 0 bytes",
+        "tap: record, offset 339, 2 bytes: 0000",
+        "tap: record, offset 339, 3 bytes: 000155",
+        refused,
+        "walk: 0 fields",
+        &fresh,
+        "tap: factory, offset 0, 1 byte: AB",
+        "read: done",
+        CARD_OF_ZEROS.trim_end(),
+    ];
+    assert_eq!(said, wanted);
+}
+
+#[test]
+fn a_session_is_taken_from_the_card_and_not_from_its_end() {
+    let written = played("set enc_key 11*32\nset mac_key 22*32\nset iv 33*16\nset tap.bytes 44*223\nsession card\nsession\n");
+    let wanted = format!(
+        "  enc_key 32 bytes: {}\n  mac_key 32 bytes: {}\n  iv 16 bytes: {}\n",
+        "11".repeat(32),
+        "22".repeat(32),
+        "33".repeat(16)
+    );
+    assert!(written.ends_with(&wanted), "{written}");
 }
 
 #[test]

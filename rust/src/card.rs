@@ -5,7 +5,7 @@ use std::mem::{align_of, offset_of, size_of};
 
 use crate::ffi;
 use crate::lengths::*;
-use crate::parts::{KeyKind, Path, Slot, Stage};
+use crate::parts::{KeyKind, Path, Slot, Stage, TapRecord};
 use crate::refusal::Refusal;
 use crate::secrets::{wiped, Record};
 use crate::supply::SupplyKind;
@@ -36,6 +36,7 @@ pub struct Card {
     enc_key: [u8; KEY_BYTES],
     mac_key: [u8; KEY_BYTES],
     iv: [u8; IV_BYTES],
+    tap: TapRecord,
 }
 
 /// Where a field lies in a card's bytes.
@@ -86,12 +87,13 @@ impl Card {
         field!(enc_key, "channel.enc_key", KEY_BYTES),
         field!(mac_key, "channel.mac_key", KEY_BYTES),
         field!(iv, "channel.iv", IV_BYTES),
+        field!(tap, "tap", TAP_BYTES),
     ];
 }
 
 // The layout of include/treadlewisp.h: no padding, no alignment, and each field after the one before it.
 const _: () = assert!(size_of::<Card>() == CARD_BYTES && align_of::<Card>() == 1);
-const _: () = assert!(size_of::<Slot>() == SLOT_BYTES && size_of::<Path>() == PATH_BYTES);
+const _: () = assert!(size_of::<Slot>() == SLOT_BYTES && size_of::<Path>() == PATH_BYTES && size_of::<TapRecord>() == TAP_BYTES);
 const _: () = {
     let mut end = 0;
     let mut k = 0;
@@ -172,7 +174,8 @@ impl Card {
         wiped(|| ffi::answer(self, command, supply, buffer))
     }
 
-    /// WRITE: the card's stored record from the buffer's start, and its length in bytes. It holds what [`reset`](Card::reset) keeps.
+    /// WRITE: the card's stored record from the buffer's start, and its length in bytes. It holds what [`reset`](Card::reset) keeps, and
+    /// after INIT the field of the tap record, also where that is empty.
     ///
     /// Refused with [`Refusal::Unsound`], or [`Refusal::Room`] where the buffer is under [`WRITE_ROOM_BYTES`]; the buffer is then as it
     /// was. Bytes past the count are never touched.
@@ -180,7 +183,8 @@ impl Card {
         wiped(|| ffi::write(self, buffer))
     }
 
-    /// READ: the card of a stored record, sound and reset.
+    /// READ: the card of a stored record, sound and reset. An old record, which versions up to 0.4.0 wrote without the field of the tap
+    /// record, is that of a card with none; [`write`](Card::write) then writes it with the field.
     ///
     /// Refused with [`Refusal::NotRecord`]; there is then no card. (In C the record that is lent becomes FRESH of zeros.)
     ///
@@ -290,6 +294,11 @@ impl Card {
         &self.pinless
     }
 
+    /// The card's own tap record; empty where none was set.
+    pub fn tap_record(&self) -> &TapRecord {
+        &self.tap
+    }
+
     /// The stage of the channel; none where the byte is over 2, which no sound card has.
     pub fn stage(&self) -> Option<Stage> {
         Stage::from_number(self.stage)
@@ -311,6 +320,7 @@ impl fmt::Debug for Card {
             .field("current_path", &self.current)
             .field("pinless_path", &self.pinless)
             .field("stage", &self.stage())
+            .field("tap_record", &self.tap)
             .finish_non_exhaustive()
     }
 }

@@ -101,6 +101,69 @@ pub const SIGN: u8 = 0xC0;
 /// # Ok::<(), Refusal>(())
 /// ```
 pub const EXPORT: u8 = 0xC2;
+/// SET NDEF, sealed: stores the card's own tap record, which a phone reads when the card is held to it ([`tap`](crate::tap)).
+///
+/// It needs a verified PIN and no key. The data are the tap record, 2 to 223 bytes. **Its first two bytes, high byte first, count the bytes
+/// that follow them**: not themselves, and not Lc, which counts MAC and padding. Other data are 6A80, and the old tap record stays. 00 00 is
+/// a tap record too, one of two bytes: no command makes it none again. RESET, SELECT and every other command keep it.
+///
+/// ```
+/// use treadlewisp::*;
+///
+/// // A card without a key, taken from its stored record; its PIN is 024680. The record is an old one: no field 34 for the tap record.
+/// let slots = [&[0x01][..], &[0x52; 32], &[0x00; 4 * SLOT_BYTES]].concat();
+/// let fields: [(u8, &[u8]); 12] = [
+///     (0x10, &[0x01]),
+///     (0x11, &[0x11; UID_BYTES]),
+///     (0x12, &[0x04; PUBLIC_KEY_BYTES]),
+///     (0x20, b"024680"),
+///     (0x21, b"918273645546"),
+///     (0x22, &[0x51; 32]),
+///     (0x23, &[PIN_TRIES, PUK_TRIES]),
+///     (0x24, &slots),
+///     (0x30, &[KeyKind::None as u8]),
+///     (0x31, &[]),
+///     (0x32, &[]),
+///     (0x33, &[]),
+/// ];
+/// let old: Vec<u8> = fields.iter().flat_map(|(tag, content)| [&[*tag, 0x00, content.len() as u8], *content].concat()).collect();
+/// let mut card = Card::read(&old)?;
+/// let factory = [0x00, 0x03, 0xD0, 0x00, 0x00];
+/// assert_eq!(tap(&old, &factory)?, factory);
+///
+/// // OPEN. The supply is the host's: flag, both keys, salt and IV.
+/// let mut buffer = [0; ANSWER_ROOM_BYTES];
+/// let open = [&[command::CLASS_CARD, command::OPEN, 0x00, 0x00, 65][..], &[0x04; 65]].concat();
+/// card.answer(&open, &[&[0x01], &[0x61; 32][..], &[0x62; 32], &[0x91; 32], &[0x63; 16]].concat(), &mut buffer)?;
+/// let mut terminal = Session::new(&[0x61; 32], &[0x62; 32], &[0x63; 16]);
+///
+/// // From SEAL to UNSEAL: what the card answers inside the channel.
+/// let mut send = |ins: u8, data: &[u8], supply: &[u8]| -> Result<Vec<u8>, Refusal> {
+///     let mut sealed = [0; SEAL_ROOM_BYTES];
+///     let sealed_bytes = terminal.seal(&[command::CLASS_CARD, ins, 0x00, 0x00], data, &mut sealed)?;
+///     let mut response = [0; ANSWER_ROOM_BYTES];
+///     let response_bytes = card.answer(&sealed[..sealed_bytes], supply, &mut response)?;
+///     let mut opened = [0; UNSEAL_ROOM_BYTES];
+///     let opened_bytes = terminal.unseal(&response[..response_bytes], &mut opened)?;
+///     Ok(opened[..opened_bytes].to_vec())
+/// };
+/// send(command::MUTUAL, &[0x0E; 32], &[0x92; 32])?;
+/// assert_eq!(send(command::VERIFY, b"024680", &[])?, [0x90, 0x00]);
+///
+/// // A message of 16 bytes, the address https://example.com: its tap record begins 00 10, and has 18 bytes.
+/// let message = [&[0xD1, 0x01, 0x0C, 0x55, 0x04][..], b"example.com"].concat();
+/// let tap_record = [&[0x00, 0x10][..], &message].concat();
+/// assert_eq!(send(command::SET_NDEF, &[&[0x00, 0x12][..], &message].concat(), &[])?, [0x6A, 0x80]); // 18 counts the two bytes too
+/// assert_eq!(send(command::SET_NDEF, &tap_record, &[])?, [0x90, 0x00]);
+///
+/// // The stored record now ends with the tap record, and the tap read gives that part of it.
+/// let mut record = [0; WRITE_ROOM_BYTES];
+/// let count = card.write(&mut record)?;
+/// assert_eq!(count, RECORD_MIN_BYTES + 18);
+/// assert_eq!(tap(&record[..count], &factory)?, tap_record);
+/// # Ok::<(), Refusal>(())
+/// ```
+pub const SET_NDEF: u8 = 0xF3;
 
 /// P1 of SELECT.
 pub const P1_SELECT: u8 = 0x04;

@@ -32,6 +32,21 @@ struct Report {
     count: usize,
 }
 
+/// `tw_tapped`.
+#[repr(C)]
+struct ReportTapped {
+    refusal: u8,
+    source: u8,
+    offset: usize,
+    length: usize,
+}
+
+/// `TW_TAP_RECORD` and `TW_TAP_FACTORY`.
+const TAP_RECORD: u8 = 1;
+const TAP_FACTORY: u8 = 2;
+
+const _: () = assert!(size_of::<ReportTapped>() == 24 && offset_of!(ReportTapped, source) == 1);
+const _: () = assert!(offset_of!(ReportTapped, offset) == 8 && offset_of!(ReportTapped, length) == 16);
 const _: () = assert!(size_of::<ReportAsked>() == 16 && offset_of!(ReportAsked, kind) == 1 && offset_of!(ReportAsked, count) == 8);
 const _: () = assert!(size_of::<Report>() == 16 && offset_of!(Report, count) == 8);
 
@@ -54,6 +69,7 @@ extern "C" {
     fn tw_walk(input: *const u8, input_bytes: usize) -> Report;
     fn tw_write(card: *const Card, buf: *mut u8, buf_bytes: usize) -> Report;
     fn tw_read(card: *mut Card, record: *const u8, record_bytes: usize) -> u8;
+    fn tw_tap(record: *const u8, record_bytes: usize, factory: *const u8, factory_bytes: usize) -> ReportTapped;
 }
 
 #[cfg(feature = "sha256")]
@@ -156,6 +172,20 @@ pub(crate) fn write(card: &Card, buffer: &mut [u8]) -> Result<usize, Refusal> {
 pub(crate) fn read(card: &mut Card, record: &[u8]) -> Result<(), Refusal> {
     // SAFETY: the card is its whole record to write, borrowed alone; the record is given with its length, to read.
     done(unsafe { tw_read(card, record.as_ptr(), record.len()) })
+}
+
+/// The library is proved to give a part that lies within one of the two. Another source or place would come from another library; there is
+/// then no part.
+pub(crate) fn tap<'a>(record: &'a [u8], factory: &'a [u8]) -> Result<&'a [u8], Refusal> {
+    // SAFETY: record and factory record are given with their lengths, to read.
+    let report = unsafe { tw_tap(record.as_ptr(), record.len(), factory.as_ptr(), factory.len()) };
+    done(report.refusal)?;
+    let part = match report.source {
+        TAP_RECORD => record.get(report.offset..),
+        TAP_FACTORY => factory.get(report.offset..),
+        _ => None,
+    };
+    part.and_then(|part| part.get(..report.length)).ok_or(Refusal::NotRecord)
 }
 
 /// `TW_HASH_DONE`.

@@ -26,12 +26,18 @@ pub const STATUS_BYTES: usize = 2;
 pub const SLOT_BYTES: usize = 1 + KEY_BYTES;
 /// Length of a path as [`Path`](crate::Path) has it, in bytes: how many are in use, and the room.
 pub const PATH_BYTES: usize = 1 + PATH_MAX_BYTES;
+/// Length of what a tap record begins with, in bytes: the number of bytes that follow, high byte first.
+pub const TAP_COUNT_BYTES: usize = 2;
+/// The longest tap record, in bytes, those that count the others included: the most data of a command.
+pub const TAP_MAX_BYTES: usize = 223;
+/// Length of a tap record as [`TapRecord`](crate::TapRecord) has it, in bytes: how many are in use, and the room.
+pub const TAP_BYTES: usize = 1 + TAP_MAX_BYTES;
 /// Length of a session, in bytes.
 pub const SESSION_BYTES: usize = KEY_BYTES + KEY_BYTES + IV_BYTES;
 /// Length of a card's record as [`Card`](crate::Card) has it, in bytes: the sum of its fields. The stored record of WRITE is another one.
-pub const CARD_BYTES: usize = 1 + IDENTITY_BYTES + PINS_BYTES + PAIRING_BYTES + KEYS_BYTES + 1 + SESSION_BYTES;
+pub const CARD_BYTES: usize = 1 + IDENTITY_BYTES + PINS_BYTES + PAIRING_BYTES + KEYS_BYTES + 1 + SESSION_BYTES + TAP_BYTES;
 
-/// The parts of a card, in bytes, but for its channel: a stage and a session.
+/// The parts of a card, in bytes, but for its channel, a stage and a session, and its tap record.
 const IDENTITY_BYTES: usize = UID_BYTES + PUBLIC_KEY_BYTES;
 const PINS_BYTES: usize = PIN_BYTES + PUK_BYTES + 1 + 1 + 1;
 const PAIRING_BYTES: usize = KEY_BYTES + SLOTS * SLOT_BYTES + 1 + KEY_BYTES;
@@ -51,7 +57,7 @@ pub const WRITE_ROOM_BYTES: usize = RECORD_MAX_BYTES;
 /// Length of a page of memory, in bytes.
 pub const PAGE_BYTES: usize = 4096;
 /// How much of the stack [`wipe_stack`](crate::wipe_stack) overwrites, in bytes. Every call of this crate uses less.
-pub const STACK_WIPE_BYTES: usize = 6 * PAGE_BYTES;
+pub const STACK_WIPE_BYTES: usize = 8 * PAGE_BYTES;
 
 /// The most data that SEAL takes, in bytes.
 pub const DATA_MAX_BYTES: usize = 223;
@@ -61,10 +67,14 @@ pub const SUPPLY_MAX_BYTES: usize = 129;
 pub const FIELD_HEAD_BYTES: usize = 1 + 2;
 /// Length of a stored record before INIT, in bytes: three fields.
 pub const RECORD_FRESH_BYTES: usize = 3 * FIELD_HEAD_BYTES + 1 + UID_BYTES + PUBLIC_KEY_BYTES;
-/// The shortest stored record after INIT, in bytes: nine fields more, three of them empty.
-pub const RECORD_MIN_BYTES: usize = RECORD_FRESH_BYTES + RECORD_SECRETS_BYTES + 4 * FIELD_HEAD_BYTES + 1;
-/// The longest stored record, in bytes: with a key UID and two full paths.
-pub const RECORD_MAX_BYTES: usize = RECORD_MIN_BYTES + KEY_BYTES + 2 * PATH_MAX_BYTES;
+/// The shortest stored record after INIT, in bytes: ten fields more, four of them empty.
+pub const RECORD_MIN_BYTES: usize = RECORD_OLD_MIN_BYTES + FIELD_HEAD_BYTES;
+/// The longest stored record, in bytes: with a key UID, two full paths and the longest tap record.
+pub const RECORD_MAX_BYTES: usize = RECORD_OLD_MAX_BYTES + FIELD_HEAD_BYTES + TAP_MAX_BYTES;
+/// The shortest stored record after INIT without the field of the tap record, in bytes, as versions up to 0.4.0 wrote it. READ takes it.
+pub const RECORD_OLD_MIN_BYTES: usize = RECORD_FRESH_BYTES + RECORD_SECRETS_BYTES + 4 * FIELD_HEAD_BYTES + 1;
+/// The longest stored record without the field of the tap record, in bytes.
+pub const RECORD_OLD_MAX_BYTES: usize = RECORD_OLD_MIN_BYTES + KEY_BYTES + 2 * PATH_MAX_BYTES;
 
 /// The five fields of PIN, PUK, pairing secret, tries and slots.
 const RECORD_SECRETS_BYTES: usize = 5 * FIELD_HEAD_BYTES + PIN_BYTES + PUK_BYTES + KEY_BYTES + 1 + 1 + SLOTS * SLOT_BYTES;

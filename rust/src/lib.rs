@@ -16,6 +16,7 @@
 //! | WALK | [`walk`] | how many fields templates hold |
 //! | WRITE | [`Card::write`] | the card's stored record |
 //! | READ | [`Card::read`] | the card of a stored record |
+//! | tap read | [`tap`] | what a phone is to read of a stored card: its own tap record, or the factory's |
 //!
 //! Every length, room and count is in bytes; [`walk`] alone counts fields. Buffers are the caller's. An operation that cannot be done gives
 //! a [`Refusal`] and leaves card, session and buffer as they were. No operation panics or allocates, and nothing is kept between calls.
@@ -110,7 +111,7 @@ mod supply;
 
 pub use card::{Asked, Card, CardField};
 pub use lengths::*;
-pub use parts::{KeyKind, Path, Slot, Stage};
+pub use parts::{KeyKind, Path, Slot, Stage, TapRecord};
 pub use refusal::Refusal;
 pub use secrets::{wipe, wipe_stack};
 pub use session::Session;
@@ -135,4 +136,26 @@ pub use supply::SupplyKind;
 /// ```
 pub fn walk(input: &[u8]) -> Result<usize, Refusal> {
     secrets::wiped(|| ffi::walk(input))
+}
+
+/// The tap read: which bytes a phone is to read when the card of this stored record is held to it. They are a part of what is lent, and
+/// nothing is copied.
+///
+/// Where the record has the card's own tap record, which SET NDEF stored ([`command::SET_NDEF`]), the part is that, inside the record. Where
+/// it has none, because it was never set, or the record is an old one, or one before INIT, the part is the whole factory record. That is not
+/// looked at: it may be any bytes, or none.
+///
+/// Refused with [`Refusal::NotRecord`] exactly where [`Card::read`] refuses the record.
+///
+/// ```
+/// use treadlewisp::{tap, Card, Refusal, WRITE_ROOM_BYTES};
+/// let mut buffer = [0; WRITE_ROOM_BYTES];
+/// let count = Card::fresh(&[0x11; 16], &[0x04; 65]).write(&mut buffer)?;
+/// let (record, factory) = (&buffer[..count], &[0x00, 0x03, 0xD0, 0x00, 0x00]);
+/// assert_eq!(tap(record, factory)?, factory); // before INIT a card has none
+/// assert_eq!(tap(&record[1..], factory), Err(Refusal::NotRecord));
+/// # Ok::<(), Refusal>(())
+/// ```
+pub fn tap<'a>(record: &'a [u8], factory: &'a [u8]) -> Result<&'a [u8], Refusal> {
+    secrets::wiped(|| ffi::tap(record, factory))
 }

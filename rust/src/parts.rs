@@ -1,8 +1,8 @@
-//! Parts of a card: pairing slots, paths, the kind of its key and the stage of its channel.
+//! Parts of a card: pairing slots, paths, the tap record, the kind of its key and the stage of its channel.
 
 use std::fmt;
 
-use crate::lengths::{COMPONENT_BYTES, KEY_BYTES, PATH_MAX_BYTES};
+use crate::lengths::{COMPONENT_BYTES, KEY_BYTES, PATH_MAX_BYTES, TAP_MAX_BYTES};
 
 /// A pairing slot: whether it is filled, and its key. It is overwritten with zeros when it is dropped.
 #[repr(C)]
@@ -64,6 +64,35 @@ impl fmt::Debug for Path {
         f.debug_list()
             .entries(self.components().map(|component| format!("{component:08X}")))
             .finish()
+    }
+}
+
+/// A card's own tap record, as SET NDEF stored it: how many bytes are in use, and room for the longest. It is no secret: any phone that the
+/// card is held to may read it.
+#[derive(Clone, PartialEq, Eq)]
+#[repr(C)]
+pub struct TapRecord {
+    used_bytes: u8,
+    room: [u8; TAP_MAX_BYTES],
+}
+
+impl TapRecord {
+    /// The bytes in use: the first two, high byte first, count those after them. None where none was set. Of a tap record that claims more
+    /// than its room, which no sound card has, all of it.
+    pub fn bytes(&self) -> &[u8] {
+        self.room.get(..usize::from(self.used_bytes)).unwrap_or(&self.room)
+    }
+
+    /// Whether none was set. Then a phone reads the factory's.
+    pub fn is_empty(&self) -> bool {
+        self.used_bytes == 0
+    }
+}
+
+/// The bytes in use, in hexadecimal digits.
+impl fmt::Debug for TapRecord {
+    fn fmt(&self, f: &mut fmt::Formatter<'_>) -> fmt::Result {
+        write!(f, "{:02X?}", self.bytes())
     }
 }
 

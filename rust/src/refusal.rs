@@ -21,7 +21,7 @@ pub enum Refusal {
     TooLong = 6,
     /// UNSEAL: the response does not open.
     NotGenuine = 7,
-    /// READ: the bytes are no card's record.
+    /// READ, the tap read: the bytes are no card's record.
     NotRecord = 8,
 }
 

@@ -39,6 +39,12 @@ fn field_rows(field: &CardField) -> Vec<Row> {
             let other = |slot: usize| row(slot * SLOT_BYTES, SLOT_BYTES, format!("{path}[{slot}]"));
             first.into_iter().chain((1..SLOTS).map(other)).collect()
         }
+        // The tap record is a part of the card by itself.
+        "tap" => vec![
+            (None, field.bytes, path.to_string()),
+            row(0, 1, format!("{path}.len")),
+            row(1, TAP_MAX_BYTES, format!("{path}.bytes")),
+        ],
         "current" | "pinless" => vec![row(0, 1, format!("{path}.len")), row(1, PATH_MAX_BYTES, format!("{path}.bytes"))],
         _ => vec![row(0, field.bytes, path.to_string())],
     }
@@ -57,7 +63,7 @@ fn the_table_of_the_layout() {
             part = part_of(field);
             let of_part = Card::FIELDS.iter().filter(|field| part_of(field) == part);
             let bytes = of_part.map(|field| field.bytes).sum();
-            rows.push((None, bytes, part.unwrap_or_default().to_string()));
+            rows.extend(part.map(|part| (None, bytes, part.to_string())));
         }
         rows.extend(field_rows(field));
     }
@@ -103,6 +109,7 @@ fn the_struct_of_the_layout() {
     let mut expected = BTreeSet::from([
         own("slot", "key", KEY_BYTES),
         own("path", "bytes", PATH_MAX_BYTES),
+        own("tap", "bytes", TAP_MAX_BYTES),
         own("pairing", "slots", SLOTS),
     ]);
     for field in Card::FIELDS {
@@ -181,6 +188,9 @@ fn the_constants_of_the_header() {
         PATH_MAX_BYTES,
         SLOT_BYTES,
         PATH_BYTES,
+        TAP_COUNT_BYTES,
+        TAP_MAX_BYTES,
+        TAP_BYTES,
         HEADER_BYTES,
         STATUS_BYTES,
         CARD_BYTES,
@@ -189,6 +199,8 @@ fn the_constants_of_the_header() {
         RECORD_FRESH_BYTES,
         RECORD_MIN_BYTES,
         RECORD_MAX_BYTES,
+        RECORD_OLD_MIN_BYTES,
+        RECORD_OLD_MAX_BYTES,
         ASK_ROOM_BYTES,
         ANSWER_ROOM_BYTES,
         SEAL_ROOM_BYTES,
@@ -252,6 +264,7 @@ fn the_numbers_of_commands_and_supplies_in_the_header() {
         SET_PINLESS_PATH,
         SIGN,
         EXPORT,
+        SET_NDEF,
     ];
     let others = named![
         CLASS_SELECT,

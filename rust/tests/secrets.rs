@@ -75,6 +75,16 @@ enum Operation {
     Walk,
     Write,
     Read,
+    Tap,
+}
+
+/// `tw_tapped`.
+#[repr(C)]
+struct Tapped {
+    refusal: u8,
+    source: u8,
+    offset: usize,
+    length: usize,
 }
 
 /// `tw_told`, and `tw_asked`, whose kind is not looked at.
@@ -103,6 +113,7 @@ extern "C" {
     fn tw_walk(input: *const u8, input_bytes: usize) -> Told;
     fn tw_write(card: *const Card, buf: *mut u8, buf_bytes: usize) -> Told;
     fn tw_read(card: *mut Card, record: *const u8, record_bytes: usize) -> u8;
+    fn tw_tap(record: *const u8, record_bytes: usize, factory: *const u8, factory_bytes: usize) -> Tapped;
 }
 
 impl Call {
@@ -143,6 +154,11 @@ impl Call {
                 Operation::Walk => tw_walk(input, input_bytes),
                 Operation::Write => tw_write(card, buf, buf_bytes),
                 Operation::Read => only(tw_read(card, input, input_bytes)),
+                Operation::Tap => {
+                    let tapped = tw_tap(input, input_bytes, supply, supply_bytes);
+                    let is_own = tapped.source == 1 && tapped.offset + tapped.length == input_bytes;
+                    only(tapped.refusal + u8::from(!is_own))
+                }
             }
         };
         (self.done, self.count) = (told.refusal == 0, told.count);
@@ -165,6 +181,7 @@ impl Call {
                 let read = Card::read(input);
                 read.as_ref().map(|_| 0).map_err(|&refusal| refusal)
             }
+            Operation::Tap => tap(input, &self.supply).map(|_| 0),
         };
         (self.done, self.count) = (told.is_ok(), told.unwrap_or(0));
     }
@@ -247,12 +264,14 @@ fn calls() -> Vec<Call> {
     sealed("DERIVE", &mut life, DERIVE, 0x00, &EIP1581_PATH, &[0x01]);
     sealed("EXPORT", &mut life, EXPORT, P1_EXPORT_CURRENT, &[], &export_supply);
     sealed("SIGN", &mut life, SIGN, 0x00, &[0x5F; 32], &[0x12; 129]);
+    sealed("SET NDEF", &mut life, SET_NDEF, 0x00, &[0x00, 0x03, 0xD0, 0x00, 0x00], &[]);
     let mut record = [0; WRITE_ROOM_BYTES];
     let count = life.card.write(&mut record).expect("WRITE");
     calls.push(Call::of("WALK of LOAD's data", Operation::Walk, &life, &loaded));
     calls.push(Call::of("soundness", Operation::Sound, &life, &[]));
     calls.push(Call::of("WRITE", Operation::Write, &life, &[]));
     calls.push(Call::of("READ", Operation::Read, &life, &record[..count]));
+    calls.push(Call::of("the tap read", Operation::Tap, &life, &record[..count]));
     calls.push(Call::of("RESET", Operation::Reset, &life, &[]));
     calls
 }

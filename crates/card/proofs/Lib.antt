@@ -1,4 +1,6 @@
 pub mod Tests
+pub mod Zeros
 pub mod Rules
 pub mod SoundFacts
 pub mod ShapeFacts
+pub mod TapFacts

@@ -11,11 +11,12 @@ use Rattle.card.specs.declared.Pins.{Pins}
 use Rattle.card.specs.declared.Pairing.{Pairing}
 use Rattle.card.specs.declared.Path.{Path}
 use Rattle.card.specs.declared.Keys.{Keys}
+use Rattle.card.specs.declared.Tap.{Tap}
 use Rattle.card.specs.declared.Card.{Card}
-use Rattle.card.specs.State.{pinTries, pukTries}
-use Rattle.card.specs.Sizes.{pathMostBytes}
+use Rattle.card.specs.State.{pinTries, pukTries, tapBytes}
+use Rattle.card.specs.Sizes.{pathMostBytes, tapMostBytes}
 use Rattle.card.specs.Slots.{allOf, someOf, isZero, allZero, isFree, slotWithin}
-use Rattle.card.specs.Sound.{isFlag, isDigit, pinsSound, pairingSound, pathSound, keysSound, channelSound, partsSound, pinsBlank, pairingBlank, keysBlank, channelBlank, partsBlank, isSound}
+use Rattle.card.specs.Sound.{isFlag, isDigit, pinsSound, pairingSound, pathSound, keysSound, channelSound, isNdef, tapSound, partsSound, pinsBlank, pairingBlank, keysBlank, channelBlank, tapBlank, partsBlank, isSound}
 use Rattle.card.proofs.Tests.{both}
 
 -- ---- pinsSound
@@ -112,12 +113,28 @@ keys-blank k e =
       pinlessbytes = p .1;
     }
 
+-- ---- tapSound
+pub record TapRules (t : Tap) : Type 0 where
+  pub most : leb (t .len) tapMostBytes ≡ true
+  pub unused : allZero (drop (t .len) (t .bytes)) ≡ true
+  pub ndef : (isZero (t .len) || isNdef (tapBytes t)) ≡ true
+
+pub tap-rules : (t : Tap) → tapSound t ≡ true → TapRules t
+tap-rules t e =
+    let l = both _ _ e in
+    let s = both _ _ (l .0) in
+    record { most = s .0; unused = s .1; ndef = l .1 }
+
+pub tap-sound : (t : Tap) → TapRules t → tapSound t ≡ true
+tap-sound t r = rw (r .most, r .unused) (r .ndef)
+
 -- ---- partsSound
 pub record PartsRules (c : Card) : Type 0 where
   pub pins : pinsSound (c .pins) ≡ true
   pub pairing : pairingSound (c .pairing) ≡ true
   pub keys : keysSound (c .keys) ≡ true
   pub channel : channelSound (c .channel) ≡ true
+  pub tap : tapSound (c .tap) ≡ true
   pub pending : (isZero (c .pairing .pending) || isZero (c .channel .stage)) ≡ true
   pub verified : (isZero (c .pins .verified) || eqb (c .channel .stage) 2) ≡ true
 
@@ -125,13 +142,14 @@ pub parts-rules : (c : Card) → partsSound c ≡ true → PartsRules c
 parts-rules c e =
     let v = both _ _ e in
     let l = both _ _ (v .0) in
-    let t = both _ _ (l .0) in
+    let m = both _ _ (l .0) in
+    let t = both _ _ (m .0) in
     let k = both _ _ (t .0) in
     let d = both _ _ (k .0) in
-    record { pins = d .0; pairing = d .1; keys = k .1; channel = t .1; pending = l .1; verified = v .1 }
+    record { pins = d .0; pairing = d .1; keys = k .1; channel = t .1; tap = m .1; pending = l .1; verified = v .1 }
 
 pub parts-sound : (c : Card) → PartsRules c → partsSound c ≡ true
-parts-sound c r = rw (r .pins, r .pairing, r .keys, r .channel, r .pending) (r .verified)
+parts-sound c r = rw (r .pins, r .pairing, r .keys, r .channel, r .tap, r .pending) (r .verified)
 
 -- ---- partsBlank
 pub record BlankRules (c : Card) : Type 0 where
@@ -139,16 +157,18 @@ pub record BlankRules (c : Card) : Type 0 where
   pub pairing : pairingBlank (c .pairing) ≡ true
   pub keys : keysBlank (c .keys) ≡ true
   pub channel : channelBlank (c .channel) ≡ true
+  pub tap : tapBlank (c .tap) ≡ true
 
 pub blank-rules : (c : Card) → partsBlank c ≡ true → BlankRules c
 blank-rules c e =
-    let l = both _ _ e in
+    let m = both _ _ e in
+    let l = both _ _ (m .0) in
     let t = both _ _ (l .0) in
     let d = both _ _ (t .0) in
-    record { pins = d .0; pairing = d .1; keys = t .1; channel = l .1 }
+    record { pins = d .0; pairing = d .1; keys = t .1; channel = l .1; tap = m .1 }
 
 pub parts-blank : (c : Card) → BlankRules c → partsBlank c ≡ true
-parts-blank c r = rw (r .pins, r .pairing, r .keys) (r .channel)
+parts-blank c r = rw (r .pins, r .pairing, r .keys, r .channel) (r .tap)
 
 -- ---- isSound: before INIT, and after it
 pub record Before (c : Card) : Type 0 where

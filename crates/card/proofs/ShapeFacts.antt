@@ -27,4 +27,5 @@ fresh-shape uid key u k = record {
   keyuid = refl;
   current = refl;
   pinless = refl;
+  tap = refl;
 }

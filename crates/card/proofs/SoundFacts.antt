@@ -6,17 +6,17 @@ use mathlib.Core.Logic.{⊎-elim}
 use mathlib.Core.List.{List}
 use Prim.Native.Nat.{ℕ, _≤_}
 use lib.Dec.{eqb}
-use borrow.Author.Tests.{leb-true}
+use borrow.Author.Tests.{leb-true, eqb-true}
 use native.Mathlib.Omega.{arith}
 use Rattle.card.specs.declared.Card.{Card}
 use Rattle.card.specs.declared.Pins.{Pins}
 use Rattle.card.specs.declared.Pairing.{Pairing}
-use Rattle.card.specs.Sizes.{pathMostBytes}
+use Rattle.card.specs.Sizes.{pathMostBytes, tapMostBytes}
 use Rattle.card.specs.State.{pinTries, freshOf, resetOf, unverified, notPending, withSecrets}
 use Rattle.card.specs.Slots.{allOf, isZero, allZero, slotWithin}
 use Rattle.card.specs.Sound.{isSound, isDigit, partsBlank, partsSound, pinsSound, pairingSound, pinsBlank, pairingBlank}
 use Rattle.card.proofs.Tests.{both}
-use Rattle.card.proofs.Rules.{pins-rules, pairing-rules, parts-rules, blank-rules, keys-rules, keys-blank, pins-sound, parts-sound, parts-blank, sound-cases, sound-before, sound-after}
+use Rattle.card.proofs.Rules.{pins-rules, pairing-rules, parts-rules, blank-rules, keys-rules, keys-blank, tap-rules, pins-sound, parts-sound, parts-blank, sound-cases, sound-before, sound-after}
 
 -- ---- freshOf
 pub fresh-sound : (uid key : List ℕ) → isSound (freshOf uid key) ≡ true
@@ -58,6 +58,7 @@ blank-reset c e =
       pairing = pairing-blank-reset (c .pairing) (r .pairing);
       keys = r .keys;
       channel = refl;
+      tap = r .tap;
     })
 
 parts-reset : (c : Card) → partsSound c ≡ true → partsSound (resetOf c) ≡ true
@@ -69,6 +70,7 @@ parts-reset c e =
       pairing = pairing-reset (c .pairing) (r .pairing);
       keys = r .keys;
       channel = refl;
+      tap = r .tap;
       pending = refl;
       verified = refl;
     })
@@ -101,6 +103,7 @@ secrets-sound c pin puk d g e i = ⊎-elim
         pairing = r .pairing;
         keys = r .keys;
         channel = r .channel;
+        tap = r .tap;
         pending = r .pending;
         verified = r .verified;
       });
@@ -133,4 +136,13 @@ path-lengths c e = ⊎-elim
     (λ a.
     let k = keys-rules (c .keys) (parts-rules c (a .parts) .keys) in
     (leb-true _ _ (k .current .most), leb-true _ _ (k .pinless .most)))
+    (sound-cases c e)
+
+-- ---- the tap record: no longer than its room
+pub tap-length : (c : Card) → isSound c ≡ true → c .tap .len ≤ tapMostBytes
+tap-length c e = ⊎-elim
+    (λ b.
+    let z = eqb-true (c .tap .len) 0 (both (isZero (c .tap .len)) (allZero (c .tap .bytes)) (blank-rules c (b .blank) .tap) .0) in
+    omega (arith, z))
+    (λ a. leb-true _ _ (tap-rules (c .tap) (parts-rules c (a .parts) .tap) .most))
     (sound-cases c e)

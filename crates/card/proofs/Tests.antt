@@ -20,6 +20,10 @@ pub implied : (a b : Bool) → a ≡ true → (not a || b) ≡ true → b ≡ tr
 implied true b h e = e
 implied false b h e = absurd (false≢true h)
 
+pub or-right : (a b : Bool) → b ≡ true → (a || b) ≡ true
+or-right true b e = refl
+or-right false b e = e
+
 -- one of two tests holds, and the other does not
 pub the-first : (a b : Bool) → b ≡ false → (a || b) ≡ true → a ≡ true
 the-first true b z e = refl

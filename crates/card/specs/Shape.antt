@@ -6,7 +6,7 @@ use mathlib.Core.List.{List, [], _∷_}
 use lib.ListN.{length}
 use Rattle.card.specs.declared.Slot.{Slot}
 use Rattle.card.specs.declared.Card.{Card}
-use Rattle.card.specs.Sizes.{uidBytes, publicKeyBytes, pinBytes, pukBytes, keyBytes, pathMostBytes, slotCount}
+use Rattle.card.specs.Sizes.{uidBytes, publicKeyBytes, pinBytes, pukBytes, keyBytes, pathMostBytes, tapMostBytes, slotCount}
 
 -- each slot's key has the length of a key
 abbrev pub KeysLong : List Slot → Type 0
@@ -25,3 +25,4 @@ pub record Shaped (c : Card) : Type 0 where
   pub keyuid : length (c .keys .uid) ≡ keyBytes
   pub current : length (c .keys .current .bytes) ≡ pathMostBytes
   pub pinless : length (c .keys .pinless .bytes) ≡ pathMostBytes
+  pub tap : length (c .tap .bytes) ≡ tapMostBytes

@@ -26,6 +26,10 @@ ivBytes = 16
 abbrev pub pathMostBytes : ℕ
 pathMostBytes = 40
 
+-- the room of the tap record
+abbrev pub tapMostBytes : ℕ
+tapMostBytes = 223
+
 -- ---- the number of pairing slots (RULES 2.2)
 abbrev pub slotCount : ℕ
 slotCount = 5
@@ -62,6 +66,10 @@ sessionBytes = keyBytes + keyBytes + ivBytes
 abbrev pub channelBytes : ℕ
 channelBytes = 1 + sessionBytes
 
--- ---- the whole card (RULES 2.1): the flag of INIT and the five parts
+-- the tap record as a card holds it: how much of its room is in use, and the room
+abbrev pub wholeTapBytes : ℕ
+wholeTapBytes = 1 + tapMostBytes
+
+-- ---- the whole card (RULES 2.1): the flag of INIT and the six parts
 abbrev pub cardBytes : ℕ
-cardBytes = 1 + identityBytes + pinsBytes + pairingBytes + keysBytes + channelBytes
+cardBytes = 1 + identityBytes + pinsBytes + pairingBytes + keysBytes + channelBytes + wholeTapBytes

@@ -1,17 +1,19 @@
 -- Which cards are sound (RULES 2.3). Each line of a definition below is one rule of that list, for one part of the card; `isSound` at the
 -- end puts the parts together.
-use Prim.Native.Nat.{ℕ, _%_}
+use Prim.Native.Nat.{ℕ, _+_, _*_, _-_, _%_}
 use mathlib.Core.Bool.{Bool, _&&_, _||_, not, cond}
-use lib.ListN.{drop}
+use mathlib.Core.List.{List}
+use lib.ListN.{length, drop, getD}
 use lib.Dec.{leb, eqb}
 use Rattle.card.specs.declared.Pins.{Pins}
 use Rattle.card.specs.declared.Pairing.{Pairing}
 use Rattle.card.specs.declared.Path.{Path}
 use Rattle.card.specs.declared.Keys.{Keys}
 use Rattle.card.specs.declared.Channel.{Channel}
+use Rattle.card.specs.declared.Tap.{Tap}
 use Rattle.card.specs.declared.Card.{Card}
-use Rattle.card.specs.Sizes.{pathMostBytes}
-use Rattle.card.specs.State.{pinTries, pukTries}
+use Rattle.card.specs.Sizes.{pathMostBytes, tapMostBytes}
+use Rattle.card.specs.State.{pinTries, pukTries, tapBytes}
 use Rattle.card.specs.Slots.{allOf, someOf, isZero, allZero, isFree, slotWithin}
 
 -- a flag is 0 or 1
@@ -22,7 +24,11 @@ isFlag b = leb b 1
 abbrev pub isDigit : ℕ → Bool
 isDigit b = leb 0x30 b && leb b 0x39
 
--- ---- an initialised card, part by part (RULES 2.3, rules 1 to 8)
+-- what SET NDEF takes (RULES 6.20): 2 to 223 bytes, of which the first two, the high byte first, are the number of the others
+abbrev pub isNdef : List ℕ → Bool
+isNdef s = leb 2 (length s) && leb (length s) tapMostBytes && eqb (getD s 0 0 * 256 + getD s 1 0) (length s - 2)
+
+-- ---- an initialised card, part by part (RULES 2.3, rules 1 to 9)
 -- verified is a flag; PIN and PUK are digits; tries at most 3 and 5; verified only with 3 tries
 abbrev pub pinsSound : Pins → Bool
 pinsSound p =
@@ -60,6 +66,11 @@ sessionZero k = allZero (k .«enc_key») && allZero (k .«mac_key») && allZero 
 abbrev pub channelSound : Channel → Bool
 channelSound k = leb (k .stage) 2 && (not (isZero (k .stage)) || sessionZero k)
 
+-- the tap record: at most as many bytes as there is room for, and zero past its end; none, or what SET NDEF takes
+abbrev pub tapSound : Tap → Bool
+tapSound t =
+    leb (t .len) tapMostBytes && allZero (drop (t .len) (t .bytes)) && (isZero (t .len) || isNdef (tapBytes t))
+
 -- the parts, and the two rules that join one of them to the channel: a pending pairing only in stage 0, a verified PIN only in stage 2
 abbrev pub partsSound : Card → Bool
 partsSound c =
@@ -67,10 +78,11 @@ partsSound c =
     && pairingSound (c .pairing)
     && keysSound (c .keys)
     && channelSound (c .channel)
+    && tapSound (c .tap)
     && (isZero (c .pairing .pending) || isZero (c .channel .stage))
     && (isZero (c .pins .verified) || eqb (c .channel .stage) 2)
 
--- ---- a pre-initialised card: all but the identity is zero (RULES 2.3, rule 9)
+-- ---- a pre-initialised card: all but the identity is zero (RULES 2.3, rule 10)
 abbrev pub pinsBlank : Pins → Bool
 pinsBlank p =
     (allZero (p .pin) && allZero (p .puk))
@@ -90,8 +102,12 @@ keysBlank k = isZero (k .kind) && allZero (k .uid) && pathBlank (k .current) && 
 abbrev pub channelBlank : Channel → Bool
 channelBlank k = isZero (k .stage) && sessionZero k
 
+abbrev pub tapBlank : Tap → Bool
+tapBlank t = isZero (t .len) && allZero (t .bytes)
+
 abbrev pub partsBlank : Card → Bool
-partsBlank c = pinsBlank (c .pins) && pairingBlank (c .pairing) && keysBlank (c .keys) && channelBlank (c .channel)
+partsBlank c =
+    pinsBlank (c .pins) && pairingBlank (c .pairing) && keysBlank (c .keys) && channelBlank (c .channel) && tapBlank (c .tap)
 
 -- ---- the whole card: before INIT all else zero; after it, initialised is 1 and each part is sound
 unfoldable pub isSound : Card → Bool

@@ -4,7 +4,7 @@ use mathlib.Core.Bool.{cond}
 use mathlib.Core.List.{List, [], _∷_, _++_}
 use lib.Dec.{eqb}
 use lib.ListN.{length, take, replicate}
-use Rattle.card.specs.Sizes.{pinBytes, pukBytes, keyBytes, ivBytes, pathMostBytes}
+use Rattle.card.specs.Sizes.{pinBytes, pukBytes, keyBytes, ivBytes, pathMostBytes, tapMostBytes}
 pub use Rattle.card.specs.Sizes.{slotCount}
 use Rattle.card.specs.declared.Pins.{Pins}
 use Rattle.card.specs.declared.Slot.{Slot}
@@ -12,6 +12,7 @@ use Rattle.card.specs.declared.Pairing.{Pairing}
 use Rattle.card.specs.declared.Path.{Path}
 use Rattle.card.specs.declared.Keys.{Keys}
 use Rattle.card.specs.declared.Channel.{Channel}
+use Rattle.card.specs.declared.Tap.{Tap}
 use Rattle.card.specs.declared.Card.{Card}
 
 -- the full tries of the PIN and of the PUK (RULES 2.2)
@@ -47,6 +48,9 @@ noKeys = record { kind = 0; uid = zeros keyBytes; current = emptyPath; pinless =
 abbrev pub closedOf : Channel
 closedOf = record { stage = 0; «enc_key» = zeros keyBytes; «mac_key» = zeros keyBytes; iv = zeros ivBytes }
 
+abbrev pub noTap : Tap
+noTap = record { len = 0; bytes = zeros tapMostBytes }
+
 -- ---- a path as GET STATUS answers it and the record holds it (RULES 6.10)
 abbrev pub pathBytes : Path → List ℕ
 pathBytes p = take (p .len) (p .bytes)
@@ -54,6 +58,13 @@ pathBytes p = take (p .len) (p .bytes)
 -- the path of these bytes, as many as it has room for (RULES 6.15)
 abbrev pub pathOf : List ℕ → Path
 pathOf s = record { len = length s; bytes = s ++ zeros (pathMostBytes - length s) }
+
+-- ---- the tap record, of no bytes where there is none, and the one of these bytes, as many as it has room for (RULES 6.20)
+abbrev pub tapBytes : Tap → List ℕ
+tapBytes t = take (t .len) (t .bytes)
+
+abbrev pub tapOf : List ℕ → Tap
+tapOf s = record { len = length s; bytes = s ++ zeros (tapMostBytes - length s) }
 
 -- the key UID with a key, else nothing (RULES 9.5)
 abbrev pub keyUid : Keys → List ℕ
@@ -68,6 +79,7 @@ freshOf uid key = record {
   pairing = noPairing;
   keys = noKeys;
   channel = closedOf;
+  tap = noTap;
 }
 
 -- ---- a card with one part in the place of its own
@@ -79,6 +91,7 @@ withInitialised c flag = record {
   pairing = c .pairing;
   keys = c .keys;
   channel = c .channel;
+  tap = c .tap;
 }
 
 abbrev pub withPins : Card → Pins → Card
@@ -89,6 +102,7 @@ withPins c p = record {
   pairing = c .pairing;
   keys = c .keys;
   channel = c .channel;
+  tap = c .tap;
 }
 
 abbrev pub withPairing : Card → Pairing → Card
@@ -99,6 +113,7 @@ withPairing c p = record {
   pairing = p;
   keys = c .keys;
   channel = c .channel;
+  tap = c .tap;
 }
 
 abbrev pub withKeys : Card → Keys → Card
@@ -109,6 +124,7 @@ withKeys c k = record {
   pairing = c .pairing;
   keys = k;
   channel = c .channel;
+  tap = c .tap;
 }
 
 abbrev pub withChannel : Card → Channel → Card
@@ -119,6 +135,18 @@ withChannel c k = record {
   pairing = c .pairing;
   keys = c .keys;
   channel = k;
+  tap = c .tap;
+}
+
+abbrev pub withTap : Card → Tap → Card
+withTap c t = record {
+  initialised = c .initialised;
+  identity = c .identity;
+  pins = c .pins;
+  pairing = c .pairing;
+  keys = c .keys;
+  channel = c .channel;
+  tap = t;
 }
 
 -- the PIN not verified

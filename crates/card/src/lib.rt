@@ -19,6 +19,8 @@ pub const IV_BYTES: usize = 16;
 
 pub const PATH_MAX_BYTES: usize = 40;
 
+pub const TAP_MAX_BYTES: usize = 223;
+
 // Sizes of the parts, in bytes: of each the sum of its fields' (specs/Sizes.antt).
 pub const IDENTITY_BYTES: usize = UID_BYTES + PUBLIC_KEY_BYTES;
 
@@ -38,13 +40,16 @@ pub const SESSION_BYTES: usize = KEY_BYTES + KEY_BYTES + IV_BYTES;
 
 pub const CHANNEL_BYTES: usize = 1 + SESSION_BYTES;
 
-// The whole card: the flag of INIT and the five parts.
+pub const TAP_BYTES: usize = 1 + TAP_MAX_BYTES;
+
+// The whole card: the flag of INIT and the six parts.
 pub const CARD_BYTES: usize = 1
     + IDENTITY_BYTES
     + PINS_BYTES
     + PAIRING_BYTES
     + KEYS_BYTES
-    + CHANNEL_BYTES;
+    + CHANNEL_BYTES
+    + TAP_BYTES;
 
 // The channel's stages: closed, opened, and mutually authenticated.
 pub const STAGE_CLOSED: u8 = 0;
@@ -125,6 +130,13 @@ pub struct Channel {
     pub iv: [u8; IV_BYTES],
 }
 
+// The tap record, which a phone held to the card reads: how many bytes of it are in use, 0 for none, and the bytes.
+#[repr(C)]
+pub struct Tap {
+    pub len: u8,
+    pub bytes: [u8; TAP_MAX_BYTES],
+}
+
 // The whole card. Before INIT, initialised is 0 and all but the identity is zero.
 #[repr(C)]
 pub struct Card {
@@ -134,6 +146,7 @@ pub struct Card {
     pub pairing: Pairing,
     pub keys: Keys,
     pub channel: Channel,
+    pub tap: Tap,
 }
 
 impl Channel {
@@ -192,6 +205,10 @@ impl Card {
             pinless: empty,
         };
         let channel = Channel::closed();
+        let tap = Tap {
+            len: 0,
+            bytes: [0; TAP_MAX_BYTES],
+        };
         Card {
             initialised: 0,
             identity,
@@ -199,6 +216,7 @@ impl Card {
             pairing,
             keys,
             channel,
+            tap,
         }
     }
 

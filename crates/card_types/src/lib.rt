@@ -3,7 +3,7 @@
 // Proved: every card that code holds has it, by its type alone.
 ghost use mathlib.Core.Path.{_≡_};
 ghost use lib.ListN.{length};
-ghost use Rattle.card.specs.Sizes.{uidBytes, publicKeyBytes, pinBytes, pukBytes, keyBytes, pathMostBytes, slotCount};
+ghost use Rattle.card.specs.Sizes.{uidBytes, publicKeyBytes, pinBytes, pukBytes, keyBytes, pathMostBytes, tapMostBytes, slotCount};
 ghost use Rattle.card.specs.Shape.{KeysLong, Shaped};
 use card::Card;
 use card::Identity;
@@ -12,6 +12,7 @@ use card::Pairing;
 use card::Path;
 use card::Pins;
 use card::Slot;
+use card::Tap;
 
 // Each function gives its argument back, or counts the slots. Its contract is what the type says of it.
 fn slot_shaped(s: Slot) -> Slot
@@ -62,6 +63,12 @@ fn keys_shaped(k: Keys) -> Keys
     k
 }
 
+fn tap_shaped(t: Tap) -> Tap
+    ensures { λ _. ⌜ length (t .bytes) ≡ tapMostBytes ⌝ }
+{
+    t
+}
+
 // The card as it is.
 pub fn shaped(card: Card) -> Card
     ensures { λ _. ⌜ Shaped card ⌝ }
@@ -73,6 +80,7 @@ pub fn shaped(card: Card) -> Card
     let keys = card.keys;
     let current = keys.current;
     let pinless = keys.pinless;
+    let tap = card.tap;
     identity_shaped(identity);
     pins_shaped(pins);
     pairing_shaped(pairing);
@@ -80,5 +88,6 @@ pub fn shaped(card: Card) -> Card
     slots_shaped(slots);
     path_shaped(current);
     path_shaped(pinless);
+    tap_shaped(tap);
     card
 }

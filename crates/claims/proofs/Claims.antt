@@ -7,8 +7,10 @@ use Rattle.claims.proofs.WalkReads.{walk-reads}
 use Rattle.claims.proofs.Ciphers.{ciphers}
 use Rattle.claims.proofs.Templates.{templates}
 use Rattle.claims.proofs.Trips.{trips}
+use Rattle.claims.proofs.TapReads.{tap-reads}
 use Rattle.claims.proofs.Verified.{verified}
 use Rattle.claims.proofs.Export.{export}
+use Rattle.claims.proofs.TapRecord.{tap-record}
 use Rattle.claims.proofs.Rows.{rows}
 use Rattle.claims.proofs.RowsMet.{rows-met}
 use Rattle.claims.proofs.WrongEngines.{wrong-engines}
@@ -22,8 +24,10 @@ claims = record {
   templates = templates;
   trips = trips;
   together = together;
+  tapreads = tap-reads;
   verified = verified;
   export = export;
+  taprecord = tap-record;
   rows = rows;
   rowsmet = rows-met;
   wrongengines = wrong-engines;

@@ -11,9 +11,11 @@ pub mod WalkReads
 pub mod Ciphers
 pub mod Templates
 pub mod Trips
+pub mod TapReads
 pub mod Verified
 pub mod Elsewhere
 pub mod Exporting
 pub mod Export
+pub mod TapRecord
 pub mod Secrecy
 pub mod Claims

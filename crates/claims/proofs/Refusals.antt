@@ -18,15 +18,14 @@ use Rattle.template_walk.specs.declared.Walked.the-variants as walked
 use Rattle.template_walk.specs.Walk.{walkOf, report}
 use Rattle.card.specs.declared.Card.{Card}
 use Rattle.card.specs.Sound.{isSound}
-use Rattle.card.specs.Shape.{KeysLong, Shaped}
-use Rattle.card.specs.Sizes.{slotBytes, slotCount}
+use Rattle.card.specs.Shape.{Shaped}
 use Rattle.sound.specs.declared.Answer.{Answer}
 use Rattle.sound.specs.Reset.{resetAnswer}
-use Rattle.record_rules.specs.Parse.{fit, content, slotsFrom, cardOf}
+use Rattle.record_rules.specs.Parse.{cardOf}
 use Rattle.record_rules.specs.Forms.{forms}
 use Rattle.record_rules.specs.Answers.{writeRefusal, readAnswer}
 use Rattle.record_rules.proofs.FormFacts.{found}
-use Rattle.record_rules.proofs.ReadFacts.{read-cases, read-refuses}
+use Rattle.record_rules.proofs.ReadFacts.{card-of-shaped, read-cases, read-refuses}
 use Rattle.laws_engine.proofs.Refusals.{ask-unsound, ask-room, ask-numbers, answer-unsound, answer-room, answer-supply, answer-numbers}
 use Rattle.claims.specs.Refusals.{ResetRefuses, WriteRefuses, IsRecord, ReadRefuses, SealRefuses, WalkRefuses, Refusals}
 use Rattle.claims.proofs.Untouched.{ask-nothing, answer-nothing, write-nothing, seal-nothing}
@@ -90,34 +89,11 @@ write-refuses c room = go (isSound c) (ltb room writeRoom) refl refl
         }
 
 -- ---- READ
--- however many slots are read, their keys have their length
-slots-keyed : (n : ℕ) (x : List ℕ) → KeysLong (slotsFrom n x)
-unfolding slotsFrom
-slots-keyed zero x = tt
-slots-keyed (suc n) x = (refl, slots-keyed n (drop slotBytes x))
-
--- the card of any bytes has its shape
-read-shaped : (s : List ℕ) → Shaped (cardOf s)
-unfolding cardOf slotsFrom
-read-shaped s = record {
-  uid = refl;
-  «public_key» = refl;
-  pin = refl;
-  puk = refl;
-  secret = refl;
-  slots = refl;
-  keys = slots-keyed slotCount (fit (slotBytes * slotCount) (content s 7));
-  expected = refl;
-  keyuid = refl;
-  current = refl;
-  pinless = refl;
-}
-
 read-refusal : (s : List ℕ) → ReadRefuses s
 read-refusal s = ⊎-elim
     (λ t.
     let z : readAnswer s .refusal ≡ 0 = ap (λ (a : Answer). a .refusal) (t .0) in
-    let is : IsRecord s = (cardOf s, read-shaped s, t .1 .sound, found s (cardOf s) forms (t .1 .tested)) in
+    let is : IsRecord s = (cardOf s, card-of-shaped s, t .1 .sound, found s (cardOf s) forms (t .1 .tested)) in
     record {
       taken = (λ h. is, λ h. z);
       refused = (λ h. absurd (omega arith), λ n. absurd (n is));

@@ -178,6 +178,7 @@ channel-typed iv block verified kind = record {
     keyuid = refl;
     current = refl;
     pinless = refl;
+    tap = refl;
   };
   keyed = session-keyed iv block;
   path = bytes-replicate 40 0 (omega arith);

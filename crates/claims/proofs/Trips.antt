@@ -22,8 +22,9 @@ use Rattle.card.proofs.SoundFacts.{fresh-sound, reset-sound, reset-reset}
 use Rattle.sound.specs.declared.Answer.{Answer}
 use Rattle.refusals.specs.Refusals.{unsound}
 use Rattle.sound.specs.Reset.{refused, done, resetAnswer}
+use Rattle.record_rules.specs.Fields.{encodeAll, fieldsIn, recordOf}
 use Rattle.record_rules.specs.Answers.{writeRefusal}
-use Rattle.record_rules.proofs.ReadFacts.{read-write, write-read, one-card, read-sound, record-length}
+use Rattle.record_rules.proofs.ReadFacts.{read-record, read-write, write-read, write-of, write-renewed, read-untapped, record-untapped, one-card, read-sound, record-length}
 use Rattle.laws_engine.proofs.Sound.{answer-sound}
 use Rattle.laws_engine.proofs.Rooms.{answer-most, ask-most}
 use Rattle.laws_walk.proofs.Walking.{counts-fields, walk-encodes}
@@ -104,6 +105,13 @@ trips = record {
   records = record {
     readwrite = λ c room w h. read-write c room w h ∙ sym (reset-is c (written-sound c room h));
     writeread = write-read;
+    renewed = write-renewed;
+    current = λ c room w e r. write-of (recordOf c) room r c (read-record c w e);
+    old = λ c room w e i n r. record {
+      read = read-untapped c w e i n ∙ sym (reset-is c e);
+      written = write-of (encodeAll (fieldsIn false c)) room r c (read-untapped c w e i n) ∙ record-untapped c w e i n;
+      same = sym (record-untapped c w e i n);
+    };
     onecard = one-card;
   };
   walks = record {

@@ -7,8 +7,10 @@ use Rattle.claims.specs.WalkReads.{WalkReads}
 use Rattle.claims.specs.Ciphers.{Ciphers}
 use Rattle.claims.specs.Templates.{Templates}
 use Rattle.claims.specs.Trips.{Trips}
+use Rattle.claims.specs.TapReads.{TapReads}
 use Rattle.claims.specs.Verified.{Verified}
 use Rattle.claims.specs.Export.{Export}
+use Rattle.claims.specs.TapRecord.{TapRecord}
 use Rattle.claims.specs.Rows.{Rows}
 use Rattle.claims.specs.RowsMet.{RowsMet}
 use Rattle.claims.specs.WrongEngines.{WrongEngines}
@@ -25,10 +27,14 @@ pub record Claims : Type 0 where
   pub templates : Templates
   pub trips : Trips
   pub together : Together
+  -- the tap read (RULES 10.7)
+  pub tapreads : TapReads
   -- verification ends with the channel (RULES 6.2)
   pub verified : Verified
   -- a private key goes out of EIP-1581's subtree alone (RULES 6.19)
   pub export : Export
+  -- SET NDEF alone changes the tap record (RULES 6.20)
+  pub taprecord : TapRecord
   -- the rows to settle and that what they suppose is met (RULES 11.4); and the wrong engines that the rules shut out (RULES 11.5)
   pub rows : Rows
   pub rowsmet : RowsMet

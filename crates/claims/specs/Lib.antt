@@ -3,8 +3,10 @@ pub mod WalkReads
 pub mod Ciphers
 pub mod Templates
 pub mod Trips
+pub mod TapReads
 pub mod Verified
 pub mod Export
+pub mod TapRecord
 pub mod Rows
 pub mod RowsMet
 pub mod WrongEngines

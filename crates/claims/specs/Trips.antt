@@ -17,7 +17,7 @@ use Rattle.card.specs.State.{freshOf, resetOf}
 use Rattle.card.specs.Sound.{isSound}
 use Rattle.card.specs.Shape.{Shaped}
 use Rattle.sound.specs.Reset.{resetAnswer}
-use Rattle.record_rules.specs.Fields.{recordOf}
+use Rattle.record_rules.specs.Fields.{encodeAll, fieldsIn, recordOf}
 use Rattle.record_rules.specs.Lengths.{recordFresh, recordLeast, recordMost, writeRoom}
 use Rattle.record_rules.specs.Forms.{forms, InForm}
 use Rattle.record_rules.specs.Answers.{writeRefusal, writeBytes, readAnswer}
@@ -52,12 +52,28 @@ pub record Responses : Type 0 where
   pub example : (unsealOut zeroSession (sealedResponse zeroSession (0x90 ∷ 0x00 ∷ [])) 223 .refusal ≡ 0)
       × (unsealOut zeroSession (oldResponse zeroSession (0x90 ∷ 0x00 ∷ [])) 223 .refusal ≡ 7)
 
--- ---- the stored record (RULES 10.5): READ of WRITE is RESET, WRITE of READ is the record, and no bytes are, in the forms that READ takes, the
+-- ---- the stored record (RULES 10.5): READ of WRITE is RESET; what READ takes is written as it was or with an empty field 34 at its end, namely as
+-- its form is renewed: in the current form byte for byte, in the old form with that field; and no bytes are, in the forms that READ takes, the
 -- records of two cards that RESET leaves different
+abbrev pub emptyField34 : List ℕ
+emptyField34 = 0x34 ∷ 0 ∷ 0 ∷ []
+
+-- the old form of a card's record: READ gives the card that it gives for the current form, and WRITE writes the current form, which is the old
+-- one with an empty field 34 at its end
+pub record OldForm (c : Card) (room : ℕ) : Type 0 where
+  pub read : readAnswer (encodeAll (fieldsIn false c)) ≡ resetAnswer c
+  pub written : writeBytes (readAnswer (encodeAll (fieldsIn false c)) .card) room ≡ encodeAll (fieldsIn false c) ++ emptyField34
+  pub same : encodeAll (fieldsIn false c) ++ emptyField34 ≡ recordOf c
+
 pub record Records : Type 0 where
   pub readwrite : (c : Card) (room : ℕ) → Shaped c → writeRefusal c room ≡ 0 → readAnswer (writeBytes c room) ≡ resetAnswer c
-  pub writeread : (s : List ℕ) (room : ℕ) → readAnswer s .refusal ≡ 0 → writeRoom ≤ room
-      → (writeRefusal (readAnswer s .card) room ≡ 0) × (writeBytes (readAnswer s .card) room ≡ s)
+  pub writeread : (s : List ℕ) (room : ℕ) → writeRoom ≤ room → readAnswer s .refusal ≡ 0
+      → (writeRefusal (readAnswer s .card) room ≡ 0)
+      × ((writeBytes (readAnswer s .card) room ≡ s) ⊎ (writeBytes (readAnswer s .card) room ≡ s ++ emptyField34))
+  pub renewed : (s : List ℕ) (room : ℕ) → writeRoom ≤ room → (c : Card) → Shaped c → isSound c ≡ true → (r : InForm s c forms)
+      → writeBytes (readAnswer s .card) room ≡ r .form .renewed s
+  pub current : (c : Card) (room : ℕ) → Shaped c → isSound c ≡ true → writeRoom ≤ room → writeBytes (readAnswer (recordOf c) .card) room ≡ recordOf c
+  pub old : (c : Card) (room : ℕ) → Shaped c → isSound c ≡ true → c .initialised ≡ 1 → c .tap .len ≡ 0 → writeRoom ≤ room → OldForm c room
   pub onecard : (s : List ℕ) (c d : Card) → Shaped c → Shaped d → isSound c ≡ true → isSound d ≡ true → InForm s c forms → InForm s d forms
       → resetOf c ≡ resetOf d
 

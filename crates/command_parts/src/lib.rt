@@ -7,7 +7,7 @@ ghost use mathlib.Core.List.{[], _++_};
 ghost use Prim.Native.Nat.{_+_, _≤_};
 ghost use lib.ListN.{length};
 ghost use Rattle.template_rules.specs.Writing.{Wrote};
-ghost use Rattle.card.specs.State.{withPins, withPairing, withKeys, withChannel};
+ghost use Rattle.card.specs.State.{withPins, withPairing, withKeys, withChannel, withTap};
 ghost use Rattle.rules.specs.declared.Verdict.the-variants.{Reads, Fails};
 ghost use Rattle.rules.specs.Words.{success, triesLeft, succeeds, fails};
 ghost use Rattle.rules.specs.Code.{repliedOf};
@@ -22,6 +22,7 @@ use card::PIN_BYTES;
 use card::PUK_BYTES;
 use card::Pairing;
 use card::Pins;
+use card::Tap;
 use rules::Replied;
 use rules::SUCCESS;
 use rules::Supply;
@@ -151,6 +152,13 @@ pub fn with_channel(mut card: Card, channel: Channel) -> Card
     ensures { λ r. ⌜ r ≡ withChannel card channel ⌝ }
 {
     card.channel = channel;
+    card
+}
+
+pub fn with_tap(mut card: Card, tap: Tap) -> Card
+    ensures { λ r. ⌜ r ≡ withTap card tap ⌝ }
+{
+    card.tap = tap;
     card
 }
 

@@ -45,6 +45,7 @@ pub fn judge(card: Card, k: Command, data: &[u8]) -> Verdict
         Command::Export(which, what) => {
             command_export::export_verdict(pins, keys, which, what, data)
         }
+        Command::SetNdef => command_ndef::ndef_verdict(pins, data),
     }
 }
 
@@ -74,5 +75,6 @@ pub fn act(card: Card, k: Command, data: &[u8], supply: &[u8], out: &mut [u8]) -
         Command::Export(which, what) => {
             command_export::export(card, which, what, data, supply, out)
         }
+        Command::SetNdef => command_ndef::ndef(card, data),
     }
 }

@@ -57,6 +57,7 @@ setBy command.Remove = []
 setBy command.SetPinless = []
 setBy command.Sign = []
 setBy (command.Export which what) = []
+setBy command.SetNdef = []
 
 abbrev pub isAmong : Secret → List Secret → Bool
 isAmong s [] = false

@@ -19,6 +19,7 @@ use Rattle.card.specs.Slots.{allOf, someOf, isZero, allZero, isFree, slotWithin
 use Rattle.card.specs.Sound.{isDigit, pinsSound, pairingSound, keysSound, pairingBlank, keysBlank}
 use Rattle.card.specs.Shape.{KeysLong}
 use Rattle.card.proofs.Tests.{both, all-mono}
+use Rattle.card.proofs.Zeros.{zeros-zero}
 use Rattle.card.proofs.Rules.{PinsRules, pins-rules, PairingRules, pairing-rules, PathRules, KeysRules, keys-rules, keys-blank}
 use Rattle.rules.specs.declared.KeyForm.{KeyForm}
 use Rattle.rules.specs.declared.KeyForm.the-variants as key
@@ -132,11 +133,6 @@ module _ (p : Pairing) (e : pairingSound p ≡ true) where
       record { slots = r .slots; flag = r .flag; room = r .room; unused = r .unused }
 
 -- ---- paths
-zeros-zero : (n : ℕ) → allZero (zeros n) ≡ true
-unfolding allOf
-zeros-zero zero = refl
-zeros-zero (suc n) = zeros-zero n
-
 empty-rules : PathRules emptyPath
 unfolding allOf
 empty-rules = record { most = refl; whole = refl; unused = refl }

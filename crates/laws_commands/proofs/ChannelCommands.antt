@@ -18,6 +18,7 @@ use Rattle.card.specs.Sound.{isSound, isDigit, sessionZero}
 use Rattle.card.specs.Shape.{Shaped}
 use Rattle.card.proofs.Tests.{both}
 use Rattle.card.proofs.Rules.{After, PartsRules, parts-rules, parts-sound, blank-rules, pins-sound, sound-after}
+use Rattle.card.proofs.TapFacts.{tap-blank-sound}
 use Rattle.card_slots.specs.declared.Free.{Free}
 use Rattle.card_slots.specs.declared.Free.the-variants as free
 use Rattle.card_slots.specs.Free.{firstFree}
@@ -100,6 +101,7 @@ module _ (g c : Card) (f : Fit g c) (n : isInitialised c ≡ false) where
             pairing = pairing-sound (k .pairing) (blank-pairing-rules (c .pairing) (part 18 32 x) (r .pairing));
             keys = keys-sound (c .keys) (blank-keys-rules (c .keys) (r .keys));
             channel = channel-blank c (f .sound);
+            tap = tap-blank-sound (c .tap) (r .tap);
             pending = rw (blank-pending (c .pairing) (r .pairing));
             verified = refl;
           });
@@ -116,6 +118,7 @@ module _ (g c : Card) (f : Fit g c) (n : isInitialised c ≡ false) where
           keyuid = f .shaped w .keyuid;
           current = f .shaped w .current;
           pinless = f .shaped w .pinless;
+          tap = f .shaped w .tap;
         };
       }
 

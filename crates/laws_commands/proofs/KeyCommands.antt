@@ -1,4 +1,4 @@
--- LOAD, DERIVE, REMOVE, SET PIN-LESS PATH, SIGN and EXPORT are lawful.
+-- LOAD, DERIVE, REMOVE, SET PIN-LESS PATH, SIGN, EXPORT and SET NDEF are lawful.
 -- Assumes nothing.
 use mathlib.Core.Path.{_≡_, refl}
 use mathlib.Core.Bool.{Bool, true, false, _||_, cond, false≢true}
@@ -14,9 +14,10 @@ use Rattle.template_rules.proofs.HeadFacts.{by-test}
 use Rattle.template_answers.proofs.AnswerFacts.{signature-length-le, exported-public-length-le, exported-pair-length-le}
 use Rattle.card.specs.declared.Keys.{Keys}
 use Rattle.card.specs.declared.Card.{Card}
-use Rattle.card.specs.State.{zeros, noKeys, pathOf, withKeys}
+use Rattle.card.specs.State.{zeros, noKeys, pathOf, tapOf, withKeys}
 use Rattle.card.proofs.Tests.{both}
 use Rattle.card.proofs.Rules.{After, PartsRules, parts-rules}
+use Rattle.card.proofs.TapFacts.{tap-of-sound, tap-of-length}
 use Rattle.rules.specs.declared.Instruction.the-variants as ins
 use Rattle.rules.specs.declared.KeyForm.{KeyForm}
 use Rattle.rules.specs.declared.ExportPath.{ExportPath}
@@ -26,11 +27,11 @@ use Rattle.rules.specs.declared.ExportPart.the-variants as exportPart
 use Rattle.rules.specs.declared.Command.the-variants as command
 use Rattle.rules.specs.Words.{success, referenceInvalid, wrongData, Hold, Reply, succeeds, fails}
 use Rattle.rules.specs.Supplies.{loadSupply, suits, saysYes, loadUid, signKey, signR, signS, exportPublic, exportPrivate}
-use Rattle.rules.specs.Commands.{isVerified, isSet, isPath, kindOf, keyWith, loadChecks, loadReply, withCurrent, deriveChecks, deriveReply, removeChecks, removeReply, withPinless, pinlessChecks, pinlessReply, signChecks, signReply, isExportData, exportChecks, exportedKeys, keysAfterExport, exportReply, ruleOf}
+use Rattle.rules.specs.Commands.{isVerified, isSet, isPath, kindOf, keyWith, loadChecks, loadReply, withCurrent, deriveChecks, deriveReply, removeChecks, removeReply, withPinless, pinlessChecks, pinlessReply, signChecks, signReply, isExportData, exportChecks, exportedKeys, keysAfterExport, exportReply, ndefChecks, ndefReply, ruleOf}
 use Rattle.rules.specs.Rows.{rowOf}
 use Rattle.rules.specs.Steps.{isInitialised}
 use Rattle.laws_commands.proofs.Checks.{never, open-two, suited, part-length, part-most}
-use Rattle.laws_commands.proofs.Parts.{after-init, keys-kept, keys-shaped}
+use Rattle.laws_commands.proofs.Parts.{after-init, keys-kept, keys-shaped, tap-kept, tap-shaped}
 use Rattle.laws_commands.proofs.Changed.{loaded-rules, removed-rules, derived-rules, pinless-rules, path-of-bytes}
 use Rattle.laws_commands.proofs.Erasure.{cond-same}
 use Rattle.laws_commands.specs.Lawful.{Fit, eraseReply, Verifies, Plain, Lawful}
@@ -129,6 +130,13 @@ module _ (g c : Card) (f : Fit g c) (i : isInitialised c ≡ true) where
         shaped = λ w.
             keys-shaped c (f .shaped w) (withPinless (c .keys) (pathOf d)) (f .shaped w .keyuid) (f .shaped w .current) (path-of-bytes d h);
       }
+
+  ndef-fit : (d : List ℕ) → Hold (ndefChecks (c .pins) d) → Fits (ndefReply c d)
+  unfolding ndefReply ndefChecks
+  ndef-fit d v = record {
+    sound = tap-kept c after′ (tapOf d) (tap-of-sound d (v .1 .0));
+    shaped = λ w. tap-shaped c (f .shaped w) (tapOf d) (tap-of-length d (v .1 .0));
+  }
 
 -- ---- LOAD
 pub load-lawful : (form : KeyForm) → Lawful ins.Load (command.Load form)
@@ -274,6 +282,27 @@ export-lawful which what = record {
     texts = λ c d s t p h. flag-plain c _ _ s _ (exported-bytes what s h) (omega arith);
     words = λ c d. (omega arith, (omega arith, (omega arith, tt)));
     path = λ c d s h p. flag-path c _ _ s _ (exported-path which (c .keys) d h p) p;
+  };
+  fresh = λ e. absurd (false≢true e);
+}
+
+-- ---- SET NDEF
+pub ndef-lawful : Lawful ins.SetNdef command.SetNdef
+unfolding ruleOf ndefReply ndefChecks
+ndef-lawful = record {
+  keeps = λ g c d s f r v u. ndef-fit g c f (r .offer) d v;
+  short = λ c d s h. nothing;
+  unread = λ c d s t e. refl;
+  unflagged = λ c d s t f. absurd (false≢true f);
+  checksblind = λ p q c d. refl;
+  replyblind = λ p q b c d s. refl;
+  compares = λ x e. never x e;
+  verifies = λ b c d s e o v t. (open-two (c .channel .stage) t, refl);
+  over = λ _. record {
+    channel = λ c d s h v. refl;
+    texts = λ c d s t p h. bare success (omega arith);
+    words = λ c d. (omega arith, (omega arith, tt));
+    path = λ c d s h p. p;
   };
   fresh = λ e. absurd (false≢true e);
 }

@@ -13,12 +13,15 @@ use Rattle.card.specs.declared.Pairing.{Pairing}
 use Rattle.card.specs.declared.Path.{Path}
 use Rattle.card.specs.declared.Keys.{Keys}
 use Rattle.card.specs.declared.Channel.{Channel}
+use Rattle.card.specs.declared.Tap.{Tap}
 use Rattle.card.specs.declared.Card.{Card}
-use Rattle.card.specs.State.{slotCount, withPins, withPairing, withKeys, withChannel, closed, forgotten, unverified, notPending, closedOf}
+use Rattle.card.specs.Sizes.{tapMostBytes}
+use Rattle.card.specs.State.{slotCount, withPins, withPairing, withKeys, withChannel, withTap, closed, forgotten, unverified, notPending, closedOf}
 use Rattle.card.specs.Slots.{allOf, isZero, allZero, slotWithin}
-use Rattle.card.specs.Sound.{isSound, pinsSound, pairingSound, pathSound, keysSound, channelSound, sessionZero, pinsBlank, pairingBlank}
+use Rattle.card.specs.Sound.{isSound, pinsSound, pairingSound, pathSound, keysSound, channelSound, sessionZero, tapSound, pinsBlank, pairingBlank}
 use Rattle.card.specs.Shape.{KeysLong, Shaped}
 use Rattle.card.proofs.Tests.{both}
+pub use Rattle.card.proofs.Tests.{or-right}
 use Rattle.card.proofs.Rules.{PinsRules, pins-rules, pins-sound, PairingRules, pairing-rules, PathRules, KeysRules, parts-rules, parts-sound, blank-rules, parts-blank, Before, After, sound-cases, sound-before, sound-after}
 use Rattle.rules.specs.Steps.{isInitialised}
 use Rattle.laws_commands.specs.Lawful.{Fit}
@@ -71,6 +74,7 @@ module _ (c : Card) (a : After c) where
           pairing = r .pairing;
           keys = r .keys;
           channel = r .channel;
+          tap = r .tap;
           pending = r .pending;
           verified = v;
         });
@@ -87,6 +91,7 @@ module _ (c : Card) (a : After c) where
           pairing = pairing-sound p h;
           keys = r .keys;
           channel = r .channel;
+          tap = r .tap;
           pending = t;
           verified = r .verified;
         });
@@ -102,6 +107,7 @@ module _ (c : Card) (a : After c) where
           pairing = r .pairing;
           keys = keys-sound k h;
           channel = r .channel;
+          tap = r .tap;
           pending = r .pending;
           verified = r .verified;
         });
@@ -118,8 +124,25 @@ module _ (c : Card) (a : After c) where
           pairing = r .pairing;
           keys = r .keys;
           channel = h;
+          tap = r .tap;
           pending = t;
           verified = v;
+        });
+      })
+
+  pub tap-kept : (t : Tap) → tapSound t ≡ true → isSound (withTap c t) ≡ true
+  tap-kept t h =
+      let r = parts-rules c (a .parts) in
+      sound-after (withTap c t) (record {
+        flag = a .flag;
+        parts = parts-sound (withTap c t) (record {
+          pins = r .pins;
+          pairing = r .pairing;
+          keys = r .keys;
+          channel = r .channel;
+          tap = h;
+          pending = r .pending;
+          verified = r .verified;
         });
       })
 
@@ -130,10 +153,6 @@ stage-two c e l =
     omega (arith, leb-true 2 (c .channel .stage) l)
 
 -- a test that may be left out
-pub or-right : (a b : Bool) → b ≡ true → (a || b) ≡ true
-or-right true b e = refl
-or-right false b e = e
-
 pub or-map : (a b d : Bool) → (b ≡ true → d ≡ true) → (a || b) ≡ true → (a || d) ≡ true
 or-map true b d f e = refl
 or-map false b d f e = f e
@@ -160,6 +179,7 @@ unverified-sound c e = ⊎-elim
         pairing = r .pairing;
         keys = r .keys;
         channel = r .channel;
+        tap = r .tap;
       });
     }))
     (λ a. pins-kept c a (unverified (c .pins)) (unverified-rules (c .pins) (parts-rules c (a .parts) .pins)) refl)
@@ -173,7 +193,7 @@ closing-sound c e v = ⊎-elim
     let r = blank-rules c (b .blank) in
     sound-before (withChannel c closedOf) (record {
       flag = b .flag;
-      blank = parts-blank (withChannel c closedOf) (record { pins = r .pins; pairing = r .pairing; keys = r .keys; channel = refl });
+      blank = parts-blank (withChannel c closedOf) (record { pins = r .pins; pairing = r .pairing; keys = r .keys; channel = refl; tap = r .tap });
     }))
     (λ a. channel-kept c a closedOf refl (or-right (isZero (c .pairing .pending)) true refl) (rw v))
     (sound-cases c e)
@@ -205,6 +225,7 @@ forgotten-sound c e = ⊎-elim
         pairing = forgotten-blank (c .pairing) (r .pairing);
         keys = r .keys;
         channel = r .channel;
+        tap = r .tap;
       });
     }))
     (λ a. pairing-kept c a (notPending (c .pairing)) (forgotten-rules (c .pairing) (parts-rules c (a .parts) .pairing)) refl)
@@ -225,6 +246,7 @@ module _ (c : Card) (h : Shaped c) where
     keyuid = h .keyuid;
     current = h .current;
     pinless = h .pinless;
+    tap = h .tap;
   }
 
   pub pairing-shaped : (p : Pairing) → length (p .secret) ≡ 32 → length (p .slots) ≡ slotCount → KeysLong (p .slots)
@@ -241,6 +263,7 @@ module _ (c : Card) (h : Shaped c) where
     keyuid = h .keyuid;
     current = h .current;
     pinless = h .pinless;
+    tap = h .tap;
   }
 
   pub keys-shaped : (k : Keys) → length (k .uid) ≡ 32 → length (k .current .bytes) ≡ 40 → length (k .pinless .bytes) ≡ 40
@@ -257,6 +280,7 @@ module _ (c : Card) (h : Shaped c) where
     keyuid = a;
     current = b;
     pinless = d;
+    tap = h .tap;
   }
 
   pub channel-shaped : (k : Channel) → Shaped (withChannel c k)
@@ -272,6 +296,23 @@ module _ (c : Card) (h : Shaped c) where
     keyuid = h .keyuid;
     current = h .current;
     pinless = h .pinless;
+    tap = h .tap;
+  }
+
+  pub tap-shaped : (t : Tap) → length (t .bytes) ≡ tapMostBytes → Shaped (withTap c t)
+  tap-shaped t a = record {
+    uid = h .uid;
+    «public_key» = h .«public_key»;
+    pin = h .pin;
+    puk = h .puk;
+    secret = h .secret;
+    slots = h .slots;
+    keys = h .keys;
+    expected = h .expected;
+    keyuid = h .keyuid;
+    current = h .current;
+    pinless = h .pinless;
+    tap = a;
   }
 
   pub forgotten-shaped : Shaped (forgotten c)

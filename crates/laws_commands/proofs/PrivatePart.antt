@@ -68,3 +68,4 @@ module _ (c : Card) (d s t : List ℕ) (l : length s ≡ 98) (m : length t ≡ 9
   unless-private command.Sign p = other command.Sign refl refl
   unless-private (command.Export which exportPart.PrivateAndPublic) p = absurd (p which refl)
   unless-private (command.Export which exportPart.PublicOnly) p = (rw (flag-same, l, m), λ h. rw (flag-same, public-same))
+  unless-private command.SetNdef p = (refl, λ h. refl)

@@ -28,7 +28,7 @@ use Rattle.rules.specs.Steps.{nameOf, inStage}
 use Rattle.laws_commands.specs.Lawful.{Lawful, Each, LawfulRow}
 use Rattle.laws_commands.proofs.ChannelCommands.{select-lawful, init-lawful, open-lawful, mutual-lawful, pair-first-lawful, pair-final-lawful, unpair-lawful}
 use Rattle.laws_commands.proofs.PinCommands.{status-lawful, verify-lawful, change-lawful, unblock-lawful}
-use Rattle.laws_commands.proofs.KeyCommands.{load-lawful, derive-lawful, remove-lawful, pinless-lawful, sign-lawful, export-lawful}
+use Rattle.laws_commands.proofs.KeyCommands.{load-lawful, derive-lawful, remove-lawful, pinless-lawful, sign-lawful, export-lawful, ndef-lawful}
 
 -- ---- what holds of each command that is listed holds of the one that P1 and P2 name
 module _ (P : Command → Type 0) where
@@ -88,6 +88,7 @@ row-lawful ins.Remove = sealed-row ins.Remove refl refl refl (one-of (Lawful ins
 row-lawful ins.SetPinless = sealed-row ins.SetPinless refl refl refl (one-of (Lawful ins.SetPinless) ((0x00, command.SetPinless) ∷ []) (pinless-lawful, tt))
 row-lawful ins.Sign = sealed-row ins.Sign refl refl refl (one-of (Lawful ins.Sign) ((0x00, command.Sign) ∷ []) (sign-lawful, tt))
 row-lawful ins.Export = sealed-row ins.Export refl refl refl (one-of-each (Lawful ins.Export) (exports exportPart.PrivateAndPublic) (exports exportPart.PublicOnly) (exports-lawful exportPart.PrivateAndPublic) (exports-lawful exportPart.PublicOnly))
+row-lawful ins.SetNdef = sealed-row ins.SetNdef refl refl refl (one-of (Lawful ins.SetNdef) ((0x00, command.SetNdef) ∷ []) (ndef-lawful, tt))
 
 pub lawful : (i : Instruction) (p1 p2 : ℕ) (k : Command) → rowOf i .lists p1 p2 ≡ some k → Lawful i k
 lawful i p1 p2 k e = subst (Each (Lawful i)) e (row-lawful i .lists p1 p2)
@@ -120,6 +121,7 @@ only command.Remove = tt
 only command.SetPinless = tt
 only command.Sign = tt
 only (command.Export which what) = tt
+only command.SetNdef = tt
 
 pub only-compares : (k : Command) (s : Secret) → ruleOf k .compares ≡ some s → k ≡ commandOf s
 only-compares k s e = subst (Only k) e (only k)

@@ -3,3 +3,4 @@ pub mod Refusals
 pub mod Agreement
 pub mod Lengths
 pub mod Rooms
+pub mod Tapped

@@ -177,4 +177,5 @@ reset-shaped c h = record {
   keyuid = h .keyuid;
   current = h .current;
   pinless = h .pinless;
+  tap = h .tap;
 }

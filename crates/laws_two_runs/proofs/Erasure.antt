@@ -15,7 +15,7 @@ use Rattle.laws_two_runs.specs.Runs.{Agree}
 
 -- ---- Agree
 pub agree-erase : (c d : Card) → Agree c d → erase c ≡ erase d
-agree-erase c d a = cc (a .initialised, a .identity, a .pintries, a .puktries, a .verified, a .pairing, a .keys, a .channel)
+agree-erase c d a = cc (a .initialised, a .identity, a .pintries, a .puktries, a .verified, a .pairing, a .keys, a .channel, a .tap)
 
 pub erase-agree : (c d : Card) → erase c ≡ erase d → Agree c d
 erase-agree c d e = record {
@@ -27,6 +27,7 @@ erase-agree c d e = record {
   pairing = ap (λ (x : Card). x .pairing) e;
   keys = ap (λ (x : Card). x .keys) e;
   channel = ap (λ (x : Card). x .channel) e;
+  tap = ap (λ (x : Card). x .tap) e;
 }
 
 -- the second of two cards that agree is the first with another PIN and PUK

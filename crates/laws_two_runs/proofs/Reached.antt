@@ -25,7 +25,7 @@ use Rattle.channel_rules.proofs.Fields.{length-ciphertext, decrypted}
 use Rattle.channel_rules.proofs.Trips.{command-opens, command-sessions, command-keyed, response-keyed}
 use Rattle.card.specs.declared.Keys.{Keys}
 use Rattle.card.specs.declared.Card.{Card}
-use Rattle.card.specs.State.{zeros, freshOf, noKeys, withPairing, withChannel}
+use Rattle.card.specs.State.{zeros, freshOf, noKeys, noTap, withPairing, withChannel}
 use Rattle.card.specs.Slots.{allOf, someOf}
 use Rattle.card.specs.Sound.{isSound}
 use Rattle.card_slots.specs.Free.{firstFree}
@@ -202,6 +202,7 @@ inChannel n iv verified keys = record {
   pairing = pairedCard .pairing;
   keys = keys;
   channel = record { stage = n; «enc_key» = zeros 32; «mac_key» = zeros 32; iv = iv };
+  tap = noTap;
 }
 
 stage1-is : stage1Card ≡ inChannel 1 (zeros 16) 0 noKeys

@@ -105,6 +105,7 @@ pub record Agree (c d : Card) : Type 0 where
   pub pairing : c .pairing ≡ d .pairing
   pub keys : c .keys ≡ d .keys
   pub channel : c .channel ≡ d .channel
+  pub tap : c .tap ≡ d .tap
 
 -- ---- wherever both runs make a comparison at the same call, it comes out right in both or wrong in both
 abbrev pub OutAlike : Option Comparison → Option Comparison → Type 0

@@ -7,18 +7,40 @@ ghost use lib.ListN.{length};
 ghost use Rattle.card.specs.State.{freshOf};
 ghost use Rattle.card.specs.Sound.{isSound};
 ghost use Rattle.record_write.specs.Wrote.{WroteRecord};
+ghost use Rattle.record_tap.specs.Tap.{tapPlace};
 ghost use Rattle.channel_rules.specs.Terminal.{sealOut};
 ghost use Rattle.channel_terminal.specs.Did.{Did};
 ghost use Rattle.library_calls.specs.Left.{writtenOf};
+ghost use Rattle.library_calls.specs.Tapped.{tappedOf};
 use card::Card;
 use channel_rules::Session;
 use channel_terminal::Outcome;
+use record_tap::TapPlace;
+use refusals::REFUSAL_NONE;
+use refusals::REFUSAL_NOT_RECORD;
+
+// Which of two slices the tap record is in: none, since the stored record is refused; the stored record; or the factory record.
+pub const TAP_NONE: u8 = 0;
+
+pub const TAP_RECORD: u8 = 1;
+
+pub const TAP_FACTORY: u8 = 2;
 
 // What an operation reports: the refusal's number, or 0 for none, and how many bytes it wrote from the buffer's start (WALK: fields).
 #[repr(C)]
 pub struct Counted {
     pub refusal: u8,
     pub count: usize,
+}
+
+// What the tap read reports: the refusal's number, or 0 for none; which slice, as TAP_..; and where the part begins in it and how long it is,
+// in bytes.
+#[repr(C)]
+pub struct Tapped {
+    pub refusal: u8,
+    pub source: u8,
+    pub offset: usize,
+    pub length: usize,
 }
 
 // FRESH by value.
@@ -43,6 +65,32 @@ pub fn written(card: Card, buf: &mut [u8]) -> Counted
     let refusal = told.refusal;
     let count = told.count;
     Counted { refusal, count }
+}
+
+// The tap read, of a factory record of this many bytes.
+pub fn tap_part(stored: &[u8], factory_bytes: usize) -> Tapped
+    ensures { λ r. ⌜ r ≡ tappedOf (tapPlace (now (stored .entry))) «factory_bytes» ⌝ }
+{
+    match record_tap::tap_place(stored) {
+        TapPlace::Nowhere => Tapped {
+            refusal: REFUSAL_NOT_RECORD,
+            source: TAP_NONE,
+            offset: 0,
+            length: 0,
+        },
+        TapPlace::Own { start, count } => Tapped {
+            refusal: REFUSAL_NONE,
+            source: TAP_RECORD,
+            offset: start,
+            length: count,
+        },
+        TapPlace::Factory => Tapped {
+            refusal: REFUSAL_NONE,
+            source: TAP_FACTORY,
+            offset: 0,
+            length: factory_bytes,
+        },
+    }
 }
 
 // SEAL by value, of a header by value.

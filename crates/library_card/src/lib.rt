@@ -1,4 +1,4 @@
-// FRESH, soundness, RESET, WRITE and READ for callers in C and Rust (RULES 3.8; include/treadlewisp.h). The card is lent, and changed where
+// FRESH, soundness, RESET, WRITE, READ and the tap read for callers in C and Rust (RULES 3.8; include/treadlewisp.h). The card is lent, and changed where
 // it lies.
 // Every length, room and count is in bytes; a refusal 0 means that there was none.
 // Proved: the promises of the operations by value, over the record at entry and at exit; refused, it is as it was (READ: FRESH of zeros).
@@ -10,8 +10,12 @@ ghost use Rattle.sound.specs.Reset.{resetAnswer};
 ghost use Rattle.record_rules.specs.Answers.{readAnswer};
 ghost use Rattle.record_write.specs.Wrote.{WroteRecord};
 ghost use Rattle.library_calls.specs.Left.{answerOf, writtenOf};
+ghost use Rattle.record_tap.specs.Tap.{tapPlace};
+ghost use Rattle.library_calls.specs.Tapped.{tappedOf};
+ghost use lib.ListN.{length};
 use card::Card;
 use library_calls::Counted;
+use library_calls::Tapped;
 
 // FRESH: the card of a new device. What the record held before is not read.
 #[no_mangle]
@@ -59,4 +63,12 @@ pub extern "C" fn tw_read(card: &mut Card, stored: &[u8]) -> u8
     let told = record_read::read(stored);
     *card = told.card;
     told.refusal
+}
+
+// The tap read: both slices are only read, and of the factory record only the length.
+#[no_mangle]
+pub extern "C" fn tw_tap(stored: &[u8], factory: &[u8]) -> Tapped
+    ensures { λ r. ⌜ r ≡ tappedOf (tapPlace (now (stored .entry))) (length (now (factory .entry))) ⌝ }
+{
+    library_calls::tap_part(stored, factory.len())
 }

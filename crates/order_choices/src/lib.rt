@@ -156,5 +156,6 @@ pub fn choose(i: Instruction, p1: u8, p2: u8) -> Choice
         Instruction::SetPinless => only(0x00, Command::SetPinless, p1, p2),
         Instruction::Sign => only(0x00, Command::Sign, p1, p2),
         Instruction::Export => export(p1, p2),
+        Instruction::SetNdef => only(0x00, Command::SetNdef, p1, p2),
     }
 }

@@ -19,6 +19,7 @@ use rules::INS_OPEN;
 use rules::INS_PAIR;
 use rules::INS_REMOVE;
 use rules::INS_SELECT;
+use rules::INS_SET_NDEF;
 use rules::INS_SET_PINLESS;
 use rules::INS_SIGN;
 use rules::INS_STATUS;
@@ -50,6 +51,7 @@ fn of_class_80(ins: u8) -> Named
         INS_SET_PINLESS => Named::Known(Instruction::SetPinless),
         INS_SIGN => Named::Known(Instruction::Sign),
         INS_EXPORT => Named::Known(Instruction::Export),
+        INS_SET_NDEF => Named::Known(Instruction::SetNdef),
         _ => Named::Unknown,
     }
 }
@@ -89,6 +91,7 @@ fn offer_of(i: Instruction) -> Offer
         Instruction::SetPinless => Offer::AfterInit,
         Instruction::Sign => Offer::AfterInit,
         Instruction::Export => Offer::AfterInit,
+        Instruction::SetNdef => Offer::AfterInit,
     }
 }
 
@@ -142,6 +145,7 @@ pub fn stage_of(i: Instruction) -> u8
         Instruction::SetPinless => STAGE_AUTHENTICATED,
         Instruction::Sign => STAGE_AUTHENTICATED,
         Instruction::Export => STAGE_AUTHENTICATED,
+        Instruction::SetNdef => STAGE_AUTHENTICATED,
     }
 }
 
@@ -166,5 +170,6 @@ pub fn loss_of(i: Instruction) -> Loss
         Instruction::SetPinless => Loss::Nothing,
         Instruction::Sign => Loss::Nothing,
         Instruction::Export => Loss::Nothing,
+        Instruction::SetNdef => Loss::Nothing,
     }
 }

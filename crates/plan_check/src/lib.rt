@@ -1,4 +1,4 @@
-// The check of job sheets (RULES 6.20): whether the commands of a plan, one after the other on a card, all give 9000 and leave both paths as
+// The check of job sheets (RULES 6.21): whether the commands of a plan, one after the other on a card, all give 9000 and leave both paths as
 // asked. Every length and place is in bytes; a plan's limit is in commands.
 // Proved: the answer is the definition's, for every card, every plan and all asked paths; nothing is required. PIN and PUK are read for
 // soundness alone.

@@ -9,7 +9,7 @@ use Rattle.template_rules.specs.Writing.{Wrote}
 use Rattle.card.specs.declared.Card.{Card}
 use Rattle.card.specs.State.{zeros}
 use Rattle.card.proofs.Tests.{both}
-use Rattle.command_paths.proofs.PathFacts.{zeros-left}
+use Rattle.card.proofs.Zeros.{zeros-left}
 use Rattle.plan_rules.specs.declared.Planned.{Planned}
 use Rattle.plan_rules.specs.Plan.{accepts, planRefusal, Plans}
 use Rattle.plan_make.specs.declared.Needs.{Needs}

@@ -1,4 +1,4 @@
-// The planner of job sheets (RULES 6.20): from a card, a PIN and the two paths asked for, a plan with no command that is not needed.
+// The planner of job sheets (RULES 6.21): from a card, a PIN and the two paths asked for, a plan with no command that is not needed.
 // Every length and place is in bytes.
 // Proved: it refuses exactly where the definition does; otherwise the check accepts the plan, for every card, PIN and paths. Nothing is
 // required.

@@ -1,4 +1,4 @@
--- Job sheets (RULES 6.20): what a plan of opened commands does on a card, which plans the check accepts, and when the planner refuses. Each
+-- Job sheets (RULES 6.21): what a plan of opened commands does on a card, which plans the check accepts, and when the planner refuses. Each
 -- command of a plan is judged and answered by its own rule (crate `rules`). Every length is in bytes.
 use Prim.Native.Nat.{ℕ, zero, suc, _+_, _-_, _≤_}
 use mathlib.Core.Path.{_≡_}

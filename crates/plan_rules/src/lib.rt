@@ -1,4 +1,4 @@
-// Job sheets (RULES 6.20): what a plan of opened commands does on a card, which plans are accepted, and when the planner refuses.
+// Job sheets (RULES 6.21): what a plan of opened commands does on a card, which plans are accepted, and when the planner refuses.
 // Every length and count of bytes is in bytes; a plan's limit is in commands. The definitions are in specs/, the types and constants here.
 // Proved: whether a plan is accepted does not depend on PIN and PUK, nor on anything else but the flag of INIT, the PIN's tries,
 // verification and the keys.

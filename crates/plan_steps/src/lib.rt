@@ -1,4 +1,4 @@
-// The steps of the check of job sheets (RULES 6.20): VERIFY, SET PIN-LESS PATH and DERIVE on the parts of a card that a plan can change,
+// The steps of the check of job sheets (RULES 6.21): VERIFY, SET PIN-LESS PATH and DERIVE on the parts of a card that a plan can change,
 // and whether a path is the one asked for. Every length is in bytes.
 // Proved: each step is what the command's own rule gives, for all parts of a card and all data; nothing is required.
 ghost use mathlib.Core.Bool.{true};

@@ -4,7 +4,7 @@ use mathlib.Core.List.{List}
 use Prim.Native.Nat.{ℕ, suc}
 use native.Mathlib.Omega.{arith}
 use lib.ListN.{drop}
-use Rattle.record_rules.specs.Parse.{body, rest, content, fit, pathFrom}
+use Rattle.record_rules.specs.Parse.{body, rest, content, fit, pathFrom, tapFrom}
 use Rattle.record_spans.specs.Spans.{Behind}
 use Rattle.record_card.specs.Taken.{At}
 
@@ -19,3 +19,6 @@ fit-at n p = ap (λ (l : List ℕ). fit n (body l)) (p .here)
 
 pub path-at : {s : List ℕ} {k at : ℕ} → At s k at → pathFrom (body (drop at s)) ≡ pathFrom (content s k)
 path-at p = ap (λ (l : List ℕ). pathFrom (body l)) (p .here)
+
+pub tap-at : {s : List ℕ} {k at : ℕ} → At s k at → tapFrom (body (drop at s)) ≡ tapFrom (content s k)
+tap-at p = ap (λ (l : List ℕ). tapFrom (body l)) (p .here)

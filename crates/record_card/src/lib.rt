@@ -2,8 +2,8 @@
 // Every length and place is in bytes.
 // Proved: it is the card of the definition, for any bytes of any length.
 ghost use mathlib.Core.Path.{_≡_};
-ghost use Rattle.record_rules.specs.Parse.{content, keysFrom, cardOf};
-ghost use Rattle.record_card.specs.Taken.{At, IdentityTaken, SecretsTaken};
+ghost use Rattle.record_rules.specs.Parse.{content, cardOf};
+ghost use Rattle.record_card.specs.Taken.{At, IdentityTaken, SecretsTaken, KeysTaken};
 use card::Card;
 use card::Identity;
 use card::Keys;
@@ -13,6 +13,7 @@ use card::SLOTS_BYTES;
 use record_spans::slots_from;
 use record_spans::take_field;
 use record_spans::take_path;
+use record_spans::take_tap;
 
 // The first three fields read, and the place after them.
 pub struct IdentityRead {
@@ -25,6 +26,12 @@ pub struct IdentityRead {
 pub struct SecretsRead {
     pub pins: Pins,
     pub pairing: Pairing,
+    pub next: usize,
+}
+
+// The four fields after those read, and the place after them.
+pub struct KeysRead {
+    pub keys: Keys,
     pub next: usize,
 }
 
@@ -80,9 +87,9 @@ fn take_secrets(s: &[u8], at: usize) -> SecretsRead
     }
 }
 
-fn take_keys(s: &[u8], at: usize) -> Keys
+fn take_keys(s: &[u8], at: usize) -> KeysRead
     requires { ⌜ At (now s) 8 at ⌝ }
-    ensures { λ r. ⌜ r ≡ keysFrom (content (now (s .entry))) ⌝ }
+    ensures { λ r. ⌜ KeysTaken (now (s .entry)) r ⌝ }
 {
     let mut kind = [0u8; 1];
     let mut uid = [0u8; card::KEY_BYTES];
@@ -93,11 +100,15 @@ fn take_keys(s: &[u8], at: usize) -> Keys
     let second = take_path(s, c);
     let current = first.path;
     let pinless = second.path;
-    Keys {
+    let keys = Keys {
         kind: kind[0],
         uid,
         current,
         pinless,
+    };
+    KeysRead {
+        keys,
+        next: second.next,
     }
 }
 
@@ -109,16 +120,20 @@ pub fn card_of(s: &[u8]) -> Card
     let a = first.next;
     let second = take_secrets(s, a);
     let b = second.next;
-    let keys = take_keys(s, b);
+    let third = take_keys(s, b);
+    let c = third.next;
+    let tap = take_tap(s, c);
     let identity = first.identity;
     let uid = identity.uid;
     let public_key = identity.public_key;
     let pins = second.pins;
     let pairing = second.pairing;
+    let keys = third.keys;
     let mut card = Card::fresh(uid, public_key);
     card.initialised = first.initialised;
     card.pins = pins;
     card.pairing = pairing;
     card.keys = keys;
+    card.tap = tap;
     card
 }

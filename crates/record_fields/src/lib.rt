@@ -1,14 +1,14 @@
-// The fields of the stored record, written one by one: any field, a path, the key UID, and the content of the slots.
+// The fields of the stored record, written one by one: any field, a path, the key UID, the tap record, and the content of the slots.
 // Every length, place and count is in bytes.
 // Proved: the field is at its place, nothing else changes, and the place after it is given.
 ghost use mathlib.Core.Path.{_≡_};
 ghost use mathlib.Core.List.{[], _∷_};
 ghost use Prim.Native.Nat.{_+_, _≤_, _<_};
-ghost use lib.ListN.{length};
+ghost use lib.ListN.{length, take};
 ghost use Rattle.octets.specs.Bytes.{overwrite};
 ghost use Rattle.card.specs.State.{keyUid, pathBytes};
-ghost use Rattle.card.specs.Sizes.{keyBytes, pathMostBytes, slotBytes};
-ghost use Rattle.record_rules.specs.Fields.{recordField, slotsBytes};
+ghost use Rattle.card.specs.Sizes.{keyBytes, pathMostBytes, tapMostBytes, slotBytes};
+ghost use Rattle.record_rules.specs.Fields.{recordField, slotsBytes, tapFields};
 ghost use Rattle.record_rules.specs.Lengths.{headBytes, recordFieldBytes};
 ghost use Rattle.record_fields.specs.Put.{Put};
 use card::Card;
@@ -17,10 +17,13 @@ use card::Path;
 use card::SLOT_BYTES;
 use card::SLOTS_BYTES;
 use card::Slot;
+use card::Tap;
 use record_rules::HEAD_BYTES;
 
-// The tag of the key UID.
+// The tags of the key UID and of the tap record.
 const TAG_KEY_UID: u8 = 0x31;
+
+const TAG_TAP: u8 = 0x34;
 
 // How many values a byte has: a length in bytes is its high byte times this, and its low byte.
 const BYTE_VALUES: usize = 256;
@@ -64,13 +67,30 @@ pub fn slots_bytes(slots: [Slot; Card::SLOTS]) -> [u8; SLOTS_BYTES]
     out
 }
 
+// Writes a field whose content are the bytes in use of a room.
+fn put_used(buf: &mut [u8], at: usize, tag: u8, room: &[u8], used: u8) -> usize
+    requires { ⌜ (used ≤ length (now room)) × (at + recordFieldBytes (length (now room)) ≤ length (now buf)) ⌝ }
+    ensures { λ r. ⌜ (Put (recordField tag (take used (now (room .entry))) ∷ []) at (now (buf .entry)) r (now (buf .exit)))
+        × (r ≤ at + recordFieldBytes (length (now (room .entry)))) ⌝ }
+{
+    let len = card::wide(used);
+    put_field(buf, at, tag, &room[..len])
+}
+
 pub fn put_path(buf: &mut [u8], at: usize, tag: u8, p: Path) -> usize
     requires { ⌜ (p .len ≤ pathMostBytes) × (at + recordFieldBytes pathMostBytes ≤ length (now buf)) ⌝ }
     ensures { λ r. ⌜ (Put (recordField tag (pathBytes p) ∷ []) at (now (buf .entry)) r (now (buf .exit))) × (r ≤ at + recordFieldBytes pathMostBytes) ⌝ }
 {
     let bytes = p.bytes;
-    let len = card::wide(p.len);
-    put_field(buf, at, tag, &bytes[..len])
+    put_used(buf, at, tag, &bytes, p.len)
+}
+
+pub fn put_tap(buf: &mut [u8], at: usize, t: Tap) -> usize
+    requires { ⌜ (t .len ≤ tapMostBytes) × (at + recordFieldBytes tapMostBytes ≤ length (now buf)) ⌝ }
+    ensures { λ r. ⌜ (Put (tapFields t) at (now (buf .entry)) r (now (buf .exit))) × (r ≤ at + recordFieldBytes tapMostBytes) ⌝ }
+{
+    let bytes = t.bytes;
+    put_used(buf, at, TAG_TAP, &bytes, t.len)
 }
 
 pub fn put_key_uid(buf: &mut [u8], at: usize, k: Keys) -> usize

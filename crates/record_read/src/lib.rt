@@ -4,6 +4,10 @@
 // bytes, of any length, are refused with 8 and FRESH of zeros.
 ghost use mathlib.Core.Path.{_≡_};
 ghost use Rattle.record_rules.specs.Answers.{isRecordOf, readAnswer};
+ghost use Rattle.record_rules.specs.Fields.{encodeAll, fieldsIn};
+ghost use Rattle.octets.specs.Bytes.{sameBytes};
+ghost use Rattle.card.specs.Sizes.{pathMostBytes, tapMostBytes};
+ghost use Prim.Native.Nat.{_≤_};
 use card::Card;
 use record_card::card_of;
 use record_rules::WRITE_ROOM_BYTES;
@@ -11,17 +15,35 @@ use refusals::REFUSAL_NONE;
 use refusals::REFUSAL_NOT_RECORD;
 use sound::Answer;
 
-// Whether the bytes are the record of this card, and the card is sound.
+// Whether the bytes are the record of this card, with field 34 or without it.
+fn is_written(s: &[u8], card: Card, tapped: bool) -> bool
+    requires { ⌜ (card .keys .current .len ≤ pathMostBytes) × ((card .keys .pinless .len ≤ pathMostBytes) × (card .tap .len ≤ tapMostBytes)) ⌝ }
+    ensures { λ r. ⌜ r ≡ sameBytes (encodeAll (fieldsIn tapped card)) (now (s .entry)) ⌝ }
+{
+    let mut again = [0u8; WRITE_ROOM_BYTES];
+    let count = record_write::put_record(&mut again, card, tapped);
+    let back = &again[..count];
+    octets::same(back, s)
+}
+
+// Whether the card is sound, and the bytes are its record in one of the forms.
 fn is_record_of(s: &[u8], card: Card) -> bool
     ensures { λ r. ⌜ r ≡ isRecordOf (now (s .entry)) card ⌝ }
 {
     if !sound::sound(card) {
         return false;
     }
-    let mut again = [0u8; WRITE_ROOM_BYTES];
-    let count = record_write::put_record(&mut again, card);
-    let back = &again[..count];
-    octets::same(back, s)
+    if is_written(s, card, true) {
+        return true;
+    }
+    let tap = card.tap;
+    let before = card.initialised == 0;
+    let tapped = tap.len != 0;
+    if before | tapped {
+        false
+    } else {
+        is_written(s, card, false)
+    }
 }
 
 // READ (RULES 10.4).

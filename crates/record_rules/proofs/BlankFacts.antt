@@ -12,11 +12,12 @@ use Rattle.card.specs.declared.Path.{Path}
 use Rattle.card.specs.declared.Keys.{Keys}
 use Rattle.card.specs.declared.Pins.{Pins}
 use Rattle.card.specs.declared.Pairing.{Pairing}
-use Rattle.card.specs.Sizes.{pinBytes, pukBytes, keyBytes, pathMostBytes, slotCount}
-use Rattle.card.specs.State.{zeros, freeSlot, unverified, notPending, noPins, noPairing, noKeys, emptyPath}
+use Rattle.card.specs.declared.Tap.{Tap}
+use Rattle.card.specs.Sizes.{pinBytes, pukBytes, keyBytes, pathMostBytes, tapMostBytes, slotCount}
+use Rattle.card.specs.State.{zeros, freeSlot, unverified, notPending, noPins, noPairing, noKeys, emptyPath, noTap}
 use Rattle.card.specs.Shape.{KeysLong}
-use Rattle.card.specs.Slots.{allOf, allZero, isFree, slotWithin}
-use Rattle.card.specs.Sound.{pinsBlank, pairingBlank, keysBlank}
+use Rattle.card.specs.Slots.{allOf, isZero, allZero, isFree, slotWithin}
+use Rattle.card.specs.Sound.{pinsBlank, pairingBlank, keysBlank, tapBlank}
 use Rattle.card.proofs.Tests.{both, implied, zero-list}
 use Rattle.card.proofs.Rules.{keys-blank}
 
@@ -75,3 +76,12 @@ keys-none k l m n e =
     ∙ ap₂ {C = Keys} (λ (p q : Path). record { kind = 0; uid = zeros keyBytes; current = p; pinless = q })
     (path-none (k .current) m (b .current) (b .currentbytes))
     (path-none (k .pinless) n (b .pinless) (b .pinlessbytes))
+
+-- ---- tapBlank
+pub tap-none : (t : Tap) → length (t .bytes) ≡ tapMostBytes → t .len ≡ 0 → allZero (t .bytes) ≡ true → t ≡ noTap
+tap-none t l n e = ap₂ {C = Tap} (λ (k : ℕ) (b : List ℕ). record { len = k; bytes = b }) n (zero-bytes (t .bytes) tapMostBytes l e)
+
+pub tap-blank : (t : Tap) → length (t .bytes) ≡ tapMostBytes → tapBlank t ≡ true → t ≡ noTap
+tap-blank t l e =
+    let h = both (isZero (t .len)) (allZero (t .bytes)) e in
+    tap-none t l (eqb-true (t .len) 0 (h .0)) (h .1)

@@ -4,3 +4,4 @@ pub mod BlankFacts
 pub mod RecordFacts
 pub mod FormFacts
 pub mod ReadFacts
+pub mod TapFacts

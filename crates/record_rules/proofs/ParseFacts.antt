@@ -7,6 +7,7 @@ use Prim.Native.Nat.{ℕ, zero, suc, _+_, _*_, _-_, _≤_, min}
 use native.Mathlib.Nat.{min-eq-left}
 use native.Mathlib.Numerals.{add-one}
 use native.Mathlib.Omega.{arith}
+use lib.Dec.{leb}
 use lib.ListN.{length, take, drop, length-append, length-drop, take-append-drop}
 use lib.Seq.{drop-at, drop-drop, length-take-le, take-append-seam}
 use borrow.Author.Tests.{leb-true}
@@ -14,14 +15,16 @@ use Rattle.octets.proofs.Lists.{tabulated, _&_}
 use Rattle.card.specs.declared.Slot.{Slot}
 use Rattle.card.specs.declared.Path.{Path}
 use Rattle.card.specs.declared.Keys.{Keys}
-use Rattle.card.specs.Sizes.{keyBytes, pathMostBytes, slotBytes}
-use Rattle.card.specs.State.{zeros, keyUid, pathBytes}
+use Rattle.card.specs.declared.Tap.{Tap}
+use Rattle.card.specs.Sizes.{keyBytes, pathMostBytes, tapMostBytes, slotBytes}
+use Rattle.card.specs.State.{zeros, keyUid, pathBytes, tapBytes}
 use Rattle.card.specs.Shape.{KeysLong}
 use Rattle.card.specs.Slots.{isZero, allZero}
 use Rattle.card.proofs.Tests.{zero-list}
-use Rattle.card.proofs.Rules.{PathRules}
+use Rattle.card.proofs.Rules.{PathRules, TapRules}
 use Rattle.record_rules.specs.Fields.{Field, encode, encodeAll, slotsBytes}
-use Rattle.record_rules.specs.Parse.{headLength, body, rest, behind, content, fit, pathFrom, slotsFrom}
+use Rattle.record_rules.specs.Lengths.{headBytes}
+use Rattle.record_rules.specs.Parse.{headLength, body, rest, behind, content, fit, pathFrom, tapFrom, slotsFrom}
 
 -- ---- body and rest of encoded fields
 head-encode : (t : ℕ) (x r : List ℕ) → headLength (encode t x ++ r) ≡ length x
@@ -50,7 +53,7 @@ unfolding rest encodeAll
 rest-all [] = refl
 rest-all (f ∷ fs) = rest-encode (f .tag) (f .content) (encodeAll fs)
 
-behind-all : (fs : List Field) (k : ℕ) → behind k (encodeAll fs) ≡ encodeAll (drop k fs)
+pub behind-all : (fs : List Field) (k : ℕ) → behind k (encodeAll fs) ≡ encodeAll (drop k fs)
 behind-all fs zero = refl
 behind-all fs (suc k) =
     ap rest (behind-all fs k) ∙ rest-all (drop k fs)
@@ -58,6 +61,15 @@ behind-all fs (suc k) =
 
 pub content-all : (fs : List Field) (k : ℕ) → content (encodeAll fs) k ≡ firstContent (drop k fs)
 content-all fs k = ap body (behind-all fs k) ∙ body-all (drop k fs)
+
+-- what is behind some fields is no longer than the whole
+rest-short : (s : List ℕ) → length (rest s) ≤ length s
+unfolding rest
+rest-short s = omega (arith, length-drop (headLength s) (drop headBytes s), length-drop headBytes s)
+
+pub behind-short : (s : List ℕ) (k : ℕ) → length (behind k s) ≤ length s
+behind-short s zero = omega arith
+behind-short s (suc k) = omega (arith, behind-short s k, rest-short (behind k s))
 
 -- ---- fit
 pub fit-exact : (n : ℕ) (x : List ℕ) → length x ≡ n → fit n x ≡ x
@@ -80,23 +92,29 @@ fit-pad (b ∷ x) m zero e = absurd (omega arith)
 fit-pad (b ∷ x) m (suc n) e = refl & fit-pad x m n (omega arith)
 
 -- ---- the parts of a sound card
+-- bytes in use at the start of a room of n bytes, zeros after them: the content fills the room again
+module _ (n len : ℕ) (b : List ℕ) (most : leb len n ≡ true) (clear : allZero (drop len b) ≡ true) (l : length b ≡ n) where
+  used : length (take len b) ≡ len
+  used = length-take-le len b (omega (arith, leb-true len n most, l))
+
+  pub used-back : min (length (take len b)) n ≡ len
+  used-back = ap (λ (k : ℕ). min k n) used ∙ min-eq-left (leb-true len n most)
+
+  pub room-back : fit n (take len b) ≡ b
+  room-back =
+      fit-pad (take len b) (length (drop len b)) n (omega (arith, leb-true len n most, used, l, length-drop len b))
+      ∙ ap (λ (x : List ℕ). take len b ++ x) (sym (zero-list (drop len b) clear))
+      ∙ take-append-drop len b
+
 pub path-back : (p : Path) → PathRules p → length (p .bytes) ≡ pathMostBytes → pathFrom (pathBytes p) ≡ p
 path-back p r l =
     ap₂ {C = Path} (λ (n : ℕ) (b : List ℕ). record { len = n; bytes = b })
-    (ap (λ (n : ℕ). min n pathMostBytes) long ∙ min-eq-left most)
-    (fit-pad (pathBytes p) (length unused) pathMostBytes (omega (arith, most, long, length-drop (p .len) (p .bytes))) ∙ joined)
-  where
-    most : p .len ≤ pathMostBytes
-    most = leb-true _ _ (r .most)
+    (used-back pathMostBytes (p .len) (p .bytes) (r .most) (r .unused) l) (room-back pathMostBytes (p .len) (p .bytes) (r .most) (r .unused) l)
 
-    unused : List ℕ
-    unused = drop (p .len) (p .bytes)
-
-    long : length (pathBytes p) ≡ p .len
-    long = length-take-le (p .len) (p .bytes) (omega (arith, most))
-
-    joined : pathBytes p ++ zeros (length unused) ≡ p .bytes
-    joined = ap (λ (x : List ℕ). pathBytes p ++ x) (sym (zero-list unused (r .unused))) ∙ take-append-drop (p .len) (p .bytes)
+pub tap-back : (t : Tap) → TapRules t → length (t .bytes) ≡ tapMostBytes → tapFrom (tapBytes t) ≡ t
+tap-back t r l =
+    ap₂ {C = Tap} (λ (n : ℕ) (b : List ℕ). record { len = n; bytes = b })
+    (used-back tapMostBytes (t .len) (t .bytes) (r .most) (r .unused) l) (room-back tapMostBytes (t .len) (t .bytes) (r .most) (r .unused) l)
 
 pub key-back : (k : Keys) → (not (isZero (k .kind)) || allZero (k .uid)) ≡ true → length (k .uid) ≡ keyBytes
     → fit keyBytes (keyUid k) ≡ k .uid

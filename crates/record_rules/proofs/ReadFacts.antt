@@ -1,36 +1,60 @@
 -- The laws of WRITE and READ: both round trips, which bytes READ takes, what it gives, and how long a record is, in bytes.
 -- Assumes nothing.
-use mathlib.Core.Path.{_≡_, refl, sym, ap, _∙_}
+use mathlib.Core.Path.{_≡_, refl, sym, ap, subst, _∙_}
 use mathlib.Core.Bool.{Bool, true, false, cond}
 use mathlib.Core.Logic.{_⊎_, inl, inr, ⊎-elim}
 use mathlib.Core.List.{List, [], _∷_, _++_}
-use Prim.Native.Nat.{ℕ, _+_, _≤_}
+use Prim.Native.Nat.{ℕ, zero, suc, _+_, _*_, _≤_}
 use native.Mathlib.Omega.{arith}
 use lib.Dec.{ltb}
-use lib.ListN.{length, length-append}
+use lib.ListN.{length, drop, length-append}
 use lib.Seq.{length-take-le}
 use borrow.Author.Tests.{le-ltb}
-use Rattle.octets.proofs.Lists.{same-eq}
 use Rattle.card.specs.declared.Card.{Card}
 use Rattle.card.specs.declared.Path.{Path}
-use Rattle.card.specs.Sizes.{uidBytes, publicKeyBytes, keyBytes, pathMostBytes}
-use Rattle.card.specs.State.{zeros, freshOf, resetOf, keyUid, pathBytes}
-use Rattle.card.specs.Shape.{Shaped}
+use Rattle.card.specs.Sizes.{uidBytes, publicKeyBytes, keyBytes, pathMostBytes, tapMostBytes, slotBytes, slotCount}
+use Rattle.card.specs.State.{zeros, freshOf, resetOf, keyUid, pathBytes, tapBytes}
+use Rattle.card.specs.Shape.{KeysLong, Shaped}
 use Rattle.card.specs.Slots.{someOf, isZero}
 use Rattle.card.specs.Sound.{isSound}
 use Rattle.card.proofs.Tests.{both}
 use Rattle.card.proofs.Rules.{sound-cases}
-use Rattle.card.proofs.SoundFacts.{fresh-sound, reset-sound, path-lengths}
+use Rattle.card.proofs.SoundFacts.{fresh-sound, reset-sound, path-lengths, tap-length}
 use Rattle.sound.specs.declared.Answer.{Answer}
 use Rattle.refusals.specs.Refusals.{noRefusal, unsound, noRoom, notRecord}
 use Rattle.sound.specs.Reset.{done, refused}
-use Rattle.record_rules.specs.Fields.{Field, encode, encodeAll, identityFields, ownerFields, fields, recordOf}
+use Rattle.record_rules.specs.Fields.{Field, encode, encodeAll, identityFields, tapTag, ownerFields, fieldsIn, recordOf}
 use Rattle.record_rules.specs.Lengths.{recordFieldBytes, recordFresh, recordLeast, recordMost, writeRoom}
-use Rattle.record_rules.specs.Parse.{cardOf}
-use Rattle.record_rules.specs.Forms.{writtenForm, forms, isInForm, first, InForm}
+use Rattle.record_rules.specs.Parse.{content, fit, slotsFrom, cardOf}
+use Rattle.record_rules.specs.Forms.{Form, writtenForm, untappedForm, forms, isInForm, Listed, first, later, InForm}
 use Rattle.record_rules.specs.Answers.{writeRefusal, writeBytes, isRecordOf, readAnswer}
 use Rattle.record_rules.proofs.ParseFacts.{slots-long}
-use Rattle.record_rules.proofs.FormFacts.{passes, one-form, reset-in-form, card-in-form}
+use Rattle.record_rules.proofs.FormFacts.{found, passes, of-each, form-describes, reset-in-form, card-in-form}
+
+-- ---- cardOf
+-- however many slots are read, their keys have their length
+slots-keyed : (n : ℕ) (x : List ℕ) → KeysLong (slotsFrom n x)
+unfolding slotsFrom
+slots-keyed zero x = tt
+slots-keyed (suc n) x = (refl, slots-keyed n (drop slotBytes x))
+
+-- the card of any bytes has its shape
+pub card-of-shaped : (s : List ℕ) → Shaped (cardOf s)
+unfolding cardOf slotsFrom
+card-of-shaped s = record {
+  uid = refl;
+  «public_key» = refl;
+  pin = refl;
+  puk = refl;
+  secret = refl;
+  slots = refl;
+  keys = slots-keyed slotCount (fit (slotBytes * slotCount) (content s 7));
+  expected = refl;
+  keyuid = refl;
+  current = refl;
+  pinless = refl;
+  tap = refl;
+}
 
 -- ---- READ of WRITE of a sound card is RESET of it
 pub read-in-form : (s : List ℕ) (c : Card) → Shaped c → isSound c ≡ true → InForm s c forms → readAnswer s ≡ done (resetOf c)
@@ -41,7 +65,7 @@ read-in-form s c w e r =
 -- a card's record is in the form that WRITE writes
 pub record-in-form : (c : Card) → InForm (recordOf c) c forms
 unfolding recordOf
-record-in-form c = record { form = writtenForm; listed = first []; held = refl; bytes = refl }
+record-in-form c = record { form = writtenForm; listed = first (untappedForm ∷ []); held = refl; bytes = refl }
 
 pub read-record : (c : Card) → Shaped c → isSound c ≡ true → readAnswer (recordOf c) ≡ done (resetOf c)
 read-record c w e = read-in-form (recordOf c) c w e (record-in-form c)
@@ -98,21 +122,80 @@ read-reset s = ⊎-elim
     (λ e. ap (λ (a : Answer). resetOf (a .card)) e ∙ sym (ap (λ (a : Answer). a .card) e))
     (read-cases s)
 
--- ---- WRITE of what READ took is the record, byte for byte: there is one form
-pub record-read : (s : List ℕ) → readAnswer s .refusal ≡ noRefusal → recordOf (readAnswer s .card) ≡ s
-record-read s h = ⊎-elim
-    (λ t. ap (λ (a : Answer). recordOf (a .card)) (t .0) ∙ same-eq (recordOf (cardOf s)) s (sym (one-form s (cardOf s)) ∙ t .1 .tested))
+-- ---- WRITE of what READ took: the record as its form is renewed
+eight : _≡_ {A = ℕ} 8 0 → ⊥
+eight p = omega arith
+
+-- the card of an answer without refusal, and in which form the bytes are its record
+pub read-taken : (s : List ℕ) → readAnswer s .refusal ≡ noRefusal → InForm s (readAnswer s .card) forms
+read-taken s h = ⊎-elim
+    (λ t. subst (λ (a : Answer). InForm s (a .card) forms) (sym (t .0)) (found s (cardOf s) forms (t .1 .tested)))
     (λ e. absurd (eight (sym (ap (λ (a : Answer). a .refusal) e) ∙ h)))
     (read-cases s)
-  where
-    eight : _≡_ {A = ℕ} 8 0 → ⊥
-    eight p = omega arith
 
-pub write-read : (s : List ℕ) (room : ℕ) → readAnswer s .refusal ≡ noRefusal → writeRoom ≤ room
-    → (writeRefusal (readAnswer s .card) room ≡ noRefusal) × (writeBytes (readAnswer s .card) room ≡ s)
-unfolding writeRefusal writeBytes
-write-read s room h r =
-    (rw (read-sound s, le-ltb room writeRoom r), rw (read-sound s, le-ltb room writeRoom r) (record-read s h))
+pub read-shaped : (s : List ℕ) → readAnswer s .refusal ≡ noRefusal → Shaped (readAnswer s .card)
+read-shaped s h = ⊎-elim
+    (λ t. subst (λ (a : Answer). Shaped (a .card)) (sym (t .0)) (card-of-shaped s))
+    (λ e. absurd (eight (sym (ap (λ (a : Answer). a .refusal) e) ∙ h)))
+    (read-cases s)
+
+-- a card is written as it is reset
+record-reset : (c : Card) → recordOf (resetOf c) ≡ recordOf c
+unfolding recordOf fieldsIn
+record-reset c = refl
+
+pub record-renewed : (s : List ℕ) (c : Card) (r : InForm s c forms) → recordOf c ≡ r .form .renewed s
+record-renewed s c r =
+    form-describes (r .form) (r .listed) .today c (r .held) ∙ ap (r .form .renewed) (r .bytes)
+
+-- the two forms by name: the record stays, or an empty field 34 ends it
+abbrev Renews : List ℕ → Form → Type 0
+Renews s f = (f .renewed s ≡ s) ⊎ (f .renewed s ≡ s ++ encode tapTag [])
+
+either-form : (f : Form) → Listed f forms → (s : List ℕ) → Renews s f
+either-form f l s = of-each (Renews s) f forms l (inl refl, (inr refl, tt))
+
+pub record-read : (s : List ℕ) → readAnswer s .refusal ≡ noRefusal
+    → (recordOf (readAnswer s .card) ≡ s) ⊎ (recordOf (readAnswer s .card) ≡ s ++ encode tapTag [])
+record-read s h =
+    let r = read-taken s h in
+    let e = record-renewed s (readAnswer s .card) r in
+    ⊎-elim (λ p. inl (e ∙ p)) (λ p. inr (e ∙ p)) (either-form (r .form) (r .listed) s)
+
+module _ (s : List ℕ) (room : ℕ) (e : writeRoom ≤ room) where
+  pub write-read : readAnswer s .refusal ≡ noRefusal
+      → (writeRefusal (readAnswer s .card) room ≡ noRefusal)
+      × ((writeBytes (readAnswer s .card) room ≡ s) ⊎ (writeBytes (readAnswer s .card) room ≡ s ++ encode tapTag []))
+  unfolding writeRefusal writeBytes
+  write-read h =
+      (rw (read-sound s, le-ltb room writeRoom e), rw (read-sound s, le-ltb room writeRoom e) (record-read s h))
+
+  -- of bytes that READ takes as a card's record
+  pub write-of : (c : Card) → readAnswer s ≡ done (resetOf c) → writeBytes (readAnswer s .card) room ≡ recordOf c
+  unfolding writeBytes
+  write-of c g =
+      rw (read-sound s, le-ltb room writeRoom e) (ap (λ (a : Answer). recordOf (a .card)) g ∙ record-reset c)
+
+  -- of the record of a sound card, in whichever form
+  pub write-renewed : (c : Card) → Shaped c → isSound c ≡ true → (r : InForm s c forms)
+      → writeBytes (readAnswer s .card) room ≡ r .form .renewed s
+  write-renewed c w g r = write-of c (read-in-form s c w g r) ∙ record-renewed s c r
+
+-- ---- the record without field 34, of a card that has no tap record: READ takes it, and WRITE ends it with an empty field 34
+module _ (c : Card) (w : Shaped c) (e : isSound c ≡ true) (i : c .initialised ≡ 1) (n : c .tap .len ≡ 0) where
+  abbrev untapped-in-form : InForm (encodeAll (fieldsIn false c)) c forms
+  untapped-in-form = record {
+    form = untappedForm;
+    listed = later writtenForm (untappedForm ∷ []) (first []);
+    held = rw (i, n);
+    bytes = refl;
+  }
+
+  pub read-untapped : readAnswer (encodeAll (fieldsIn false c)) ≡ done (resetOf c)
+  read-untapped = read-in-form (encodeAll (fieldsIn false c)) c w e untapped-in-form
+
+  pub record-untapped : recordOf c ≡ encodeAll (fieldsIn false c) ++ encode tapTag []
+  record-untapped = record-renewed (encodeAll (fieldsIn false c)) c untapped-in-form
 
 -- ---- which bytes READ refuses: those that are no sound card's record in any form
 pub read-refuses : (s : List ℕ) → readAnswer s .refusal ≡ notRecord
@@ -139,9 +222,9 @@ length-all (f ∷ fs) = omega (arith, length-append (encode (f .tag) (f .content
 
 module _ (c : Card) (w : Shaped c) where
   pub length-before : c .initialised ≡ 0 → length (recordOf c) ≡ recordFresh
-  unfolding recordOf fields
+  unfolding recordOf fieldsIn
   length-before i =
-      ap (λ (n : ℕ). length (encodeAll (identityFields (c .initialised) (c .identity) ++ cond (isZero n) [] (ownerFields c)))) i
+      ap (λ (n : ℕ). length (encodeAll (identityFields (c .initialised) (c .identity) ++ cond (isZero n) [] (ownerFields true c)))) i
       ∙ length-all (identityFields (c .initialised) (c .identity))
       ∙ omega (arith, w .uid, w .«public_key»)
 
@@ -156,10 +239,10 @@ module _ (c : Card) (w : Shaped c) where
   path-length p h l = omega (arith, length-take-le (p .len) (p .bytes) (omega arith))
 
   pub length-after : c .initialised ≡ 1 → isSound c ≡ true → (recordLeast ≤ length (recordOf c)) × (length (recordOf c) ≤ recordMost)
-  unfolding recordOf fields
+  unfolding recordOf fieldsIn
   length-after i e =
-      let l = ap (λ (n : ℕ). length (encodeAll (identityFields (c .initialised) (c .identity) ++ cond (isZero n) [] (ownerFields c)))) i
-      ∙ length-all (identityFields (c .initialised) (c .identity) ++ ownerFields c) in
+      let l = ap (λ (n : ℕ). length (encodeAll (identityFields (c .initialised) (c .identity) ++ cond (isZero n) [] (ownerFields true c)))) i
+      ∙ length-all (identityFields (c .initialised) (c .identity) ++ ownerFields true c) in
       let m = path-lengths c e in
       omega (
         arith,
@@ -174,6 +257,8 @@ module _ (c : Card) (w : Shaped c) where
         key-length,
         path-length (c .keys .current) (m .0) (w .current),
         path-length (c .keys .pinless) (m .1) (w .pinless),
+        length-take-le (c .tap .len) (c .tap .bytes) (omega (arith, tap-length c e, w .tap)),
+        tap-length c e,
       )
 
   -- before INIT and after it

@@ -1,7 +1,7 @@
 -- The stored record (RULES 10.1): its fields, with tag, order and content, as one table, and the bytes that they make.
 -- Every length is in bytes.
 use Prim.Native.Nat.{ℕ, _/_, _%_}
-use mathlib.Core.Bool.{cond}
+use mathlib.Core.Bool.{Bool, true, cond}
 use mathlib.Core.List.{List, [], _∷_, _++_}
 use lib.ListN.{length}
 use Rattle.card.specs.declared.Identity.{Identity}
@@ -9,8 +9,9 @@ use Rattle.card.specs.declared.Pins.{Pins}
 use Rattle.card.specs.declared.Slot.{Slot}
 use Rattle.card.specs.declared.Pairing.{Pairing}
 use Rattle.card.specs.declared.Keys.{Keys}
+use Rattle.card.specs.declared.Tap.{Tap}
 use Rattle.card.specs.declared.Card.{Card}
-use Rattle.card.specs.State.{keyUid, pathBytes}
+use Rattle.card.specs.State.{keyUid, pathBytes, tapBytes}
 use Rattle.card.specs.Slots.{isZero}
 
 -- ---- a field: its tag and its content
@@ -60,14 +61,22 @@ keyFields k =
     ∷ recordField 0x33 (pathBytes (k .pinless))
     ∷ []
 
--- only the record of an initialised card has the fields past the identity
-abbrev pub ownerFields : Card → List Field
-ownerFields c = secretFields (c .pins) (c .pairing) ++ keyFields (c .keys)
+-- the tap record, of no bytes where there is none
+abbrev pub tapTag : ℕ
+tapTag = 0x34
 
-unfoldable pub fields : Card → List Field
-fields c =
-    identityFields (c .initialised) (c .identity) ++ cond (isZero (c .initialised)) [] (ownerFields c)
+abbrev pub tapFields : Tap → List Field
+tapFields t = recordField tapTag (tapBytes t) ∷ []
+
+-- only the record of an initialised card has the fields past the identity; `tapped` says whether field 34 is one of them, as it is in what
+-- WRITE writes
+abbrev pub ownerFields : Bool → Card → List Field
+ownerFields tapped c = secretFields (c .pins) (c .pairing) ++ (keyFields (c .keys) ++ cond tapped (tapFields (c .tap)) [])
+
+unfoldable pub fieldsIn : Bool → Card → List Field
+fieldsIn tapped c =
+    identityFields (c .initialised) (c .identity) ++ cond (isZero (c .initialised)) [] (ownerFields tapped c)
 
 -- the record of a card
 unfoldable pub recordOf : Card → List ℕ
-recordOf c = encodeAll (fields c)
+recordOf c = encodeAll (fieldsIn true c)

@@ -1,6 +1,6 @@
 -- The card that bytes describe, if they are a record (RULES 10.4): the fields taken one after the other, whatever their tags, each content
 -- cut or filled with zeros to the length that the card has for it. Every length is in bytes.
-use Prim.Native.Nat.{ℕ, zero, suc, _+_, _*_, min}
+use Prim.Native.Nat.{ℕ, zero, suc, _+_, _-_, _*_, min}
 use mathlib.Core.List.{List, [], _∷_}
 use lib.ListN.{length, take, drop, getD}
 use Rattle.octets.specs.Bytes.{tabulate}
@@ -10,8 +10,9 @@ use Rattle.card.specs.declared.Slot.{Slot}
 use Rattle.card.specs.declared.Pairing.{Pairing}
 use Rattle.card.specs.declared.Path.{Path}
 use Rattle.card.specs.declared.Keys.{Keys}
+use Rattle.card.specs.declared.Tap.{Tap}
 use Rattle.card.specs.declared.Card.{Card}
-use Rattle.card.specs.Sizes.{uidBytes, publicKeyBytes, pinBytes, pukBytes, keyBytes, pathMostBytes, slotBytes, slotCount}
+use Rattle.card.specs.Sizes.{uidBytes, publicKeyBytes, pinBytes, pukBytes, keyBytes, pathMostBytes, tapMostBytes, slotBytes, slotCount}
 use Rattle.card.specs.State.{zeros, closedOf}
 use Rattle.record_rules.specs.Lengths.{headBytes}
 
@@ -33,6 +34,14 @@ behind (suc k) s = rest (behind k s)
 
 abbrev pub content : List ℕ → ℕ → List ℕ
 content s k = body (behind k s)
+
+-- where the content of the field number k begins, in bytes from the start of s
+abbrev pub contentStart : List ℕ → ℕ → ℕ
+contentStart s k = length s - length (behind k s) + headBytes
+
+-- the number of field 34, counted from 0: three fields of the identity, five of the secrets and four of the keys come before it
+abbrev pub field34 : ℕ
+field34 = 12
 
 -- ---- the parts of a card, from the contents f 0, f 1, .. in the order of the table
 -- x cut, or filled with zeros, to n bytes
@@ -77,7 +86,10 @@ keysFrom f = record {
   pinless = pathFrom (f 11);
 }
 
--- the whole card, reset
+abbrev pub tapFrom : List ℕ → Tap
+tapFrom x = record { len = min (length x) tapMostBytes; bytes = fit tapMostBytes x }
+
+-- the whole card, reset; the content of a field that is not there is empty
 abbrev pub cardFrom : (ℕ → List ℕ) → Card
 cardFrom f = record {
   initialised = getD (f 0) 0 0;
@@ -86,6 +98,7 @@ cardFrom f = record {
   pairing = pairingFrom f;
   keys = keysFrom f;
   channel = closedOf;
+  tap = tapFrom (f field34);
 }
 
 unfoldable pub cardOf : List ℕ → Card

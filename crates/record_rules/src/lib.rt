@@ -7,6 +7,7 @@ use card::PIN_BYTES;
 use card::PUBLIC_KEY_BYTES;
 use card::PUK_BYTES;
 use card::SLOTS_BYTES;
+use card::TAP_MAX_BYTES;
 use card::UID_BYTES;
 
 // A field's head: a tag of one byte and a length of two.
@@ -30,16 +31,19 @@ const KEY_FIELDS_MAX_BYTES: usize = KEY_FIELDS_MIN_BYTES
     + PATH_MAX_BYTES
     + PATH_MAX_BYTES;
 
-// The record: before INIT, and the least and the greatest after it.
+// The record: before INIT, and the least and the greatest after it, without a tap record and with the longest.
 pub const RECORD_FRESH_BYTES: usize = IDENTITY_FIELDS_BYTES;
 
 pub const RECORD_MIN_BYTES: usize = IDENTITY_FIELDS_BYTES
     + SECRET_FIELDS_BYTES
-    + KEY_FIELDS_MIN_BYTES;
+    + KEY_FIELDS_MIN_BYTES
+    + HEAD_BYTES;
 
 pub const RECORD_MAX_BYTES: usize = IDENTITY_FIELDS_BYTES
     + SECRET_FIELDS_BYTES
-    + KEY_FIELDS_MAX_BYTES;
+    + KEY_FIELDS_MAX_BYTES
+    + HEAD_BYTES
+    + TAP_MAX_BYTES;
 
 // The room that WRITE asks of a buffer: enough for any record.
 pub const WRITE_ROOM_BYTES: usize = RECORD_MAX_BYTES;

@@ -2,17 +2,16 @@
 use mathlib.Core.Path.{_≡_, refl, sym, ap, ap₂, _∙_}
 use mathlib.Core.List.{List, [], _∷_, _++_}
 use Prim.Native.Nat.{ℕ, zero, suc, _+_, _*_, _-_, _≤_, _<_}
-use native.Mathlib.Nat.{min-eq-left, min-eq-right, le-of-lt, add-zero}
+use native.Mathlib.Nat.{add-zero}
 use native.Mathlib.Numerals.{add-one}
 use native.Mathlib.Omega.{arith}
 use lib.ListN.{length, take, drop, getD, set, drop-of-length-le, length-drop}
 use lib.Seq.{take-suc-set, drop-drop, getD-drop, take-all, take-nil, drop-nil, drop-length, length-take-le}
 use Rattle.octets.specs.Bytes.{tabulate}
 use Rattle.card.specs.declared.Slot.{Slot}
-use Rattle.card.specs.declared.Path.{Path}
-use Rattle.card.specs.Sizes.{keyBytes, pathMostBytes, slotBytes}
+use Rattle.card.specs.Sizes.{keyBytes, slotBytes}
 use Rattle.record_rules.specs.Lengths.{headBytes}
-use Rattle.record_rules.specs.Parse.{headLength, body, rest, fit, pathFrom, slotFrom, slotsFrom}
+use Rattle.record_rules.specs.Parse.{headLength, body, rest, fit, slotFrom, slotsFrom}
 use Rattle.record_spans.specs.declared.FieldSpan.{FieldSpan}
 use Rattle.record_spans.specs.Spans.{Spans}
 
@@ -98,14 +97,6 @@ module _ (s : List ℕ) (at : ℕ) where
     where
       long : at + headBytes + n - (at + headBytes) ≡ n
       long = omega arith
-
--- ---- pathFrom: a path of at most its room, and a longer one
-pub path-short : (x b : List ℕ) (n : ℕ) → length x ≡ n → n ≤ pathMostBytes → b ≡ fit pathMostBytes x
-    → _≡_ {A = Path} (record { len = n; bytes = b }) (pathFrom x)
-path-short x b n e h f = rw (f, e, min-eq-left h)
-
-pub path-long : (x b : List ℕ) → pathMostBytes < length x → b ≡ fit pathMostBytes x → _≡_ {A = Path} (record { len = pathMostBytes; bytes = b }) (pathFrom x)
-path-long x b h f = rw (f, min-eq-right (le-of-lt h))
 
 -- ---- Spans: how long the content is
 pub span-length : {s : List ℕ} {at : ℕ} {r : FieldSpan} → Spans s at r → length (body (drop at s)) ≡ r .«end» - r .start

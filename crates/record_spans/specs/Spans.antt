@@ -1,9 +1,9 @@
 -- What the readers of a field promise: where its content is, and the place after it. Every length and place is in bytes.
-use Prim.Native.Nat.{ℕ, _-_, _≤_}
+use Prim.Native.Nat.{ℕ, _-_, _≤_, min}
 use mathlib.Core.Path.{_≡_}
 use mathlib.Core.List.{List}
 use lib.ListN.{length, take, drop}
-use Rattle.record_rules.specs.Parse.{body, rest}
+use Rattle.record_rules.specs.Parse.{body, rest, fit}
 use Rattle.record_spans.specs.declared.FieldSpan.{FieldSpan}
 
 -- the span is the content of the field at the place `at`
@@ -18,3 +18,8 @@ pub record Spans (s : List ℕ) (at : ℕ) (r : FieldSpan) : Type 0 where
 pub record Behind (s : List ℕ) (at next : ℕ) : Type 0 where
   pub within : next ≤ length s
   pub rest : drop next s ≡ rest (drop at s)
+
+-- a room is filled from the content x, and `count` is how many bytes of it are in use
+pub record UsedTaken (x room : List ℕ) (count : ℕ) (after : List ℕ) : Type 0 where
+  pub bytes : after ≡ fit (length room) x
+  pub used : count ≡ min (length x) (length room)

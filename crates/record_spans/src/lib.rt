@@ -1,17 +1,18 @@
-// The content of a field of the stored record, found by its place and taken: bytes, a path, and the slots.
+// The content of a field of the stored record, found by its place and taken: bytes, a path, the tap record, and the slots.
 // Every length and place is in bytes.
 // Proved: what is taken is what the definition takes, from any bytes of any length, and the place after the field is given.
 ghost use mathlib.Core.Path.{_≡_};
 ghost use Prim.Native.Nat.{_≤_};
 ghost use lib.ListN.{length, drop, getD};
 ghost use Rattle.card.specs.State.{slotCount};
-ghost use Rattle.record_rules.specs.Parse.{body, fit, pathFrom, slotsFrom};
-ghost use Rattle.record_spans.specs.Spans.{Spans, Behind};
+ghost use Rattle.record_rules.specs.Parse.{body, fit, pathFrom, tapFrom, slotsFrom};
+ghost use Rattle.record_spans.specs.Spans.{Spans, Behind, UsedTaken};
 use card::Card;
 use card::Path;
 use card::SLOT_BYTES;
 use card::SLOTS_BYTES;
 use card::Slot;
+use card::Tap;
 use card::wide;
 use record_rules::HEAD_BYTES;
 
@@ -19,6 +20,12 @@ use record_rules::HEAD_BYTES;
 pub struct FieldSpan {
     pub start: usize,
     pub end: usize,
+}
+
+// How many bytes of a room are in use, and the place after the field that they came from.
+pub struct UsedRead {
+    pub used: u8,
+    pub next: usize,
 }
 
 // A path read, and the place after its field.
@@ -86,28 +93,55 @@ pub fn take_field(s: &[u8], at: usize, dst: &mut [u8]) -> usize
     end
 }
 
-pub fn take_path(s: &[u8], at: usize) -> PathRead
-    requires { ⌜ at ≤ length (now s) ⌝ }
-    ensures { λ r. ⌜ (r .path ≡ pathFrom (body (drop at (now (s .entry))))) × Behind (now (s .entry)) at (r .next) ⌝ }
+// Fills dst, a room of at most 255 bytes, from the content of the field at a place, and tells how much of it is in use.
+fn take_used(s: &[u8], at: usize, dst: &mut [u8]) -> UsedRead
+    requires { ⌜ (at ≤ length (now s)) × (length (now dst) ≤ 255) ⌝ }
+    ensures { λ r. ⌜ UsedTaken (body (drop at (now (s .entry)))) (now (dst .entry)) (r .used) (now (dst .exit)) × Behind (now (s .entry)) at (r .next) ⌝ }
 {
     let field = content_span(s, at);
     let start = field.start;
     let end = field.end;
-    let mut bytes = [0u8; card::PATH_MAX_BYTES];
-    fill(&mut bytes, &s[start..end]);
+    fill(dst, &s[start..end]);
     let count = end - start;
-    if card::PATH_MAX_BYTES < count {
-        let path = Path {
-            len: card::PATH_MAX_BYTES as u8,
-            bytes,
+    if dst.len() < count {
+        return UsedRead {
+            used: dst.len() as u8,
+            next: end,
         };
-        return PathRead { path, next: end };
     }
+    UsedRead {
+        used: count as u8,
+        next: end,
+    }
+}
+
+pub fn take_path(s: &[u8], at: usize) -> PathRead
+    requires { ⌜ at ≤ length (now s) ⌝ }
+    ensures { λ r. ⌜ (r .path ≡ pathFrom (body (drop at (now (s .entry))))) × Behind (now (s .entry)) at (r .next) ⌝ }
+{
+    let mut bytes = [0u8; card::PATH_MAX_BYTES];
+    let read = take_used(s, at, &mut bytes);
     let path = Path {
-        len: count as u8,
+        len: read.used,
         bytes,
     };
-    PathRead { path, next: end }
+    PathRead {
+        path,
+        next: read.next,
+    }
+}
+
+// The tap record; none where no field is left.
+pub fn take_tap(s: &[u8], at: usize) -> Tap
+    requires { ⌜ at ≤ length (now s) ⌝ }
+    ensures { λ r. ⌜ r ≡ tapFrom (body (drop at (now (s .entry)))) ⌝ }
+{
+    let mut bytes = [0u8; card::TAP_MAX_BYTES];
+    let read = take_used(s, at, &mut bytes);
+    Tap {
+        len: read.used,
+        bytes,
+    }
 }
 
 pub fn slots_from(x: [u8; SLOTS_BYTES]) -> [Slot; Card::SLOTS]

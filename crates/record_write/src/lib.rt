@@ -4,12 +4,13 @@
 // not sound is refused with 1, a buffer with less room than any record needs with 2, and then nothing is written.
 ghost use Prim.Native.Nat.{_≤_};
 ghost use lib.ListN.{length};
-ghost use Rattle.card.specs.Sizes.{pathMostBytes};
-ghost use Rattle.record_rules.specs.Fields.{fields};
+ghost use Rattle.card.specs.Sizes.{pathMostBytes, tapMostBytes};
+ghost use Rattle.record_rules.specs.Fields.{fieldsIn};
 ghost use Rattle.record_rules.specs.Lengths.{writeRoom};
 ghost use Rattle.record_fields.specs.Put.{Put};
 ghost use Rattle.record_write.specs.Wrote.{WroteRecord};
 use card::Card;
+use record_fields::put_tap;
 use record_groups::put_identity;
 use record_groups::put_keys;
 use record_groups::put_secrets;
@@ -24,21 +25,27 @@ pub struct Written {
     pub count: usize,
 }
 
-// Writes the record of a card whose paths are no longer than their room, and gives its length.
-pub fn put_record(buf: &mut [u8], card: Card) -> usize
-    requires { ⌜ (card .keys .current .len ≤ pathMostBytes) × ((card .keys .pinless .len ≤ pathMostBytes) × (writeRoom ≤ length (now buf))) ⌝ }
-    ensures { λ r. ⌜ (Put (fields card) 0 (now (buf .entry)) r (now (buf .exit))) × (r ≤ writeRoom) ⌝ }
+// Writes the record of a card whose paths and tap record are no longer than their room, with field 34 or without it, and gives its length.
+pub fn put_record(buf: &mut [u8], card: Card, tapped: bool) -> usize
+    requires { ⌜ (card .keys .current .len ≤ pathMostBytes) × ((card .keys .pinless .len ≤ pathMostBytes)
+        × ((card .tap .len ≤ tapMostBytes) × (writeRoom ≤ length (now buf)))) ⌝ }
+    ensures { λ r. ⌜ (Put (fieldsIn tapped card) 0 (now (buf .entry)) r (now (buf .exit))) × (r ≤ writeRoom) ⌝ }
 {
     let identity = card.identity;
     let pins = card.pins;
     let pairing = card.pairing;
     let keys = card.keys;
+    let tap = card.tap;
     let a = put_identity(buf, card.initialised, identity);
     if card.initialised == 0 {
         return a;
     }
     let b = put_secrets(buf, a, pins, pairing);
-    put_keys(buf, b, keys)
+    let c = put_keys(buf, b, keys);
+    if tapped {
+        return put_tap(buf, c, tap);
+    }
+    c
 }
 
 // WRITE (RULES 10.3).
@@ -57,7 +64,7 @@ pub fn write(card: Card, buf: &mut [u8]) -> Written
             count: 0,
         };
     }
-    let count = put_record(buf, card);
+    let count = put_record(buf, card, true);
     Written {
         refusal: REFUSAL_NONE,
         count,

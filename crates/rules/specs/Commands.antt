@@ -1,4 +1,4 @@
--- The sixteen instructions' commands (RULES 6), in its order, and at the end one rule for each command: the checks of step 6, in order, with
+-- The seventeen instructions' commands (RULES 6), in its order, and at the end one rule for each command: the checks of step 6, in order, with
 -- their status words; what is compared and which supply is read past them (Supplies.antt); and the reply, from the card, the data (opened,
 -- where the command is sealed) and the supply. Every length is in bytes.
 use Prim.Native.Nat.{ℕ, _+_, _-_, _%_}
@@ -19,9 +19,9 @@ use Rattle.card.specs.declared.Path.{Path}
 use Rattle.card.specs.declared.Keys.{Keys}
 use Rattle.card.specs.declared.Channel.{Channel}
 use Rattle.card.specs.declared.Card.{Card}
-use Rattle.card.specs.State.{pinTries, pukTries, freeSlot, noKeys, emptyPath, withInitialised, withPins, withPairing, withKeys, withChannel, closed, forgotten, notPending, pathBytes, pathOf, keyUid}
+use Rattle.card.specs.State.{pinTries, pukTries, freeSlot, noKeys, emptyPath, withInitialised, withPins, withPairing, withKeys, withChannel, withTap, closed, forgotten, notPending, pathBytes, pathOf, tapOf, keyUid}
 use Rattle.card.specs.Slots.{allOf, someOf, isZero, isFree}
-use Rattle.card.specs.Sound.{isDigit}
+use Rattle.card.specs.Sound.{isDigit, isNdef}
 use Rattle.card_slots.specs.declared.Free.{Free}
 use Rattle.card_slots.specs.declared.Free.the-variants as free
 use Rattle.card_slots.specs.Free.{firstFree}
@@ -366,6 +366,13 @@ unfoldable pub exportReply : Card → ExportPath → ExportPart → List ℕ →
 exportReply c which what d s =
     cond (saysYes s) (succeeds (withKeys c (keysAfterExport which (c .keys) d)) (exportedKeys what s)) (fails c referenceInvalid)
 
+-- ---- SET NDEF F3 (RULES 6.20), with a verified PIN: the data become the tap record, their two length bytes with them
+unfoldable pub ndefChecks : Pins → List ℕ → List Check
+ndefChecks p d = must (isVerified p) conditionsNotMet ∷ must (isNdef d) wrongData ∷ []
+
+unfoldable pub ndefReply : Card → List ℕ → Reply
+ndefReply c d = succeeds (withTap c (tapOf d)) []
+
 -- ---- the rules (RULES 6.2): for each command its checks, the supply that is read past them or the secret that is compared, and its reply
 unfoldable pub ruleOf : Command → Rule
 ruleOf command.Select = rule (λ c d. selectChecks d) noSupply (λ c d s. selectReply c)
@@ -386,3 +393,4 @@ ruleOf command.SetPinless = rule (λ c d. pinlessChecks (c .pins) d) noSupply (�
 ruleOf command.Sign = rule (λ c d. signChecks (c .pins) (c .keys) d) signSupply (λ c d s. signReply c s)
 ruleOf (command.Export which what) =
     rule (λ c d. exportChecks (c .pins) (c .keys) which what d) exportSupply (λ c d s. exportReply c which what d s)
+ruleOf command.SetNdef = rule (λ c d. ndefChecks (c .pins) d) noSupply (λ c d s. ndefReply c d)

@@ -1,4 +1,4 @@
--- The sixteen instructions, one row each (RULES 6.1): the byte, where the instruction is offered, the stage of
+-- The seventeen instructions, one row each (RULES 6.1): the byte, where the instruction is offered, the stage of
 -- the channel that it needs, the P1 and P2 that it lists with the command that each names, and what it gives up.
 use Prim.Native.Nat.{ℕ}
 use mathlib.Core.Bool.{Bool, true, not, cond}
@@ -91,6 +91,7 @@ rowOf ins.Remove = sealedRow 0xD3 (only 0x00 command.Remove)
 rowOf ins.SetPinless = sealedRow 0xC1 (only 0x00 command.SetPinless)
 rowOf ins.Sign = sealedRow 0xC0 (only 0x00 command.Sign)
 rowOf ins.Export = sealedRow 0xC2 (oneOfEach (exports exportPart.PrivateAndPublic) (exports exportPart.PublicOnly))
+rowOf ins.SetNdef = sealedRow 0xF3 (only 0x00 command.SetNdef)
 
 -- those of class 80 (RULES 5.3): all but SELECT
 abbrev pub class80 : List Instruction
@@ -110,6 +111,7 @@ class80 =
     ∷ ins.SetPinless
     ∷ ins.Sign
     ∷ ins.Export
+    ∷ ins.SetNdef
     ∷ []
 
 -- ---- what a row says

@@ -67,6 +67,8 @@ pub const INS_SIGN: u8 = 0xC0;
 
 pub const INS_EXPORT: u8 = 0xC2;
 
+pub const INS_SET_NDEF: u8 = 0xF3;
+
 // The most data that a command's response has, in bytes: with the status word it can be sealed.
 pub const RESPONSE_MAX_BYTES: usize = 221;
 
@@ -88,6 +90,7 @@ pub enum Instruction {
     SetPinless,
     Sign,
     Export,
+    SetNdef,
 }
 
 // Where an instruction is offered: on every card, on one before INIT, or on one after INIT.
@@ -166,6 +169,7 @@ pub enum Command {
     SetPinless,
     Sign,
     Export(ExportPath, ExportPart),
+    SetNdef,
 }
 
 // Step 5: the command, or that its P1 and P2 are not listed.

@@ -1,7 +1,7 @@
 -- The card of a card's bytes is that card, where its arrays have the lengths of their types, and likewise a session: the bytes are pieces
 -- of known lengths, one after the other, and each begins where the lengths before it end.
 -- Assumes nothing.
-use mathlib.Core.Path.{_≡_, refl, sym, ap, _∙_, subst}
+use mathlib.Core.Path.{_≡_, refl, sym, ap, ap₂, _∙_, subst}
 use mathlib.Core.List.{List, [], _∷_, _++_, append-assoc, append-nil, map}
 use Prim.Native.Nat.{ℕ, zero, suc, _+_, _*_}
 use lib.ListN.{length, getD}
@@ -14,15 +14,16 @@ use Rattle.card.specs.declared.Pairing.{Pairing}
 use Rattle.card.specs.declared.Path.{Path}
 use Rattle.card.specs.declared.Keys.{Keys}
 use Rattle.card.specs.declared.Channel.{Channel}
+use Rattle.card.specs.declared.Tap.{Tap}
 use Rattle.card.specs.declared.Card.{Card}
-use Rattle.card.specs.Sizes.{uidBytes, publicKeyBytes, pinBytes, pukBytes, keyBytes, ivBytes, pathMostBytes, slotBytes, slotCount}
+use Rattle.card.specs.Sizes.{uidBytes, publicKeyBytes, pinBytes, pukBytes, keyBytes, ivBytes, pathMostBytes, tapMostBytes, slotBytes, slotCount}
 use Rattle.card.specs.Shape.{Shaped}
 use Rattle.channel_rules.specs.declared.Session.{Session}
 use Rattle.channel_rules.specs.Message.{Keyed}
 use Rattle.record_rules.specs.Fields.{slotsBytes}
 use Rattle.record_rules.specs.Parse.{fit, slotsFrom}
 use Rattle.record_rules.proofs.ParseFacts.{fit-front, slots-long, slots-back}
-use Rattle.soft_card_bytes.specs.Flat.{cardFlat, sessionFlat}
+use Rattle.soft_card_bytes.specs.Flat.{identityFlat, pinsFlat, pairingFlat, keysFlat, channelFlat, tapFlat, cardFlat, sessionFlat}
 use Rattle.soft_card_bytes.specs.Offsets.{slotsOffset}
 use Rattle.soft_card_bytes.specs.Places.{byteAt, bytesAt, cardAt, sessionAt}
 
@@ -30,6 +31,10 @@ use Rattle.soft_card_bytes.specs.Places.{byteAt, bytesAt, cardAt, sessio
 abbrev joined : List (List ℕ) → List ℕ
 joined [] = []
 joined (p ∷ ps) = p ++ joined ps
+
+joined-two : (ps qs : List (List ℕ)) → joined (ps ++ qs) ≡ joined ps ++ joined qs
+joined-two [] qs = refl
+joined-two (p ∷ ps) qs = ap (λ (s : List ℕ). p ++ s) (joined-two ps qs) ∙ sym (append-assoc p (joined ps) (joined qs))
 
 abbrev offset : ℕ → List ℕ → ℕ
 offset zero ns = 0
@@ -76,10 +81,13 @@ same-channel : (r : Channel) {x : ℕ} {a b d : List ℕ} → x ≡ r .stage →
     → _≡_ {A = Channel} (record { stage = x; «enc_key» = a; «mac_key» = b; iv = d }) r
 same-channel r p q s t = rw (p, q, s, t)
 
-same-card : (r : Card) {x : ℕ} {i : Identity} {p : Pins} {q : Pairing} {k : Keys} {n : Channel}
-    → x ≡ r .initialised → i ≡ r .identity → p ≡ r .pins → q ≡ r .pairing → k ≡ r .keys → n ≡ r .channel
-    → _≡_ {A = Card} (record { initialised = x; identity = i; pins = p; pairing = q; keys = k; channel = n }) r
-same-card r a b d e f g = rw (a, b, d, e, f, g)
+same-tap : (r : Tap) {x : ℕ} {a : List ℕ} → x ≡ r .len → a ≡ r .bytes → _≡_ {A = Tap} (record { len = x; bytes = a }) r
+same-tap r p q = rw (p, q)
+
+same-card : (r : Card) {x : ℕ} {i : Identity} {p : Pins} {q : Pairing} {k : Keys} {n : Channel} {t : Tap}
+    → x ≡ r .initialised → i ≡ r .identity → p ≡ r .pins → q ≡ r .pairing → k ≡ r .keys → n ≡ r .channel → t ≡ r .tap
+    → _≡_ {A = Card} (record { initialised = x; identity = i; pins = p; pairing = q; keys = k; channel = n; tap = t }) r
+same-card r a b d e f g h = rw (a, b, d, e, f, g, h)
 
 same-session : (r : Session) {a b d : List ℕ} → a ≡ r .«enc_key» → b ≡ r .«mac_key» → d ≡ r .iv
     → _≡_ {A = Session} (record { «enc_key» = a; «mac_key» = b; iv = d }) r
@@ -91,8 +99,9 @@ abbrev pub channelSession : Channel → Session
 channelSession c = record { «enc_key» = c .«enc_key»; «mac_key» = c .«mac_key»; iv = c .iv }
 
 module _ (c : Card) where
-  abbrev pieces : List (List ℕ)
-  pieces =
+  -- the pieces before the tap record, and its two
+  abbrev front : List (List ℕ)
+  front =
       (c .initialised ∷ [])
       ∷ c .identity .uid
       ∷ c .identity .«public_key»
@@ -116,6 +125,12 @@ module _ (c : Card) where
       ∷ c .channel .«mac_key»
       ∷ c .channel .iv
       ∷ []
+
+  abbrev tapPieces : List (List ℕ)
+  tapPieces = (c .tap .len ∷ []) ∷ c .tap .bytes ∷ []
+
+  abbrev pieces : List (List ℕ)
+  pieces = front ++ tapPieces
 
   abbrev lengths : List ℕ
   lengths =
@@ -141,11 +156,18 @@ module _ (c : Card) where
       ∷ keyBytes
       ∷ keyBytes
       ∷ ivBytes
+      ∷ 1
+      ∷ tapMostBytes
       ∷ []
+
+  front-joined : (c .initialised ∷ []) ++ identityFlat (c .identity) ++ pinsFlat (c .pins) ++ pairingFlat (c .pairing) ++ keysFlat (c .keys) ++ channelFlat (c .channel) ≡ joined front
+  front-joined = simp (append-assoc, append-nil)
 
   flat-joined : cardFlat c ≡ joined pieces
   unfolding cardFlat
-  flat-joined = simp (append-assoc, append-nil)
+  flat-joined =
+      ap₂ (λ (s t : List ℕ). s ++ t) front-joined (sym (append-nil (tapFlat (c .tap))))
+      ∙ sym (joined-two front tapPieces)
 
   module _ (h : Shaped c) (k : Keyed (channelSession (c .channel))) where
     long : map length pieces ≡ lengths
@@ -153,7 +175,7 @@ module _ (c : Card) where
         refl & h .uid & h .«public_key» & h .pin & h .puk & refl & refl & refl & h .secret
         & (slots-long (c .pairing .slots) (h .keys) ∙ ap (λ (n : ℕ). slotBytes * n) (h .slots))
         & refl & h .expected & refl & h .keyuid & refl & h .current & refl & h .pinless & refl
-        & k .enc .long & k .mac .long & k .iv .long & refl
+        & k .enc .long & k .mac .long & k .iv .long & refl & h .tap & refl
 
     bytes : (i : ℕ) → bytesAt (offset i lengths) (getD lengths i 0) (cardFlat c) ≡ getD pieces i []
     bytes i = piece (cardFlat c) pieces lengths flat-joined long i
@@ -178,6 +200,7 @@ module _ (c : Card) where
         (same-path (c .keys .current) (byte 14 (bytes 14)) (bytes 15))
         (same-path (c .keys .pinless) (byte 16 (bytes 16)) (bytes 17)))
         (same-channel (c .channel) (byte 18 (bytes 18)) (bytes 19) (bytes 20) (bytes 21))
+        (same-tap (c .tap) (byte 22 (bytes 22)) (bytes 23))
 
 -- ---- a session
 pub session-again : (x : Session) → Keyed x → sessionAt (sessionFlat x) ≡ x

@@ -8,14 +8,14 @@ use lib.ListN.{length, take, drop, getD}
 use lib.Seq.{take-all}
 use Rattle.octets.proofs.Lists.{length-tabulate}
 use Rattle.card.specs.declared.Card.{Card}
-use Rattle.card.specs.Sizes.{uidBytes, publicKeyBytes, pinBytes, pukBytes, keyBytes, ivBytes, pathMostBytes, slotBytes, slotCount, wholePathBytes, sessionBytes, cardBytes}
+use Rattle.card.specs.Sizes.{uidBytes, publicKeyBytes, pinBytes, pukBytes, keyBytes, ivBytes, pathMostBytes, tapMostBytes, slotBytes, slotCount, sessionBytes, cardBytes}
 use Rattle.channel_rules.specs.declared.Session.{Session}
 use Rattle.record_rules.specs.Fields.{slotsBytes}
 use Rattle.record_rules.specs.Parse.{slotsFrom}
-use Rattle.soft_card_bytes.specs.Flat.{identityFlat, pinsFlat, pairingFlat, pathFlat, keysFlat, channelFlat, cardFlat, sessionFlat}
-use Rattle.soft_card_bytes.specs.Offsets.{identityOffset, pinsOffset, pairingOffset, keysOffset, channelOffset, publicKeyOffset, pukOffset, pinTriesOffset, pukTriesOffset, verifiedOffset, slotsOffset, pendingOffset, expectedOffset, keyUidOffset, currentOffset, pinlessOffset, encKeyOffset, macKeyOffset, ivOffset, sessionMacKeyOffset, sessionIvOffset}
-use Rattle.soft_card_bytes.specs.Places.{bytesAt, identityAt, pinsAt, pairingAt, pathAt, keysAt, channelAt, cardAt, sessionAt}
-use Rattle.soft_card_bytes.proofs.Grown.{join, read-byte, read-bytes, slots-again}
+use Rattle.soft_card_bytes.specs.Flat.{identityFlat, pinsFlat, pairingFlat, keysFlat, channelFlat, tapFlat, cardFlat, sessionFlat}
+use Rattle.soft_card_bytes.specs.Offsets.{identityOffset, pinsOffset, pairingOffset, keysOffset, channelOffset, tapOffset, publicKeyOffset, pukOffset, pinTriesOffset, pukTriesOffset, verifiedOffset, slotsOffset, pendingOffset, expectedOffset, keyUidOffset, currentOffset, pinlessOffset, encKeyOffset, macKeyOffset, ivOffset, sessionMacKeyOffset, sessionIvOffset}
+use Rattle.soft_card_bytes.specs.Places.{bytesAt, identityAt, pinsAt, pairingAt, keysAt, channelAt, tapAt, cardAt, sessionAt}
+use Rattle.soft_card_bytes.proofs.Grown.{join, read-byte, read-bytes, read-room, slots-again}
 
 -- ---- bytes, card, bytes: each field comes after the one before it
 module _ (s : List ℕ) where
@@ -23,11 +23,6 @@ module _ (s : List ℕ) where
   slots-at l =
       ap (λ (x : List ℕ). take slotsOffset s ++ x) (slots-again slotCount (bytesAt slotsOffset (slotBytes * slotCount) s) (length-tabulate (slotBytes * slotCount) (λ k. getD (drop slotsOffset s) k 0)))
       ∙ read-bytes s slotsOffset (slotBytes * slotCount) l refl
-
-  path-at : (at : ℕ) → at + wholePathBytes ≤ length s → take at s ++ pathFlat (pathAt at s) ≡ take (at + wholePathBytes) s
-  path-at at l =
-      join (take at s) _ _ (read-byte s at (omega arith)) (read-bytes s (at + 1) pathMostBytes (omega arith) refl)
-      ∙ ap (λ (n : ℕ). take n s) {x = at + 1 + pathMostBytes} {y = at + wholePathBytes} (omega arith)
 
   module _ (l : length s ≡ cardBytes) where
     identity-at : take identityOffset s ++ identityFlat (identityAt s) ≡ take pinsOffset s
@@ -50,17 +45,19 @@ module _ (s : List ℕ) where
         join (take keysOffset s) _ _
         (join (take keysOffset s) _ _
         (join (take keysOffset s) _ _ (read-byte s keysOffset (omega arith)) (read-bytes s keyUidOffset keyBytes (omega arith) refl))
-        (path-at currentOffset (omega arith)))
-        (path-at pinlessOffset (omega arith))
+        (read-room s currentOffset pathMostBytes (omega arith)))
+        (read-room s pinlessOffset pathMostBytes (omega arith))
 
-    channel-at : take channelOffset s ++ channelFlat (channelAt s) ≡ s
+    channel-at : take channelOffset s ++ channelFlat (channelAt s) ≡ take tapOffset s
     channel-at =
         join (take channelOffset s) _ _
         (join (take channelOffset s) _ _
         (join (take channelOffset s) _ _ (read-byte s channelOffset (omega arith)) (read-bytes s encKeyOffset keyBytes (omega arith) refl))
         (read-bytes s macKeyOffset keyBytes (omega arith) refl))
         (read-bytes s ivOffset ivBytes (omega arith) refl)
-        ∙ take-all cardBytes s (omega arith)
+
+    tap-at : take tapOffset s ++ tapFlat (tapAt s) ≡ s
+    tap-at = read-room s tapOffset tapMostBytes (omega arith) ∙ take-all cardBytes s (omega arith)
 
     pub flat-card : cardFlat (cardAt s) ≡ s
     unfolding cardFlat cardAt
@@ -69,11 +66,13 @@ module _ (s : List ℕ) where
         (join [] _ _
         (join [] _ _
         (join [] _ _
+        (join [] _ _
         (join [] _ _ (read-byte s 0 (omega arith)) identity-at)
         pins-at)
         pairing-at)
         keys-at)
-        channel-at
+        channel-at)
+        tap-at
 
   pub flat-session : length s ≡ sessionBytes → sessionFlat (sessionAt s) ≡ s
   unfolding sessionFlat sessionAt

@@ -8,6 +8,7 @@ use Rattle.card.specs.declared.Pairing.{Pairing}
 use Rattle.card.specs.declared.Path.{Path}
 use Rattle.card.specs.declared.Keys.{Keys}
 use Rattle.card.specs.declared.Channel.{Channel}
+use Rattle.card.specs.declared.Tap.{Tap}
 use Rattle.card.specs.declared.Card.{Card}
 use Rattle.channel_rules.specs.declared.Session.{Session}
 use Rattle.record_rules.specs.Fields.{slotsBytes}
@@ -31,6 +32,10 @@ keysFlat k = (k .kind ∷ k .uid) ++ pathFlat (k .current) ++ pathFlat (k .pinle
 abbrev pub channelFlat : Channel → List ℕ
 channelFlat c = (c .stage ∷ c .«enc_key») ++ c .«mac_key» ++ c .iv
 
+-- the whole room, whatever of the tap record is in use
+abbrev pub tapFlat : Tap → List ℕ
+tapFlat t = t .len ∷ t .bytes
+
 unfoldable pub cardFlat : Card → List ℕ
 cardFlat c =
     (c .initialised ∷ [])
@@ -39,6 +44,7 @@ cardFlat c =
     ++ pairingFlat (c .pairing)
     ++ keysFlat (c .keys)
     ++ channelFlat (c .channel)
+    ++ tapFlat (c .tap)
 
 unfoldable pub sessionFlat : Session → List ℕ
 sessionFlat s = s .«enc_key» ++ s .«mac_key» ++ s .iv

@@ -1,7 +1,7 @@
 -- Where each part and each field of a card's bytes begins, in bytes from their start (docs/LAYOUT.md): a part after the part before it, a
 -- field after the field before it. A session likewise.
 use Prim.Native.Nat.{ℕ, _+_, _*_}
-use Rattle.card.specs.Sizes.{uidBytes, pinBytes, pukBytes, keyBytes, slotBytes, slotCount, wholePathBytes, identityBytes, pinsBytes, pairingBytes, keysBytes}
+use Rattle.card.specs.Sizes.{uidBytes, pinBytes, pukBytes, keyBytes, slotBytes, slotCount, wholePathBytes, identityBytes, pinsBytes, pairingBytes, keysBytes, channelBytes}
 
 -- ---- the parts, after the flag of INIT
 abbrev pub identityOffset : ℕ
@@ -18,6 +18,9 @@ keysOffset = pairingOffset + pairingBytes
 
 abbrev pub channelOffset : ℕ
 channelOffset = keysOffset + keysBytes
+
+abbrev pub tapOffset : ℕ
+tapOffset = channelOffset + channelBytes
 
 -- ---- the fields after the first of their part
 abbrev pub publicKeyOffset : ℕ
@@ -61,6 +64,9 @@ macKeyOffset = encKeyOffset + keyBytes
 
 abbrev pub ivOffset : ℕ
 ivOffset = macKeyOffset + keyBytes
+
+abbrev pub tapRoomOffset : ℕ
+tapRoomOffset = tapOffset + 1
 
 -- ---- the fields of a session
 abbrev pub sessionMacKeyOffset : ℕ

@@ -8,11 +8,12 @@ use Rattle.card.specs.declared.Pairing.{Pairing}
 use Rattle.card.specs.declared.Path.{Path}
 use Rattle.card.specs.declared.Keys.{Keys}
 use Rattle.card.specs.declared.Channel.{Channel}
+use Rattle.card.specs.declared.Tap.{Tap}
 use Rattle.card.specs.declared.Card.{Card}
-use Rattle.card.specs.Sizes.{uidBytes, publicKeyBytes, pinBytes, pukBytes, keyBytes, ivBytes, pathMostBytes, slotBytes, slotCount}
+use Rattle.card.specs.Sizes.{uidBytes, publicKeyBytes, pinBytes, pukBytes, keyBytes, ivBytes, pathMostBytes, tapMostBytes, slotBytes, slotCount}
 use Rattle.channel_rules.specs.declared.Session.{Session}
 use Rattle.record_rules.specs.Parse.{fit, slotsFrom}
-use Rattle.soft_card_bytes.specs.Offsets.{identityOffset, pinsOffset, pairingOffset, keysOffset, channelOffset, publicKeyOffset, pukOffset, pinTriesOffset, pukTriesOffset, verifiedOffset, slotsOffset, pendingOffset, expectedOffset, keyUidOffset, currentOffset, pinlessOffset, encKeyOffset, macKeyOffset, ivOffset, sessionMacKeyOffset, sessionIvOffset}
+use Rattle.soft_card_bytes.specs.Offsets.{identityOffset, pinsOffset, pairingOffset, keysOffset, channelOffset, tapOffset, publicKeyOffset, pukOffset, pinTriesOffset, pukTriesOffset, verifiedOffset, slotsOffset, pendingOffset, expectedOffset, keyUidOffset, currentOffset, pinlessOffset, encKeyOffset, macKeyOffset, ivOffset, tapRoomOffset, sessionMacKeyOffset, sessionIvOffset}
 
 -- the byte at an offset, and n bytes from there on; where the list has ended there are zeros
 abbrev pub byteAt : ℕ → List ℕ → ℕ
@@ -56,6 +57,9 @@ channelAt s = record {
   iv = bytesAt ivOffset ivBytes s;
 }
 
+abbrev pub tapAt : List ℕ → Tap
+tapAt s = record { len = byteAt tapOffset s; bytes = bytesAt tapRoomOffset tapMostBytes s }
+
 unfoldable pub cardAt : List ℕ → Card
 cardAt s = record {
   initialised = byteAt 0 s;
@@ -64,6 +68,7 @@ cardAt s = record {
   pairing = pairingAt s;
   keys = keysAt s;
   channel = channelAt s;
+  tap = tapAt s;
 }
 
 unfoldable pub sessionAt : List ℕ → Session

@@ -9,9 +9,9 @@ ghost use mathlib.Core.List.{_++_};
 ghost use Prim.Native.Nat.{_+_, _≤_};
 ghost use lib.ListN.{take};
 ghost use Rattle.card.specs.Sizes.{wholePathBytes, cardBytes};
-ghost use Rattle.soft_card_bytes.specs.Flat.{identityFlat, pinsFlat, pairingFlat, pathFlat, keysFlat, channelFlat, cardFlat, sessionFlat};
-ghost use Rattle.soft_card_bytes.specs.Offsets.{identityOffset, pinsOffset, pairingOffset, keysOffset, channelOffset};
-ghost use Rattle.soft_card_bytes.specs.Places.{identityAt, pinsAt, pairingAt, pathAt, keysAt, channelAt, cardAt, sessionAt};
+ghost use Rattle.soft_card_bytes.specs.Flat.{identityFlat, pinsFlat, pairingFlat, pathFlat, keysFlat, channelFlat, tapFlat, cardFlat, sessionFlat};
+ghost use Rattle.soft_card_bytes.specs.Offsets.{identityOffset, pinsOffset, pairingOffset, keysOffset, channelOffset, tapOffset};
+ghost use Rattle.soft_card_bytes.specs.Places.{identityAt, pinsAt, pairingAt, pathAt, keysAt, channelAt, tapAt, cardAt, sessionAt};
 pub use card::CARD_BYTES;
 use card::Card;
 use card::Channel;
@@ -22,6 +22,7 @@ use card::Path;
 use card::Pins;
 pub use card::SESSION_BYTES;
 use card::SLOTS_BYTES;
+use card::Tap;
 use channel_rules::Session;
 use octets::put;
 pub use parts::fill;
@@ -38,6 +39,8 @@ pub const KEYS_AT: usize = PAIRING_AT + card::PAIRING_BYTES;
 
 pub const CHANNEL_AT: usize = KEYS_AT + card::KEYS_BYTES;
 
+pub const TAP_AT: usize = CHANNEL_AT + card::CHANNEL_BYTES;
+
 pub const PIN_TRIES_AT: usize = PINS_AT + card::PIN_BYTES + card::PUK_BYTES;
 
 pub const PUK_TRIES_AT: usize = PIN_TRIES_AT + 1;
@@ -52,7 +55,7 @@ pub const CURRENT_AT: usize = KEYS_AT + 1 + card::KEY_BYTES;
 
 pub const PINLESS_AT: usize = CURRENT_AT + card::PATH_BYTES;
 
-// The session of the channel is the last of the record.
+// The session of the channel, from its encryption key to its IV.
 pub const SESSION_AT: usize = CHANNEL_AT + 1;
 
 const ENC_KEY_AT: usize = SESSION_AT;
@@ -152,6 +155,17 @@ fn channel_of(s: [u8; CARD_BYTES]) -> Channel
     }
 }
 
+fn tap_of(s: [u8; CARD_BYTES]) -> Tap
+    ensures { λ r. ⌜ r ≡ tapAt s ⌝ }
+{
+    let mut bytes = [0u8; card::TAP_MAX_BYTES];
+    fill(&mut bytes, &s, TAP_AT + 1);
+    Tap {
+        len: s[TAP_AT],
+        bytes,
+    }
+}
+
 // The card of these bytes, sound or not.
 pub fn card_of(bytes: [u8; CARD_BYTES]) -> Card
     ensures { λ r. ⌜ (cardFlat r ≡ bytes) × (r ≡ cardAt bytes) ⌝ }
@@ -162,6 +176,7 @@ pub fn card_of(bytes: [u8; CARD_BYTES]) -> Card
     let pairing = pairing_of(bytes);
     let keys = keys_of(bytes);
     let channel = channel_of(bytes);
+    let tap = tap_of(bytes);
     Card {
         initialised,
         identity,
@@ -169,6 +184,7 @@ pub fn card_of(bytes: [u8; CARD_BYTES]) -> Card
         pairing,
         keys,
         channel,
+        tap,
     }
 }
 
@@ -252,7 +268,7 @@ fn with_keys(s: [u8; CARD_BYTES], x: Keys) -> [u8; CARD_BYTES]
 }
 
 fn with_channel(s: [u8; CARD_BYTES], x: Channel) -> [u8; CARD_BYTES]
-    ensures { λ r. ⌜ take channelOffset s ++ channelFlat x ≡ r ⌝ }
+    ensures { λ r. ⌜ take channelOffset s ++ channelFlat x ≡ take tapOffset r ⌝ }
 {
     let mut r = s;
     let enc_key = x.enc_key;
@@ -265,6 +281,16 @@ fn with_channel(s: [u8; CARD_BYTES], x: Channel) -> [u8; CARD_BYTES]
     r
 }
 
+fn with_tap(s: [u8; CARD_BYTES], x: Tap) -> [u8; CARD_BYTES]
+    ensures { λ r. ⌜ take tapOffset s ++ tapFlat x ≡ r ⌝ }
+{
+    let mut r = s;
+    let bytes = x.bytes;
+    r[TAP_AT] = x.len;
+    put(&mut r, TAP_AT + 1, &bytes);
+    r
+}
+
 // The bytes of a card.
 pub fn record_of(card: Card) -> [u8; CARD_BYTES]
     ensures { λ r. ⌜ r ≡ cardFlat card ⌝ }
@@ -274,7 +300,8 @@ pub fn record_of(card: Card) -> [u8; CARD_BYTES]
     let c = with_pins(b, card.pins);
     let d = with_pairing(c, card.pairing);
     let e = with_keys(d, card.keys);
-    with_channel(e, card.channel)
+    let f = with_channel(e, card.channel);
+    with_tap(f, card.tap)
 }
 
 // The bytes of a session.

@@ -1,6 +1,7 @@
-// The soft card's calls on the card alone: FRESH, RESET, READ, WRITE, soundness, and its fields.
+// The soft card's calls on the card alone: FRESH, RESET, READ, WRITE, soundness, its fields, and the tap read of a stored record.
 // Every length, room and count is in bytes.
 // Proved: every function is safe and ends.
+use record_tap::TapPlace;
 use soft_card_bytes::CARD_BYTES;
 use soft_state::Desk;
 use soft_state::args;
@@ -67,6 +68,46 @@ pub fn write(d: Desk, line: &[u8]) -> Desk {
         return d;
     }
     soft_steps::write(d, room.len)
+}
+
+fn say_place(place: TapPlace) {
+    match place {
+        TapPlace::Own { start, count: _ } => {
+            say(b"record, offset ");
+            text_print::say_size(start);
+        }
+        _ => say(b"factory, offset 0"),
+    }
+}
+
+fn say_tap<'a>(record: &'a [u8], factory: &'a [u8]) {
+    say(b"tap: ");
+    let refusal = record_tap::tap_refusal(record);
+    if refusal != 0 {
+        soft_names::say_refusal(refusal, 0);
+        say(b", the part is empty\n");
+        return;
+    }
+    say_place(record_tap::tap_place(record));
+    let part = record_tap::tap_record(record, factory);
+    text_print::say_bytes(b",", part);
+}
+
+// The tap read: which part of a stored record and a factory record is the tap record.
+pub fn tap(d: Desk, line: &[u8]) {
+    let mut record = [0u8; VALUE_MAX_BYTES];
+    let t = args::take(line, 1, b"RECORD", d.last, &mut record);
+    if !t.ok {
+        return;
+    }
+    let mut factory = [0u8; VALUE_MAX_BYTES];
+    let u = args::take(line, 2, b"FACTORY", d.last, &mut factory);
+    if !u.ok {
+        return;
+    }
+    let n = text_fill::bounded(t.len, &record);
+    let m = text_fill::bounded(u.len, &factory);
+    say_tap(&record[..n], &factory[..m]);
 }
 
 pub fn sound(d: Desk) {

@@ -181,7 +181,7 @@ fn taken(d: Desk, session: [u8; SESSION_BYTES]) -> Desk {
     soft_state::with_session(d, session)
 }
 
-// The keys and the IV of the card's channel, which are the last bytes of its record.
+// The keys and the IV of the card's channel, one after the other in its record.
 fn session_of_card(d: Desk) -> Desk {
     let card = d.card;
     let mut session = [0u8; SESSION_BYTES];

@@ -7,15 +7,16 @@ use card::PATH_MAX_BYTES;
 use card::PIN_BYTES;
 use card::PUBLIC_KEY_BYTES;
 use card::PUK_BYTES;
+use card::TAP_MAX_BYTES;
 use card::UID_BYTES;
 use soft_card_bytes::CARD_BYTES;
 use text_print::say;
 
 // The rows of the table: each field's name, and its length in bytes.
-const ROWS: usize = 23;
+const ROWS: usize = 25;
 
-const NAMES: [u8; 192] =
-    *b"initialised uid public_key pin puk pin_tries puk_tries verified secret filled key pending expected key_kind key_uid current.len current.bytes pinless.len pinless.bytes stage enc_key mac_key iv";
+const NAMES: [u8; 210] =
+    *b"initialised uid public_key pin puk pin_tries puk_tries verified secret filled key pending expected key_kind key_uid current.len current.bytes pinless.len pinless.bytes stage enc_key mac_key iv tap.len tap.bytes";
 
 const LENGTHS: [usize; ROWS] = [
     1,
@@ -41,6 +42,8 @@ const LENGTHS: [usize; ROWS] = [
     KEY_BYTES,
     KEY_BYTES,
     IV_BYTES,
+    1,
+    TAP_MAX_BYTES,
 ];
 
 // The row of a slot's first field, and how many fields a slot has.

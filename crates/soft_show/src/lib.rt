@@ -18,6 +18,7 @@ use soft_card_bytes::PINLESS_AT;
 use soft_card_bytes::PUK_TRIES_AT;
 use soft_card_bytes::SESSION_BYTES;
 use soft_card_bytes::SLOTS_AT;
+use soft_card_bytes::TAP_AT;
 use soft_card_bytes::VERIFIED_AT;
 use text_print::say;
 
@@ -26,9 +27,10 @@ fn say_number(words: &[u8], b: u8) {
     text_print::say_byte_number(b);
 }
 
-fn say_path(words: &[u8], len: u8) {
+// How much of a room is in use: of a path's, or of the tap record's.
+fn say_used(words: &[u8], used_bytes: u8) {
     say(words);
-    text_print::say_length(card::wide(len));
+    text_print::say_length(card::wide(used_bytes));
 }
 
 fn say_slots(r: [u8; CARD_BYTES]) {
@@ -49,8 +51,8 @@ fn say_pins(r: [u8; CARD_BYTES]) {
 fn say_keys(r: [u8; CARD_BYTES]) {
     say_number(b", pending ", r[PENDING_AT]);
     say_number(b", key kind ", r[KEYS_AT]);
-    say_path(b", current path ", r[CURRENT_AT]);
-    say_path(b", PIN-less path ", r[PINLESS_AT]);
+    say_used(b", current path ", r[CURRENT_AT]);
+    say_used(b", PIN-less path ", r[PINLESS_AT]);
 }
 
 // One line for the card.
@@ -60,6 +62,7 @@ pub fn say_card(r: [u8; CARD_BYTES]) {
     say_pins(r);
     say_slots(r);
     say_keys(r);
+    say_used(b", tap record ", r[TAP_AT]);
     say(b"\n");
 }
 

@@ -9,6 +9,7 @@ enum Call {
     Reset,
     Read,
     Write,
+    Tap,
     Sound,
     Card,
     Set,
@@ -35,6 +36,9 @@ fn card_call(line: &[u8]) -> Call {
     }
     if is_word(line, 0, b"write") {
         return Call::Write;
+    }
+    if is_word(line, 0, b"tap") {
+        return Call::Tap;
     }
     if is_word(line, 0, b"sound") {
         return Call::Sound;
@@ -91,6 +95,7 @@ fn takes(call: Call, n: usize) -> bool {
         Call::Reset => n == 1,
         Call::Read => n == 2,
         Call::Write => n == 1 || n == 3,
+        Call::Tap => n == 3,
         Call::Sound => n == 1,
         Call::Card => n == 1,
         Call::Set => n == 3,
@@ -131,6 +136,9 @@ fn more_help() {
 fn card_help() {
     say(b"write [room N]                 the card's stored record\n");
     say(b"read RECORD                    the card of a stored record\n");
+    say(
+        b"tap RECORD FACTORY             the tap record of a stored record, or the factory record\n",
+    );
     say(b"sound                          whether the card is sound\n");
     say(b"card                           every field of the card\n");
     say(b"set FIELD BYTES                puts bytes into a field of the card\n");
@@ -157,6 +165,10 @@ fn play_card(d: Desk, call: Call, line: &[u8]) -> Desk {
         Call::Read => soft_card_calls::read(d, line),
         Call::Write => soft_card_calls::write(d, line),
         Call::Set => soft_card_calls::set(d, line),
+        Call::Tap => {
+            soft_card_calls::tap(d, line);
+            d
+        }
         Call::Sound => {
             soft_card_calls::sound(d);
             d
@@ -194,6 +206,7 @@ fn is_card_call(call: Call) -> bool {
         | Call::Read
         | Call::Write
         | Call::Set
+        | Call::Tap
         | Call::Sound
         | Call::Card => true,
         _ => false,

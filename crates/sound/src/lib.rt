@@ -23,15 +23,17 @@ fn parts_sound(card: Card) -> bool
     let pairing = card.pairing;
     let keys = card.keys;
     let channel = card.channel;
+    let tap = card.tap;
     let a = sound_pins::pins_sound(pins);
     let b = sound_pairing::pairing_sound(pairing);
     let c = sound_keys::keys_sound(keys);
     let d = sound_channel::channel_sound(channel);
+    let e = sound_tap::tap_sound(tap);
     let none = pairing.pending == 0;
     let closed = channel.stage == STAGE_CLOSED;
     let unverified = pins.verified == 0;
     let authenticated = channel.stage == STAGE_AUTHENTICATED;
-    a & b & c & d & (none | closed) & (unverified | authenticated)
+    a & b & c & d & e & (none | closed) & (unverified | authenticated)
 }
 
 // The parts of a pre-initialised card.
@@ -42,10 +44,12 @@ fn parts_blank(card: Card) -> bool
     let pairing = card.pairing;
     let keys = card.keys;
     let channel = card.channel;
+    let tap = card.tap;
     sound_pins::pins_blank(pins)
         & sound_pairing::pairing_blank(pairing)
         & sound_keys::keys_blank(keys)
         & sound_channel::channel_blank(channel)
+        & sound_tap::tap_blank(tap)
 }
 
 // Whether the card is sound (RULES 2.3).

@@ -4,6 +4,7 @@ use borrow.Author.Needs.{needs}
 use Rattle.command_parts.proofs.ReplyFacts.{silent}
 use Rattle.command_load.proofs.Responses.{remove-response}
 use Rattle.command_paths.proofs.Responses.{derive-response, pinless-response}
+use Rattle.command_ndef.proofs.Responses.{ndef-response}
 use Rattle.command_verify.proofs.Laws.{verify-empty}
 use Rattle.command_change.proofs.Laws.{change-empty}
 use Rattle.command_unblock.proofs.Laws.{unblock-empty}
@@ -147,6 +148,14 @@ export-requires c κs = let b7 = c .before .before .before .before .before .befo
     let k = c .before .before .k5 .given .1 in
     ((checked _ _ k _ _ (b7 .pre .0 .0), suited _ _ k _ (b7 .pre .0 .1)), b7 .pre .1 .1)
 
+enum-told-13 : tie.Need-enum-told-13
+enum-told-13 c = search needs
+
+ndef-requires : tie.Need-ndef-requires
+unfolding ruleOf
+ndef-requires c κs = let b5 = c .before .before .before .before .before in
+    checked _ _ (c .enum-told13 .given .1) _ _ (b5 .pre .0 .0)
+
 same-length : tie.Need-same-length
 same-length c = search needs
 
@@ -251,6 +260,10 @@ unfolding ruleOf
 returns-17 c = let b5 = c .before .before .before .before .before in
     rw (b5 .k5 .given .1) (c .before .before .export .ensures)
 
+returns-18 : tie.Need-returns-18
+unfolding ruleOf
+returns-18 c = rw (c .before .enum-told13 .given .1) (silent _ (ndef-response _ _) (c .ndef .ensures))
+
 pub act-spec : {M : Type 1} → statement M
 act-spec =
     tie.close
@@ -289,6 +302,8 @@ act-spec =
     sign-requires
     enum-known-k-5
     export-requires
+    enum-told-13
+    ndef-requires
     same-length
     returns
     returns-2
@@ -314,4 +329,5 @@ act-spec =
     same-length-8
     returns-16
     same-length-9
-    returns-17)
+    returns-17
+    returns-18)

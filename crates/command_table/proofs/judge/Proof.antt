@@ -107,6 +107,12 @@ enum-known-k-4 c = search needs
 export-verdict-requires : tie.Need-export-verdict-requires
 export-verdict-requires c κs = search needs
 
+enum-told-14 : tie.Need-enum-told-14
+enum-told-14 c = search needs
+
+ndef-verdict-requires : tie.Need-ndef-verdict-requires
+ndef-verdict-requires c κs = search needs
+
 returns : tie.Need-returns
 unfolding ruleOf
 returns c = rw (c .before .enum-told .given .1, c .select-verdict .ensures)
@@ -175,6 +181,10 @@ returns-17 : tie.Need-returns-17
 unfolding ruleOf
 returns-17 c = rw (c .before .before .k4 .given .1, c .export-verdict .ensures)
 
+returns-18 : tie.Need-returns-18
+unfolding ruleOf
+returns-18 c = rw (c .before .enum-told14 .given .1, c .ndef-verdict .ensures)
+
 pub judge-spec : {M : Type 1} → statement M
 judge-spec =
     tie.close
@@ -213,6 +223,8 @@ judge-spec =
     sign-verdict-requires
     enum-known-k-4
     export-verdict-requires
+    enum-told-14
+    ndef-verdict-requires
     returns
     returns-2
     returns-3
@@ -229,4 +241,5 @@ judge-spec =
     returns-14
     returns-15
     returns-16
-    returns-17)
+    returns-17
+    returns-18)

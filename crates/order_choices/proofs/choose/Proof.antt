@@ -100,6 +100,12 @@ enum-told-16 c = search needs
 export-requires : tie.Need-export-requires
 export-requires c κs = search needs
 
+enum-told-17 : tie.Need-enum-told-17
+enum-told-17 c = search needs
+
+only-requires-10 : tie.Need-only-requires-10
+only-requires-10 c κs = search needs
+
 returns : tie.Need-returns
 returns c = rw (c .before .enum-told .given .1, c .only .ensures)
 
@@ -148,6 +154,9 @@ returns-15 c = rw (c .before .enum-told15 .given .1, c .only9 .ensures)
 returns-16 : tie.Need-returns-16
 returns-16 c = rw (c .before .enum-told16 .given .1, c .export .ensures)
 
+returns-17 : tie.Need-returns-17
+returns-17 c = rw (c .before .enum-told17 .given .1, c .only10 .ensures)
+
 pub choose-spec : {M : Type 1} → statement M
 choose-spec =
     tie.close
@@ -184,6 +193,8 @@ choose-spec =
     only-requires-9
     enum-told-16
     export-requires
+    enum-told-17
+    only-requires-10
     returns
     returns-2
     returns-3
@@ -199,4 +210,5 @@ choose-spec =
     returns-13
     returns-14
     returns-15
-    returns-16)
+    returns-16
+    returns-17)

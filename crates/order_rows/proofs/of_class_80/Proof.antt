@@ -52,7 +52,10 @@ returns-15 : tie.Need-returns-15
 returns-15 c = rw (c .match .keys15)
 
 returns-16 : tie.Need-returns-16
-returns-16 c = sym (unknown (c .before .args .ins) class80 _ (c .match .rest) .1)
+returns-16 c = rw (c .match .keys16)
+
+returns-17 : tie.Need-returns-17
+returns-17 c = sym (unknown (c .before .args .ins) class80 _ (c .match .rest) .1)
 
 pub of-class-80-spec : {M : Type 1} → statement M
 of-class-80-spec =
@@ -73,4 +76,5 @@ of-class-80-spec =
     returns-13
     returns-14
     returns-15
-    returns-16)
+    returns-16
+    returns-17)

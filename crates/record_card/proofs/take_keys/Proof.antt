@@ -25,11 +25,19 @@ take-path-requires c κs = search needs
 take-path-requires-2 : tie.Need-take-path-requires-2
 take-path-requires-2 c κs = search needs
 
-array-read-t18 : tie.Need-array-read-t18
-array-read-t18 c = search needs
+array-read-t19 : tie.Need-array-read-t19
+array-read-t19 c = search needs
 
 returns : tie.Need-returns
-returns c = let z = c .before .before .before .before .before .before .before .before .before .before .before .pre in let a = at-next z (c .before .before .before .before .before .before .before .before .take-field .ensures .1) in let b = at-next a (c .before .before .before .before .before .take-field2 .ensures .1) in let d = at-next b (c .before .before .before .take-path .ensures .1) in rw (c .before .before .before .before .before .before .before .before .take-field .ensures .0 ∙ fit-at 1 z, c .before .before .before .before .before .take-field2 .ensures .0 ∙ fit-at keyBytes a, c .before .before .before .take-path .ensures .0 ∙ path-at b, c .before .before .take-path2 .ensures .0 ∙ path-at d)
+returns c =
+    let z = c .before .before .before .before .before .before .before .before .before .before .before .pre in
+    let a = at-next z (c .before .before .before .before .before .before .before .before .take-field .ensures .1) in
+    let b = at-next a (c .before .before .before .before .before .take-field2 .ensures .1) in
+    let d = at-next b (c .before .before .before .take-path .ensures .1) in
+    record {
+      keys = rw (c .before .before .before .before .before .before .before .before .take-field .ensures .0 ∙ fit-at 1 z, c .before .before .before .before .before .take-field2 .ensures .0 ∙ fit-at keyBytes a, c .before .before .before .take-path .ensures .0 ∙ path-at b, c .before .before .take-path2 .ensures .0 ∙ path-at d);
+      next = at-next d (c .before .before .take-path2 .ensures .1);
+    }
 
 pub take-keys-spec : {M : Type 1} → statement M
 take-keys-spec =
@@ -41,5 +49,5 @@ take-keys-spec =
     take-field-requires-2
     take-path-requires
     take-path-requires-2
-    array-read-t18
+    array-read-t19
     returns)

@@ -3,7 +3,7 @@
 use mathlib.Core.Path.{sym, _∙_}
 use native.Mathlib.Omega.{arith}
 use borrow.Author.Tests.{not-true, not-false}
-use Rattle.card.proofs.SoundFacts.{path-lengths}
+use Rattle.card.proofs.SoundFacts.{path-lengths, tap-length}
 use Rattle.record_write.proofs.WroteFacts.{wrote-unsound, wrote-small, wrote-record}
 use borrow.Author.Needs.{needs}
 use Rattle.record_write.proofs.write.Statement.{statement}
@@ -19,7 +19,7 @@ returns-2 : tie.Need-returns-2
 returns-2 c = wrote-small (c .before .before .before .before .args .card) (c .before .before .before .before .args .buf .now) (sym (c .before .before .sound .ensures) ∙ not-false _ (c .before .if1 .left)) (c .if2 .taken)
 
 put-record-requires : tie.Need-put-record-requires
-put-record-requires c κs = let l = path-lengths (c .before .before .before .before .before .args .card) (sym (c .before .before .before .sound .ensures) ∙ not-false _ (c .before .before .if1 .left)) in (l .0, (l .1, omega arith))
+put-record-requires c κs = let l = path-lengths (c .before .before .before .before .before .args .card) (sym (c .before .before .before .sound .ensures) ∙ not-false _ (c .before .before .if1 .left)) in (l .0, (l .1, (tap-length (c .before .before .before .before .before .args .card) (sym (c .before .before .before .sound .ensures) ∙ not-false _ (c .before .before .if1 .left)), omega arith)))
 
 same-length : tie.Need-same-length
 same-length c = search needs

@@ -29,11 +29,14 @@ keys-of-requires c κs = search needs
 channel-of-requires : tie.Need-channel-of-requires
 channel-of-requires c κs = search needs
 
+tap-of-requires : tie.Need-tap-of-requires
+tap-of-requires c κs = search needs
+
 returns : tie.Need-returns
 unfolding cardAt
-returns c = let s : List ℕ = c .before .before .before .before .before .args .t1 in
+returns c = let s : List ℕ = c .before .before .before .before .before .before .args .t1 in
     let l : length s ≡ cardBytes = search needs in
-    card-read s l (rw (c .before .before .before .before .identity-of .ensures, c .before .before .before .pins-of .ensures, c .before .before .pairing-of .ensures, c .before .keys-of .ensures, c .channel-of .ensures))
+    card-read s l (rw (c .before .before .before .before .before .identity-of .ensures, c .before .before .before .before .pins-of .ensures, c .before .before .before .pairing-of .ensures, c .before .before .keys-of .ensures, c .before .channel-of .ensures, c .tap-of .ensures))
 
 pub card-of-spec : {M : Type 1} → statement M
 card-of-spec =
@@ -45,4 +48,5 @@ card-of-spec =
     pairing-of-requires
     keys-of-requires
     channel-of-requires
+    tap-of-requires
     returns)

@@ -1,4 +1,4 @@
--- The first byte, and the five parts after it.
+-- The first byte, and the six parts after it.
 -- Assumes nothing.
 use mathlib.Core.Path.{sym, refl}
 use mathlib.Core.List.{[], _∷_}
@@ -23,17 +23,22 @@ with-keys-requires c κs = search needs
 with-channel-requires : tie.Need-with-channel-requires
 with-channel-requires c κs = search needs
 
+with-tap-requires : tie.Need-with-tap-requires
+with-tap-requires c κs = search needs
+
 returns : tie.Need-returns
 unfolding cardFlat
 returns c = sym (join [] _ _
     (join [] _ _
     (join [] _ _
     (join [] _ _
-    (join [] (c .before .before .before .before .before .args .card .initialised ∷ []) _ refl (c .before .before .before .before .with-identity .ensures))
-    (c .before .before .before .with-pins .ensures))
-    (c .before .before .with-pairing .ensures))
-    (c .before .with-keys .ensures))
-    (c .with-channel .ensures))
+    (join [] _ _
+    (join [] (c .before .before .before .before .before .before .args .card .initialised ∷ []) _ refl (c .before .before .before .before .before .with-identity .ensures))
+    (c .before .before .before .before .with-pins .ensures))
+    (c .before .before .before .with-pairing .ensures))
+    (c .before .before .with-keys .ensures))
+    (c .before .with-channel .ensures))
+    (c .with-tap .ensures))
 
 pub record-of-spec : {M : Type 1} → statement M
 record-of-spec =
@@ -44,4 +49,5 @@ record-of-spec =
     with-pairing-requires
     with-keys-requires
     with-channel-requires
+    with-tap-requires
     returns)

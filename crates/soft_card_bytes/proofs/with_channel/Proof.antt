@@ -1,11 +1,9 @@
--- Four fields, each written after the one before it, and the last ends the record.
+-- Four fields, each written after the one before it.
 -- Assumes nothing.
-use mathlib.Core.Path.{_∙_}
 use native.Mathlib.Omega.{arith}
 use lib.ListN.{take, set, length-set}
-use lib.Seq.{take-all}
 use borrow.Author.Needs.{needs}
-use Rattle.card.specs.Sizes.{keyBytes, ivBytes, cardBytes}
+use Rattle.card.specs.Sizes.{keyBytes, ivBytes}
 use Rattle.soft_card_bytes.specs.Offsets.{channelOffset, encKeyOffset, macKeyOffset, ivOffset}
 use Rattle.soft_card_bytes.proofs.Grown.{join, wrote-byte, wrote-bytes}
 use Rattle.soft_card_bytes.proofs.with_channel.Statement.{statement}
@@ -50,7 +48,6 @@ returns c = let g = c .before .before .before .before .before .before .before .b
     (wrote-bytes (set (g .s) channelOffset (g .x .stage)) encKeyOffset keyBytes (g .x .«enc_key») (slice-aggregate-put-2 (c .before .before .before .before .before .before .before .before .before .before)) (omega (arith, slice-aggregate-put (c .before .before .before .before .before .before .before .before .before .before .before))) (c .before .before .before .before .before .before .before .before .before .put .ensures)))
     (wrote-bytes (c .before .before .before .before .before .before .before .before .before .put .last .0) macKeyOffset keyBytes (g .x .«mac_key») (slice-aggregate-put-4 (c .before .before .before .before .before .before)) (omega (arith, slice-aggregate-put-3 (c .before .before .before .before .before .before .before))) (c .before .before .before .before .before .put2 .ensures)))
     (wrote-bytes (c .before .before .before .before .before .put2 .last .0) ivOffset ivBytes (g .x .iv) (slice-aggregate-put-6 (c .before .before)) (omega (arith, slice-aggregate-put-5 (c .before .before .before))) (c .before .put3 .ensures))
-    ∙ take-all cardBytes (c .before .put3 .last .0) (search needs)
 
 pub with-channel-spec : {M : Type 1} → statement M
 with-channel-spec =

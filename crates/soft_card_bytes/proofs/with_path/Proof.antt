@@ -1,12 +1,10 @@
 -- The length in use, and the bytes after it.
 -- Assumes nothing.
-use mathlib.Core.Path.{ap, _∙_}
-use Prim.Native.Nat.{ℕ, _+_}
 use native.Mathlib.Omega.{arith}
-use lib.ListN.{take, set, length-set}
+use lib.ListN.{length-set}
 use borrow.Author.Needs.{needs}
-use Rattle.card.specs.Sizes.{pathMostBytes, wholePathBytes}
-use Rattle.soft_card_bytes.proofs.Grown.{join, wrote-byte, wrote-bytes}
+use Rattle.card.specs.Sizes.{pathMostBytes}
+use Rattle.soft_card_bytes.proofs.Grown.{wrote-room}
 use Rattle.soft_card_bytes.proofs.with_path.Statement.{statement}
 use Rattle.soft_card_bytes.proofs.with_path.Tie as tie
 
@@ -27,10 +25,7 @@ put-requires c κs = omega (arith, slice-aggregate-put (c .before), slice-aggreg
 
 returns : tie.Need-returns
 returns c = let g = c .before .before .before .before .before .args in
-    join (take (g .at) (g .s)) _ _
-    (wrote-byte (g .s) (g .at) (g .x .len) (omega (arith, slice-aggregate-put (c .before .before .before), length-set (g .s) (g .at) (g .x .len))))
-    (wrote-bytes (set (g .s) (g .at) (g .x .len)) (g .at + 1) pathMostBytes (g .x .bytes) (slice-aggregate-put-2 (c .before .before)) (omega (arith, slice-aggregate-put (c .before .before .before))) (c .before .put .ensures))
-    ∙ ap (λ (n : ℕ). take n (c .before .put .last .0)) {x = g .at + 1 + pathMostBytes} {y = g .at + wholePathBytes} (omega arith)
+    wrote-room (g .s) (g .at) (g .x .len) pathMostBytes (g .x .bytes) (slice-aggregate-put-2 (c .before .before)) (omega (arith, slice-aggregate-put (c .before .before .before), length-set (g .s) (g .at) (g .x .len))) (c .before .put .ensures)
 
 pub with-path-spec : {M : Type 1} → statement M
 with-path-spec =

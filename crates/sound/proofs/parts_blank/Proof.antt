@@ -16,8 +16,11 @@ keys-blank-requires c κs = search needs
 channel-blank-requires : tie.Need-channel-blank-requires
 channel-blank-requires c κs = search needs
 
+tap-blank-requires : tie.Need-tap-blank-requires
+tap-blank-requires c κs = search needs
+
 returns : tie.Need-returns
-returns c = cc
+returns c = rw (c .before .before .before .before .pins-blank .ensures, c .before .before .before .pairing-blank .ensures, c .before .before .keys-blank .ensures, c .before .channel-blank .ensures, c .tap-blank .ensures)
 
 pub parts-blank-spec : {M : Type 1} → statement M
 parts-blank-spec =
@@ -27,4 +30,5 @@ parts-blank-spec =
     pairing-blank-requires
     keys-blank-requires
     channel-blank-requires
+    tap-blank-requires
     returns)

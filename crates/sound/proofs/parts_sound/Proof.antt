@@ -16,8 +16,11 @@ keys-sound-requires c κs = search needs
 channel-sound-requires : tie.Need-channel-sound-requires
 channel-sound-requires c κs = search needs
 
+tap-sound-requires : tie.Need-tap-sound-requires
+tap-sound-requires c κs = search needs
+
 returns : tie.Need-returns
-returns c = cc
+returns c = rw (c .before .before .before .before .before .before .before .before .pins-sound .ensures, c .before .before .before .before .before .before .before .pairing-sound .ensures, c .before .before .before .before .before .before .keys-sound .ensures, c .before .before .before .before .before .channel-sound .ensures, c .before .before .before .before .tap-sound .ensures)
 
 pub parts-sound-spec : {M : Type 1} → statement M
 parts-sound-spec =
@@ -27,4 +30,5 @@ parts-sound-spec =
     pairing-sound-requires
     keys-sound-requires
     channel-sound-requires
+    tap-sound-requires
     returns)

@@ -8,7 +8,7 @@ session-zero-requires : tie.Need-session-zero-requires
 session-zero-requires c κs = search needs
 
 returns : tie.Need-returns
-returns c = cc
+returns c = rw (c .session-zero .ensures)
 
 pub channel-blank-spec : {M : Type 1} → statement M
 channel-blank-spec = tie.close (tie.spec session-zero-requires returns)

@@ -8,7 +8,7 @@ session-zero-requires : tie.Need-session-zero-requires
 session-zero-requires c κs = search needs
 
 returns : tie.Need-returns
-returns c = cc
+returns c = rw (c .session-zero .ensures)
 
 pub channel-sound-spec : {M : Type 1} → statement M
 channel-sound-spec = tie.close (tie.spec session-zero-requires returns)

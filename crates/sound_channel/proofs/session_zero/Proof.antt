@@ -23,7 +23,7 @@ zero-from-requires-3 : tie.Need-zero-from-requires-3
 zero-from-requires-3 c κs = search needs
 
 returns : tie.Need-returns
-returns c = cc
+returns c = rw (c .before .before .before .before .zero-from .ensures, c .before .before .zero-from2 .ensures, c .zero-from3 .ensures)
 
 pub session-zero-spec : {M : Type 1} → statement M
 session-zero-spec =

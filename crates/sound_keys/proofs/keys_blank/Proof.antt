@@ -17,7 +17,7 @@ path-blank-requires-2 : tie.Need-path-blank-requires-2
 path-blank-requires-2 c κs = search needs
 
 returns : tie.Need-returns
-returns c = cc
+returns c = rw (c .before .before .zero-from .ensures, c .before .path-blank .ensures, c .path-blank2 .ensures)
 
 pub keys-blank-spec : {M : Type 1} → statement M
 keys-blank-spec =

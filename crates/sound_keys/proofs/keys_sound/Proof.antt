@@ -17,7 +17,7 @@ zero-from-requires : tie.Need-zero-from-requires
 zero-from-requires c κs = search needs
 
 returns : tie.Need-returns
-returns c = cc
+returns c = rw (c .before .before .before .before .before .before .path-sound .ensures, c .before .before .before .before .before .path-sound2 .ensures, c .zero-from .ensures)
 
 pub keys-sound-spec : {M : Type 1} → statement M
 keys-sound-spec =

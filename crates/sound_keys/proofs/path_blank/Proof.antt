@@ -11,7 +11,7 @@ zero-from-requires : tie.Need-zero-from-requires
 zero-from-requires c κs = search needs
 
 returns : tie.Need-returns
-returns c = cc
+returns c = rw (c .zero-from .ensures)
 
 pub path-blank-spec : {M : Type 1} → statement M
 path-blank-spec = tie.close (tie.spec slice-aggregate-zero-from zero-from-requires returns)

@@ -14,7 +14,7 @@ zero-from-requires : tie.Need-zero-from-requires
 zero-from-requires c κs = search needs
 
 returns : tie.Need-returns
-returns c = cc
+returns c = rw (c .zero-from .ensures, c .before .wide .ensures)
 
 pub path-sound-spec : {M : Type 1} → statement M
 path-sound-spec =

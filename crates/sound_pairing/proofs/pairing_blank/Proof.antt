@@ -20,7 +20,7 @@ zero-from-requires-2 : tie.Need-zero-from-requires-2
 zero-from-requires-2 c κs = search needs
 
 returns : tie.Need-returns
-returns c = cc
+returns c = rw (c .before .before .before .before .zero-from .ensures, c .before .before .before .slots-within .ensures, c .zero-from2 .ensures)
 
 pub pairing-blank-spec : {M : Type 1} → statement M
 pairing-blank-spec =

@@ -17,7 +17,7 @@ zero-from-requires : tie.Need-zero-from-requires
 zero-from-requires c κs = search needs
 
 returns : tie.Need-returns
-returns c = cc
+returns c = rw (c .before .before .before .before .before .before .slots-within .ensures, c .before .before .before .has-free .ensures, c .zero-from .ensures)
 
 pub pairing-sound-spec : {M : Type 1} → statement M
 pairing-sound-spec =

@@ -17,7 +17,7 @@ zero-from-requires-2 : tie.Need-zero-from-requires-2
 zero-from-requires-2 c κs = search needs
 
 returns : tie.Need-returns
-returns c = cc
+returns c = rw (c .before .before .before .before .before .zero-from .ensures, c .before .before .before .zero-from2 .ensures)
 
 pub pins-blank-spec : {M : Type 1} → statement M
 pins-blank-spec =

@@ -17,7 +17,7 @@ digits-requires-2 : tie.Need-digits-requires-2
 digits-requires-2 c κs = search needs
 
 returns : tie.Need-returns
-returns c = cc
+returns c = rw (c .before .before .before .before .before .before .digits .ensures, c .before .before .before .before .digits2 .ensures)
 
 pub pins-sound-spec : {M : Type 1} → statement M
 pins-sound-spec =

@@ -1,0 +1,3 @@
+pub mod CheckFacts
+pub mod TapFacts
+pub mod Responses
