@@ -1,5 +1,5 @@
-// FRESH, soundness, RESET, WRITE, READ and the tap read for callers in C and Rust (RULES 3.8; include/treadlewisp.h). The card is lent, and changed where
-// it lies.
+// FRESH, soundness, RESET, WRITE, READ and the tap read for callers in C and Rust (RULES 3.8; include/treadlewisp.h). The card is lent, and
+// changed where it lies.
 // Every length, room and count is in bytes; a refusal 0 means that there was none.
 // Proved: the promises of the operations by value, over the record at entry and at exit; refused, it is as it was (READ: FRESH of zeros).
 ghost use mathlib.Core.Path.{_≡_};

@@ -70,29 +70,51 @@ fn by_class(cla: u8, ins: u8) -> Named
     Named::WrongClass
 }
 
+// A row: where the instruction is offered; the lowest stage of the channel that it goes in, 0 for those that are plain in every stage; and what
+// it gives up.
+pub struct Row {
+    pub offer: Offer,
+    pub stage: u8,
+    pub loss: Loss,
+}
+
+fn entry(offer: Offer, stage: u8, loss: Loss) -> Row
+    ensures { λ r. ⌜ (r .offer ≡ offer) × ((r .stage ≡ stage) × (r .loss ≡ loss)) ⌝ }
+{
+    Row { offer, stage, loss }
+}
+
+// The rows, one line each.
+fn row_of(i: Instruction) -> Row
+    ensures { λ r. ⌜ (r .offer ≡ rowOf i .offer) × ((r .stage ≡ rowOf i .stage) × (r .loss ≡ rowOf i .loss)) ⌝ }
+{
+    match i {
+        Instruction::Select => entry(Offer::Always, STAGE_CLOSED, Loss::Nothing),
+        Instruction::Init => entry(Offer::BeforeInit, STAGE_CLOSED, Loss::Nothing),
+        Instruction::Open => entry(Offer::AfterInit, STAGE_CLOSED, Loss::Channel),
+        Instruction::Mutual => entry(Offer::AfterInit, STAGE_OPENED, Loss::HalfOpen),
+        Instruction::Pair => entry(Offer::AfterInit, STAGE_CLOSED, Loss::Pending),
+        Instruction::Unpair => entry(Offer::AfterInit, STAGE_AUTHENTICATED, Loss::Nothing),
+        Instruction::Status => entry(Offer::AfterInit, STAGE_AUTHENTICATED, Loss::Nothing),
+        Instruction::Verify => entry(Offer::AfterInit, STAGE_AUTHENTICATED, Loss::Nothing),
+        Instruction::Change => entry(Offer::AfterInit, STAGE_AUTHENTICATED, Loss::Nothing),
+        Instruction::Unblock => entry(Offer::AfterInit, STAGE_AUTHENTICATED, Loss::Nothing),
+        Instruction::Load => entry(Offer::AfterInit, STAGE_AUTHENTICATED, Loss::Nothing),
+        Instruction::Derive => entry(Offer::AfterInit, STAGE_AUTHENTICATED, Loss::Nothing),
+        Instruction::Remove => entry(Offer::AfterInit, STAGE_AUTHENTICATED, Loss::Nothing),
+        Instruction::SetPinless => entry(Offer::AfterInit, STAGE_AUTHENTICATED, Loss::Nothing),
+        Instruction::Sign => entry(Offer::AfterInit, STAGE_AUTHENTICATED, Loss::Nothing),
+        Instruction::Export => entry(Offer::AfterInit, STAGE_AUTHENTICATED, Loss::Nothing),
+        Instruction::SetNdef => entry(Offer::AfterInit, STAGE_AUTHENTICATED, Loss::Nothing),
+    }
+}
+
 // Where an instruction is offered.
 fn offer_of(i: Instruction) -> Offer
     ensures { λ r. ⌜ r ≡ rowOf i .offer ⌝ }
 {
-    match i {
-        Instruction::Select => Offer::Always,
-        Instruction::Init => Offer::BeforeInit,
-        Instruction::Open => Offer::AfterInit,
-        Instruction::Mutual => Offer::AfterInit,
-        Instruction::Pair => Offer::AfterInit,
-        Instruction::Unpair => Offer::AfterInit,
-        Instruction::Status => Offer::AfterInit,
-        Instruction::Verify => Offer::AfterInit,
-        Instruction::Change => Offer::AfterInit,
-        Instruction::Unblock => Offer::AfterInit,
-        Instruction::Load => Offer::AfterInit,
-        Instruction::Derive => Offer::AfterInit,
-        Instruction::Remove => Offer::AfterInit,
-        Instruction::SetPinless => Offer::AfterInit,
-        Instruction::Sign => Offer::AfterInit,
-        Instruction::Export => Offer::AfterInit,
-        Instruction::SetNdef => Offer::AfterInit,
-    }
+    let r = row_of(i);
+    r.offer
 }
 
 // Whether a card has what is offered so, before INIT or after it.
@@ -128,48 +150,14 @@ pub fn name(initialised: bool, cla: u8, ins: u8) -> Named
 pub fn stage_of(i: Instruction) -> u8
     ensures { λ r. ⌜ r ≡ rowOf i .stage ⌝ }
 {
-    match i {
-        Instruction::Select => STAGE_CLOSED,
-        Instruction::Init => STAGE_CLOSED,
-        Instruction::Open => STAGE_CLOSED,
-        Instruction::Mutual => STAGE_OPENED,
-        Instruction::Pair => STAGE_CLOSED,
-        Instruction::Unpair => STAGE_AUTHENTICATED,
-        Instruction::Status => STAGE_AUTHENTICATED,
-        Instruction::Verify => STAGE_AUTHENTICATED,
-        Instruction::Change => STAGE_AUTHENTICATED,
-        Instruction::Unblock => STAGE_AUTHENTICATED,
-        Instruction::Load => STAGE_AUTHENTICATED,
-        Instruction::Derive => STAGE_AUTHENTICATED,
-        Instruction::Remove => STAGE_AUTHENTICATED,
-        Instruction::SetPinless => STAGE_AUTHENTICATED,
-        Instruction::Sign => STAGE_AUTHENTICATED,
-        Instruction::Export => STAGE_AUTHENTICATED,
-        Instruction::SetNdef => STAGE_AUTHENTICATED,
-    }
+    let r = row_of(i);
+    r.stage
 }
 
 // Steps 5 and 6: what an instruction gives up.
 pub fn loss_of(i: Instruction) -> Loss
     ensures { λ r. ⌜ r ≡ rowOf i .loss ⌝ }
 {
-    match i {
-        Instruction::Select => Loss::Nothing,
-        Instruction::Init => Loss::Nothing,
-        Instruction::Open => Loss::Channel,
-        Instruction::Mutual => Loss::HalfOpen,
-        Instruction::Pair => Loss::Pending,
-        Instruction::Unpair => Loss::Nothing,
-        Instruction::Status => Loss::Nothing,
-        Instruction::Verify => Loss::Nothing,
-        Instruction::Change => Loss::Nothing,
-        Instruction::Unblock => Loss::Nothing,
-        Instruction::Load => Loss::Nothing,
-        Instruction::Derive => Loss::Nothing,
-        Instruction::Remove => Loss::Nothing,
-        Instruction::SetPinless => Loss::Nothing,
-        Instruction::Sign => Loss::Nothing,
-        Instruction::Export => Loss::Nothing,
-        Instruction::SetNdef => Loss::Nothing,
-    }
+    let r = row_of(i);
+    r.loss
 }

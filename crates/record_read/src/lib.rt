@@ -17,7 +17,8 @@ use sound::Answer;
 
 // Whether the bytes are the record of this card, with field 34 or without it.
 fn is_written(s: &[u8], card: Card, tapped: bool) -> bool
-    requires { ⌜ (card .keys .current .len ≤ pathMostBytes) × ((card .keys .pinless .len ≤ pathMostBytes) × (card .tap .len ≤ tapMostBytes)) ⌝ }
+    requires { ⌜ (card .keys .current .len ≤ pathMostBytes) × ((card .keys .pinless .len ≤ pathMostBytes)
+        × (card .tap .len ≤ tapMostBytes)) ⌝ }
     ensures { λ r. ⌜ r ≡ sameBytes (encodeAll (fieldsIn tapped card)) (now (s .entry)) ⌝ }
 {
     let mut again = [0u8; WRITE_ROOM_BYTES];
