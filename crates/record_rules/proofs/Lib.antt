@@ -1,7 +1,9 @@
 pub mod FieldFacts
 pub mod ParseFacts
+pub mod SlotFacts
 pub mod BlankFacts
 pub mod RecordFacts
 pub mod FormFacts
+pub mod RenewFacts
 pub mod ReadFacts
 pub mod TapFacts

@@ -38,7 +38,7 @@ holds f c = isWritten f || (not (isZero (c .initialised)) && leavesNothing f c)
 
 -- ---- a record as WRITE writes it today
 -- with all the slots: the fields before 24 as they are; 24 with zeros behind its content; the fields behind it as they are
-abbrev pub widened : List ℕ → List ℕ
+unfoldable pub widened : List ℕ → List ℕ
 widened s = before field24 s ++ (encode slotsTag (fit (slotBytes * slotCount) (content s field24)) ++ behind (suc field24) s)
 
 -- and with field 34: an empty one ends the record
