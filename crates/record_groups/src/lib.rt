@@ -12,11 +12,10 @@ use card::Identity;
 use card::Keys;
 use card::Pairing;
 use card::Pins;
-use card::SLOT_BYTES;
 use record_fields::put_field;
 use record_fields::put_key_uid;
 use record_fields::put_path;
-use record_fields::slots_bytes;
+use record_fields::put_slots;
 
 // The fields' tags.
 const TAG_INITIALISED: u8 = 0x10;
@@ -32,8 +31,6 @@ const TAG_PUK: u8 = 0x21;
 const TAG_SECRET: u8 = 0x22;
 
 const TAG_TRIES: u8 = 0x23;
-
-const TAG_SLOTS: u8 = 0x24;
 
 const TAG_KIND: u8 = 0x30;
 
@@ -62,13 +59,12 @@ pub fn put_secrets(buf: &mut [u8], at: usize, pins: Pins, pairing: Pairing, slot
     let puk = pins.puk;
     let secret = pairing.secret;
     let tries = [pins.pin_tries, pins.puk_tries];
-    let content = slots_bytes(pairing.slots);
-    let content_bytes = SLOT_BYTES * slots;
+    let all = pairing.slots;
     let a = put_field(buf, at, TAG_PIN, &pin);
     let b = put_field(buf, a, TAG_PUK, &puk);
     let c = put_field(buf, b, TAG_SECRET, &secret);
     let d = put_field(buf, c, TAG_TRIES, &tries);
-    put_field(buf, d, TAG_SLOTS, &content[..content_bytes])
+    put_slots(buf, d, all, slots)
 }
 
 pub fn put_keys(buf: &mut [u8], at: usize, keys: Keys) -> usize

@@ -30,7 +30,8 @@ fn is_held(card: Card, form: Form) -> bool
     }
     let pairing = card.pairing;
     let tap = card.tap;
-    let free = free_from(pairing.slots, form.slots);
+    let slots = pairing.slots;
+    let free = free_from(slots, form.slots);
     let after = card.initialised != 0;
     let none = tap.len == 0;
     after & (free & (form.tapped | none))
