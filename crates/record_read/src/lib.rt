@@ -3,6 +3,7 @@
 // Proved: a card is given exactly where the bytes are the record of a sound card, and then it is that card reset; any other
 // bytes, of any length, are refused with 8 and FRESH of zeros.
 ghost use mathlib.Core.Path.{_≡_};
+ghost use mathlib.Core.Bool.{true};
 ghost use Rattle.record_rules.specs.Forms.{holds, isInForm};
 ghost use Rattle.record_rules.specs.Answers.{isRecordOf, readAnswer};
 ghost use Rattle.record_rules.specs.Fields.{encodeAll, fieldsIn};

@@ -23,7 +23,7 @@ use Rattle.card.proofs.Rules.{Before, After, parts-rules, pairing-rules, sound-
 use Rattle.record_rules.specs.declared.Form.{Form}
 use Rattle.record_rules.specs.Fields.{Field, recordField, encode, encodeAll, slotsBytes, identityFields, keyFields, slotsTag, tapTag, tapFields, ownerFields, fieldsIn, writtenForm, recordOf}
 use Rattle.record_rules.specs.Parse.{field24, behind, before, content, fit, cardOf}
-use Rattle.record_rules.specs.Forms.{forms, isWritten, leavesNothing, holds, widened, ended, unless, renewed, isInForm, Listed, first, later, InForm}
+use Rattle.record_rules.specs.Forms.{slotCountBefore, forms, isWritten, leavesNothing, holds, widened, ended, unless, renewed, isInForm, Listed, first, later, InForm}
 use Rattle.record_rules.proofs.FieldFacts.{encode-append, encode-one}
 use Rattle.record_rules.proofs.ParseFacts.{firstContent, content-all, behind-all}
 use Rattle.record_rules.proofs.SlotFacts.{slots-fit}
@@ -197,6 +197,22 @@ module _ (P : Form → Type 0) where
   pub of-each : (f : Form) (fs : List Form) → Listed f fs → EachForm fs → P f
   of-each f fs (first more) e = e .0
   of-each f fs (later g more l) e = of-each f more l (e .1)
+
+-- ---- an initialised card without a tap record, whose slots past the first five are free: each form holds it
+module _ (c : Card) (i : c .initialised ≡ 1) (z : c .tap .len ≡ 0) where
+  holds-plain : (f : Form) → allOf isFree (drop (f .slots) (c .pairing .slots)) ≡ true → holds f c ≡ true
+  unfolding holds
+  holds-plain f free = rw (i, free, z) (either (isWritten f) (f .tapped))
+    where
+      either : (a b : Bool) → (a || (b || true)) ≡ true
+      either true b = refl
+      either false true = refl
+      either false false = refl
+
+  pub holds-each : (f : Form) → Listed f forms → allOf isFree (drop slotCountBefore (c .pairing .slots)) ≡ true → Shaped c → holds f c ≡ true
+  holds-each f l free w =
+      let none = all-done isFree (c .pairing .slots) slotCount (omega (arith, w .slots)) in
+      holds-plain f (of-each (λ (g : Form). allOf isFree (drop (g .slots) (c .pairing .slots)) ≡ true) f forms l (none, (none, (free, (free, tt)))))
 
 -- ---- the record of a sound card, in whichever form, is that of the card reset, and describes it
 module _ (s : List ℕ) (c : Card) (r : InForm s c forms) where

@@ -5,5 +5,6 @@ pub mod BlankFacts
 pub mod RecordFacts
 pub mod FormFacts
 pub mod RenewFacts
+pub mod OneForm
 pub mod ReadFacts
 pub mod TapFacts

@@ -33,8 +33,9 @@ use Rattle.record_rules.specs.Renewal.{Renewal}
 use Rattle.record_rules.specs.Answers.{writeRefusal, writeBytes, isRecordOf, readAnswer}
 use Rattle.record_rules.proofs.FieldFacts.{length-all}
 use Rattle.record_rules.proofs.ParseFacts.{slots-long}
-use Rattle.record_rules.proofs.FormFacts.{found, passes, form-today, reset-in-form, card-in-form}
+use Rattle.record_rules.proofs.FormFacts.{found, passes, held-reset, fields-reset, form-today, reset-in-form, card-in-form}
 use Rattle.record_rules.proofs.RenewFacts.{renewal}
+use Rattle.record_rules.proofs.OneForm.{form-slots, same-form}
 
 -- ---- cardOf
 -- however many slots are read, their keys have their length
@@ -193,6 +194,17 @@ read-refuses s h c w e r = zero-eight (sym (ap (λ (a : Answer). a .refusal) (re
 pub one-card : (s : List ℕ) (c d : Card) → Shaped c → Shaped d → isSound c ≡ true → isSound d ≡ true
     → InForm s c forms → InForm s d forms → resetOf c ≡ resetOf d
 one-card s c d w v e g r t = sym (card-in-form s c r w e) ∙ card-in-form s d t v g
+
+-- ---- and they are a record in one form alone
+pub one-form : (s : List ℕ) (c d : Card) → Shaped c → Shaped d → isSound c ≡ true → isSound d ≡ true
+    → (r : InForm s c forms) (t : InForm s d forms) → r .form ≡ t .form
+one-form s c d w v e g r t =
+    let k = one-card s c d w v e g r t in
+    let f = t .form in
+    let kept = sym (held-reset f c) ∙ ap (holds f) k ∙ held-reset f d ∙ t .held in
+    let fields = sym (fields-reset f d) ∙ ap (fieldsIn f) (sym k) ∙ fields-reset f c in
+    same-form c w e (r .form) f (r .held) kept (form-slots (r .form) (r .listed)) (form-slots f (t .listed))
+    (r .bytes ∙ sym (t .bytes) ∙ ap encodeAll fields)
 
 -- ---- how long a record is
 module _ (c : Card) (w : Shaped c) where
