@@ -532,8 +532,8 @@ static text in_form(text record, size_t slots, size_t cut_bytes)
     return joined(joined(before, text_of(record.bytes + content_at, slots_bytes)), after);
 }
 
-/* READ of the record in the older forms: of before are 5 slots, after which the others are free, and no field 34. WRITE writes today's form.
-   Another number of slots is no record. */
+/* READ of the record in its older forms, with the 5 slots of before, with field 34 and without it: the slots 5 to 7 are free then, and WRITE
+   writes today's form. Any other number of slots is no record. */
 static void older_records(void)
 {
     const size_t tap_field_bytes = TW_FIELD_HEAD_BYTES + sizeof TAP;
