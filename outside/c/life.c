@@ -1,7 +1,7 @@
 /* One card's life through include/treadlewisp.h, with all eleven operations: from FRESH over INIT, PAIR, OPEN and MUTUAL to PIN, PUK, its tap
-   record, keys, signatures and exported keys, its eight slots, its stored record, its refusals and templates. The life is played once for each placing of memory
-   (life_places.h), and what holds of every call is checked at every call (life_calls.h). Exit status 0: every answer was the one that the
-   rules give. Lengths are in bytes. */
+   record, keys, signatures and exported keys, its eight slots, its stored record, its refusals and templates. The life is played once for
+   each placing of memory (life_places.h), and what holds of every call is checked at every call (life_calls.h). Exit status 0: every answer
+   was the one that the rules give. Lengths are in bytes. */
 #include "life_calls.h"
 #include "life_places.h"
 
