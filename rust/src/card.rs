@@ -175,7 +175,7 @@ impl Card {
     }
 
     /// WRITE: the card's stored record from the buffer's start, and its length in bytes. It holds what [`reset`](Card::reset) keeps, and
-    /// after INIT the field of the tap record, also where that is empty.
+    /// after INIT all [`SLOTS`] slots and the field of the tap record, also where that is empty.
     ///
     /// Refused with [`Refusal::Unsound`], or [`Refusal::Room`] where the buffer is under [`WRITE_ROOM_BYTES`]; the buffer is then as it
     /// was. Bytes past the count are never touched.
@@ -183,8 +183,9 @@ impl Card {
         wiped(|| ffi::write(self, buffer))
     }
 
-    /// READ: the card of a stored record, sound and reset. An old record, which versions up to 0.4.0 wrote without the field of the tap
-    /// record, is that of a card with none; [`write`](Card::write) then writes it with the field.
+    /// READ: the card of a stored record, sound and reset. Older records are taken too. One with the [`SLOTS_BEFORE`] slots that versions up to
+    /// 0.5.0 wrote is that of a card whose other slots are free; one without the field of the tap record, as versions up to 0.4.0 wrote it, is
+    /// that of a card with none. [`write`](Card::write) then writes it with all slots and with the field.
     ///
     /// Refused with [`Refusal::NotRecord`]; there is then no card. (In C the record that is lent becomes FRESH of zeros.)
     ///
@@ -264,7 +265,7 @@ impl Card {
         &self.secret
     }
 
-    /// The pairing slots.
+    /// The pairing slots, by their indexes: 0 to 7.
     pub fn slots(&self) -> &[Slot; SLOTS] {
         &self.slots
     }

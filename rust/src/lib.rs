@@ -142,7 +142,7 @@ pub fn walk(input: &[u8]) -> Result<usize, Refusal> {
 /// nothing is copied.
 ///
 /// Where the record has the card's own tap record, which SET NDEF stored ([`command::SET_NDEF`]), the part is that, inside the record. Where
-/// it has none, because it was never set, or the record is an old one, or one before INIT, the part is the whole factory record. That is not
+/// it has none, because it was never set, or the record has no field for it, or is one before INIT, the part is the whole factory record. That is not
 /// looked at: it may be any bytes, or none.
 ///
 /// Refused with [`Refusal::NotRecord`] exactly where [`Card::read`] refuses the record.
