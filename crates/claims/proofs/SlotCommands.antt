@@ -46,7 +46,7 @@ use Rattle.laws_commands.proofs.Arrival.{lostAt, arrivedAt}
 use Rattle.laws_commands.proofs.PendingSlot.{pending-slot}
 use Rattle.laws_engine.proofs.Sound.{step1-keeps}
 use Rattle.laws_exchange.proofs.Unlisted.{answer-stops}
-use Rattle.claims.specs.Slots.{flagAt, selectCommand, openCommand, pairCommand, Supposed, Says, Session, stage1, Paired}
+use Rattle.claims.specs.Slots.{flagAt, selectCommand, openCommand, pairCommand, Supposed, Says, Opening, stage1, Paired}
 
 -- ---- the P1 and P2 that list a slot
 pub slot-listed : (k : ℕ → Command) (p1 : ℕ) → p1 < 8 → slot k p1 0 ≡ some (k p1)
@@ -206,7 +206,7 @@ module _ (c : Card) (p1 : ℕ) (rest s d : List ℕ) (room : ℕ) (p : Supposed 
   open-free z = says-plain _ (fails here wrongParameters) _
       (fails-with c cmd′ d s room ins.Open p refl open-named (command.Open p1) (slot-listed command.Open p1 h) wrongParameters (open-fails z)) refl
 
-  module _ (n : flagAt c p1 ≡ 0 → ⊥) (enc mac salt iv : List ℕ) (m : Session d s enc mac salt iv) where
+  module _ (n : flagAt c p1 ≡ 0 → ⊥) (enc mac salt iv : List ℕ) (m : Opening d s enc mac salt iv) where
     open-holds : Hold (checksOf (command.Open p1) here d)
     unfolding ruleOf openChecks
     open-holds = (

@@ -54,7 +54,7 @@ pub record Says (a : AnswerOut) (bytes : List ℕ) : Type 0 where
 
 -- ---- OPEN that succeeds: a point, 04 and 64 bytes; flag 01, both keys, salt and IV as the supply. The answer is salt and IV, and the channel is in
 -- stage 1 with these keys and this IV
-pub record Session (point supply enc mac salt iv : List ℕ) : Type 0 where
+pub record Opening (point supply enc mac salt iv : List ℕ) : Type 0 where
   pub xy : List ℕ
   pub whole : point ≡ 0x04 ∷ xy
   pub xy64 : length xy ≡ 64
@@ -100,7 +100,7 @@ Opens c p1 bytes = Says (answerOut c (openCommand p1 0 (65 ∷ 0x04 ∷ zeros 64
 abbrev pub Pairs : Card → List ℕ → Type 0
 Pairs c bytes = Says (answerOut c (pairCommand 0 (32 ∷ zeros 32)) (zeros 96) 258) bytes
 
--- INIT and eight PAIRs: the ninth finds no slot; OPEN of slot 7 succeeds, and there is no slot 8
+-- calls that fill all eight: SELECT tells 0, one more PAIR finds no slot, OPEN of slot 7 succeeds, and there is no slot 8
 pub record AllFilled : Type 0 where
   pub calls : List Call
   pub filled : (k : ℕ) → k < 8 → flagAt (at calls) k ≡ 1
@@ -138,7 +138,7 @@ pub record Slots : Type 0 where
       → Says (answerOut c (openCommand p1 0 rest) s room) (0x6A ∷ 0x86 ∷ [])
   -- with P1 of 7 or less, a filled slot, a point, and a supply with flag 01, it opens the channel
   pub openfilled : (c : Card) (p1 : ℕ) (rest s d enc mac salt iv : List ℕ) (room : ℕ) → Supposed c (openCommand p1 0 rest) d room → p1 < 8
-      → (flagAt c p1 ≡ 0 → ⊥) → Session d s enc mac salt iv
+      → (flagAt c p1 ≡ 0 → ⊥) → Opening d s enc mac salt iv
       → Says (answerOut c (openCommand p1 0 rest) s room) (salt ++ (iv ++ (0x90 ∷ 0x00 ∷ [])))
       × (answerOut c (openCommand p1 0 rest) s room .card .channel ≡ stage1 enc mac iv)
   -- PAIR's first step, with 32 bytes outside stage 2, says 6A84 exactly where none of the eight is free; its final step, where a pairing is pending
