@@ -187,6 +187,8 @@ one-filled =
     let back : at (r .calls) ≡ oneCard iv = r .ends in
     record {
       calls = r .calls;
+      verified = ap (λ (x : Card). isVerified (x .pins)) back;
+      filled = ap (λ (x : Card). flagAt x 0) back;
       select = subst (λ (x : Card). Selects x (applicationInfo (zeros 16) (zeros 65) 7 [] ++ (0x90 ∷ 0x00 ∷ []))) (sym back) (one-select iv);
       open7 = subst (λ (x : Card). Opens x 7 (0x6A ∷ 0x86 ∷ [])) (sym back) (one-open7 iv);
       turn7 = unpairTurn 7 (omega arith);

@@ -112,6 +112,8 @@ pub record AllFilled : Type 0 where
 -- a card with a verified PIN whose slot 0 alone is filled: SELECT tells 7, OPEN of slot 7 finds it free; UNPAIR of slot 7, and of slot 8
 pub record OneFilled : Type 0 where
   pub calls : List Call
+  pub verified : isVerified (at calls .pins) ≡ true
+  pub filled : flagAt (at calls) 0 ≡ 1
   pub select : Selects (at calls) (applicationInfo (zeros 16) (zeros 65) 7 [] ++ (0x90 ∷ 0x00 ∷ []))
   pub open7 : Opens (at calls) 7 (0x6A ∷ 0x86 ∷ [])
   pub turn7 : Turn
