@@ -97,9 +97,10 @@ enum {
     TW_RECORD_MIN_BYTES = TW_RECORD_ALWAYS_BYTES + TW_SLOTS * TW_SLOT_BYTES + TW_FIELD_HEAD_BYTES,
     TW_RECORD_MAX_BYTES = TW_RECORD_MIN_BYTES + TW_KEY_BYTES + 2 * TW_PATH_MAX_BYTES + TW_TAP_MAX_BYTES,
 
-    /* READ takes three older forms of an initialised record too, and WRITE writes none of them: with the slots of before and without the
-       tap record's field, 336 to 448 bytes (up to version 0.4.0); with the slots of before and with that field, 339 to 674 bytes (version
-       0.5.0); with today's slots and without that field, 435 to 547 bytes. The least and the greatest of these three, in bytes. */
+    /* READ takes three older forms of an initialised record too, and WRITE writes none of them: with TW_SLOTS_BEFORE slots and without the
+       tap record's field, 336 to 448 bytes (up to version 0.4.0); with TW_SLOTS_BEFORE slots and with that field, 339 to 674 bytes (version
+       0.5.0); with TW_SLOTS slots and without that field, 435 to 547 bytes (no version wrote it). The least and the greatest of these three,
+       in bytes. */
     TW_RECORD_OLD_MIN_BYTES = TW_RECORD_ALWAYS_BYTES + TW_SLOTS_BEFORE * TW_SLOT_BYTES,
     TW_RECORD_OLD_MAX_BYTES = TW_RECORD_OLD_MIN_BYTES + TW_KEY_BYTES + 2 * TW_PATH_MAX_BYTES + TW_FIELD_HEAD_BYTES + TW_TAP_MAX_BYTES,
 
@@ -447,8 +448,8 @@ uint8_t tw_read(tw_card *card, const uint8_t *record, size_t record_bytes);
 
 /* The tap read: which bytes a phone is to read when the card is held to it. Where the stored record has the card's own tap record, they are
    its bytes inside record, at whichever offset its form has them: source TW_TAP_RECORD. Where READ takes the record and it has none (the
-   field is empty or missing, or it is a record before INIT), they are the whole of factory: source TW_TAP_FACTORY, offset 0, length factory_bytes. The bytes of factory are not looked
-   at, and may be none. It needs no card and no buffer, and writes nothing.
+   field is empty or missing, or it is a record before INIT), they are the whole of factory: source TW_TAP_FACTORY, offset 0, length
+   factory_bytes. The bytes of factory are not looked at, and may be none. It needs no card and no buffer, and writes nothing.
    Refusal: TW_NOT_RECORD, exactly where READ refuses the record. Then source is TW_TAP_NONE, and offset and length are 0.
    The caller ensures:
    - record: record_bytes bytes, valid to read, and written by no one during the call;

@@ -141,8 +141,8 @@ static void fresh_card(void)
     plain_status("another application", plain_command(TW_CLASS_SELECT, TW_INS_SELECT, TW_P1_SELECT, words("Other")), TW_SW_NOT_FOUND);
 }
 
-/* The tap read of the card's record: its own tap record where it has one, else the factory's; and of the record's old form, which has none,
-   and of bytes that are no record. */
+/* The tap read of the card's record: its own tap record where it has one, else the factory's; and of the record without field 34, which has
+   none, and of bytes that are no record. */
 static void tapped(text record)
 {
     const text factory = text_of(FACTORY, sizeof FACTORY), own = text_of(card->tap.bytes, card->tap.len);

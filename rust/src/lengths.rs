@@ -71,10 +71,10 @@ pub const RECORD_FRESH_BYTES: usize = 3 * FIELD_HEAD_BYTES + 1 + UID_BYTES + PUB
 pub const RECORD_MIN_BYTES: usize = RECORD_ALWAYS_BYTES + SLOTS * SLOT_BYTES + FIELD_HEAD_BYTES;
 /// The longest stored record, in bytes: with a key UID, two full paths and the longest tap record.
 pub const RECORD_MAX_BYTES: usize = RECORD_MIN_BYTES + KEY_BYTES + 2 * PATH_MAX_BYTES + TAP_MAX_BYTES;
-/// The shortest stored record after INIT in an older form, in bytes: with the slots of before and without the field of the tap record. READ
-/// takes it.
+/// The shortest stored record after INIT in an older form, in bytes: with [`SLOTS_BEFORE`] slots and without the field of the tap record.
+/// READ takes it.
 pub const RECORD_OLD_MIN_BYTES: usize = RECORD_ALWAYS_BYTES + SLOTS_BEFORE * SLOT_BYTES;
-/// The longest stored record in an older form, in bytes: with the slots of before and the longest tap record. READ takes it.
+/// The longest stored record in an older form, in bytes: with [`SLOTS_BEFORE`] slots and the longest tap record. READ takes it.
 pub const RECORD_OLD_MAX_BYTES: usize = RECORD_OLD_MIN_BYTES + KEY_BYTES + 2 * PATH_MAX_BYTES + FIELD_HEAD_BYTES + TAP_MAX_BYTES;
 
 /// What every form of a stored record has after INIT: its fields without the content of the slots, and without the field of the tap record.

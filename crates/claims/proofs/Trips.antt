@@ -113,6 +113,7 @@ trips = record {
       written = write-of (encodeAll (fieldsIn f c)) room r c (read-held f l c w e h) ∙ form-today f c w e h;
       same = sym (form-today f c w e h);
     };
+    four = refl;
     held = λ f l c i z free w. holds-each c i z f l free w;
     onecard = one-card;
     oneform = one-form;
@@ -142,5 +143,14 @@ trips = record {
     answer = answer-sound;
   };
   resets = record { twice = reset-twice };
-  sizes = record { ask = ask-most; answer = answer-most; write = record-length };
+  sizes = record {
+    card = refl;
+    fresh = refl;
+    least = refl;
+    most = refl;
+    room = refl;
+    ask = ask-most;
+    answer = answer-most;
+    write = record-length;
+  };
 }

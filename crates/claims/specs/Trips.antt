@@ -13,6 +13,7 @@ use Rattle.channel_rules.specs.Terminal.{plainSuccess, sealedResponse, unsealOu
 use Rattle.template_walk.specs.Walk.{WALK}
 use Rattle.template_answers.specs.Answers.{preInitialised, applicationInfo, status, signature, exportedPublic, exportedPair}
 use Rattle.card.specs.declared.Card.{Card}
+use Rattle.card.specs.Sizes.{cardBytes}
 use Rattle.card.specs.State.{freshOf, resetOf}
 use Rattle.card.specs.Slots.{allOf, isFree}
 use Rattle.card.specs.Sound.{isSound}
@@ -74,7 +75,13 @@ pub record Records : Type 0 where
   pub current : (c : Card) (room : ℕ) → Shaped c → isSound c ≡ true → writeRoom ≤ room → writeBytes (readAnswer (recordOf c) .card) room ≡ recordOf c
   pub other : (f : Form) → Listed f forms → (c : Card) (room : ℕ) → Shaped c → isSound c ≡ true → holds f c ≡ true → writeRoom ≤ room
       → OtherForm f c room
-  -- each of them holds an initialised card without a tap record, whose slots 5 to 7 are free
+  -- there are four forms, by the number of slots in field 24 and whether field 34 is there; each of them holds an initialised card without a tap record, whose slots 5 to 7 are free
+  pub four : forms
+      ≡ record { slots = 8; tapped = true }
+      ∷ record { slots = 8; tapped = false }
+      ∷ record { slots = 5; tapped = true }
+      ∷ record { slots = 5; tapped = false }
+      ∷ []
   pub held : (f : Form) → Listed f forms → (c : Card) → c .initialised ≡ 1 → c .tap .len ≡ 0 → allOf isFree (drop 5 (c .pairing .slots)) ≡ true
       → Shaped c → holds f c ≡ true
   pub onecard : (s : List ℕ) (c d : Card) → Shaped c → Shaped d → isSound c ≡ true → isSound d ≡ true → InForm s c forms → InForm s d forms
@@ -122,6 +129,12 @@ pub record Resets : Type 0 where
 
 -- ---- the room that is asked for is enough (RULES 11.2): ASK and ANSWER write no more, and a record has its length
 pub record Sizes : Type 0 where
+  -- the sums by their numbers: the card, the record before INIT, and the least and the greatest after it, which is the room that WRITE asks for
+  pub card : cardBytes ≡ 852
+  pub fresh : recordFresh ≡ 91
+  pub least : recordLeast ≡ 438
+  pub most : recordMost ≡ 773
+  pub room : writeRoom ≡ 773
   pub ask : (c : Card) (cmd : List ℕ) (room : ℕ) → Bytes cmd → isSound c ≡ true → 255 ≤ room → length (askOut c cmd room .bytes) ≤ 255
   pub answer : (c : Card) (cmd s : List ℕ) (room : ℕ) → Shaped c → length (answerOut c cmd s room .bytes) ≤ 242
   pub write : (c : Card) → Shaped c → isSound c ≡ true

@@ -1,7 +1,7 @@
 -- The stored record (RULES 10.1): its fields, with tag, order and content, as one table, and the bytes that they make.
 -- Every length is in bytes.
 use Prim.Native.Nat.{ℕ, _/_, _%_}
-use mathlib.Core.Bool.{Bool, true, cond}
+use mathlib.Core.Bool.{true, cond}
 use mathlib.Core.List.{List, [], _∷_, _++_}
 use lib.ListN.{length, take}
 use Rattle.card.specs.declared.Identity.{Identity}

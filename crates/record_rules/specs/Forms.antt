@@ -13,7 +13,7 @@ use Rattle.record_rules.specs.declared.Form.{Form}
 use Rattle.record_rules.specs.Fields.{encode, encodeAll, slotsTag, tapTag, fieldsIn, writtenForm}
 use Rattle.record_rules.specs.Parse.{field24, behind, before, content, fit}
 
--- ---- the four: all the slots or, as before, five; with field 34 or, as before, without it
+-- ---- the four: all the slots or, as up to version 0.5.0, five; with field 34 or, as up to version 0.4.0, without it
 abbrev pub slotCountBefore : ℕ
 slotCountBefore = 5
 
@@ -25,7 +25,7 @@ forms =
     ∷ record { slots = slotCountBefore; tapped = false }
     ∷ []
 
--- ---- which cards a form holds: the one that WRITE writes holds every card; another one the initialised cards of which it leaves nothing out, since
+-- ---- which cards a form holds: the one that WRITE writes holds every card; another one the initialised cards of which it leaves nothing out:
 -- the slots past its number are free and, where it has no field 34, there is no tap record
 abbrev pub isWritten : Form → Bool
 isWritten f = eqb (f .slots) slotCount && f .tapped

@@ -4,7 +4,6 @@ use mathlib.Core.Bool.{Bool, _&&_, cond}
 use mathlib.Core.List.{List, [], _∷_}
 use lib.Dec.{eqb, leb}
 use lib.ListN.{getD}
-use Rattle.card.specs.Sizes.{slotCount}
 use Rattle.refusals.specs.Refusals.{noRefusal, unsound, countFull}
 use Rattle.record_rules.specs.Answers.{readAnswer}
 use Rattle.stock_rules.specs.declared.Counted.{Counted}
@@ -38,12 +37,12 @@ slotsUsed c = getD c 10 0
 abbrev pub fed : List ℕ → ℕ
 fed c = read c + refused c
 
--- ---- the most records fed that a count holds, and the most slots that an initialised card in it uses: all
+-- ---- the most records fed that a count holds, and the most slots of an initialised card in it
 abbrev pub fedMost : ℕ
 fedMost = 65535
 
 abbrev pub slotsMost : ℕ
-slotsMost = slotCount
+slotsMost = 8
 
 -- ---- which counts are sound: the sums hold, exactly, and the two bounds
 unfoldable pub isCount : List ℕ → Bool

@@ -4,13 +4,12 @@
 ghost use mathlib.Core.Path.{_≡_};
 ghost use Prim.Native.Nat.{_<_};
 ghost use Rattle.stock_rules.specs.Counts.{ofKinds, ofTries, fed, isCount};
-use card::Card;
 use stock_rules::NUMBERS;
 
 // The most records fed that a count holds, and the most slots of an initialised card.
 pub const FED_MAX: u64 = 65535;
 
-const SLOTS_MAX: u64 = Card::SLOTS as u64;
+const SLOTS_MAX: u64 = 8;
 
 // A number in 64 bits, in which no sum of a count's numbers wraps.
 fn wide(x: u32) -> u64
