@@ -33,7 +33,7 @@ put-field-requires-4 c κs = omega (arith, slice-aggregate-put-field-3 (c .befor
 put-slots-requires : tie.Need-put-slots-requires
 put-slots-requires c κs =
     let h = c .before .before .before .before .before .before .before .before .before .before .before .before .before .before .before .before .before .before .before .before .before .before .before .before .before .before .pre in
-    (h .0, omega (arith, slice-aggregate-put-field-3 (c .before .before .before .before .before .before .before .before .before), slice-aggregate-put-field-2 (c .before .before .before .before .before .before .before .before .before .before .before .before .before .before), slice-aggregate-put-field (c .before .before .before .before .before .before .before .before .before .before .before .before .before .before .before .before .before .before .before), h))
+    (omega (arith, h), omega (arith, slice-aggregate-put-field-3 (c .before .before .before .before .before .before .before .before .before), slice-aggregate-put-field-2 (c .before .before .before .before .before .before .before .before .before .before .before .before .before .before), slice-aggregate-put-field (c .before .before .before .before .before .before .before .before .before .before .before .before .before .before .before .before .before .before .before), h))
 
 same-length : tie.Need-same-length
 same-length c = search needs
