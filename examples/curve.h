@@ -1,5 +1,5 @@
-/* Arithmetic on the curve secp256k1, by libsecp256k1. A private key is a number of 32 bytes, the high byte first; a public key, or point, is
-   04, x and y, 65 bytes. A function that can fail gives 1 where it is done and 0 where it is not. Lengths are in bytes. */
+/* Arithmetic on the curve secp256k1, by libsecp256k1. A private key is a number of 32 bytes, the high byte first; a public key, or point,
+   is 04, x and y, 65 bytes. A function that can fail gives 1 where it is done and 0 where it is not. Lengths are in bytes. */
 #ifndef CURVE_H
 #define CURVE_H
 

@@ -1,5 +1,5 @@
-/* The keys of Keycard's secure channel, and of BIP 32, over curve.h and hash.h: docs/INTEGRATION.md, 5.1, a function for each row. Both ends
-   of a channel use them. A function gives 1 where it is done and 0 where there is no such key. Lengths are in bytes. */
+/* The keys of Keycard's secure channel, and of BIP 32, over curve.h and hash.h: docs/INTEGRATION.md, 5.1, a function for each row. Both
+   ends of a channel use them. A function gives 1 where it is done and 0 where there is no such key. Lengths are in bytes. */
 #ifndef KEYS_H
 #define KEYS_H
 
@@ -24,7 +24,8 @@ typedef struct channel_keys {
 /* A new key pair. */
 int keys_pair(uint8_t private_key[TW_KEY_BYTES], uint8_t public_key[TW_PUBLIC_KEY_BYTES]);
 
-/* SHA-256 of the pairing secret and 32 bytes after it. With the other end's challenge it is a cryptogram, with PAIR's salt the pairing key. */
+/* SHA-256 of the pairing secret and 32 bytes after it. With the other end's challenge it is a cryptogram, with PAIR's salt the pairing
+   key. */
 int keys_pairing(const uint8_t pairing_secret[TW_KEY_BYTES], const uint8_t challenge_or_salt[TW_KEY_BYTES], uint8_t result[TW_KEY_BYTES]);
 
 /* The keys of a channel, by SHA-512: the encryption key is its first 32 bytes, the MAC key its last 32. */

@@ -1,14 +1,13 @@
-/* Holds the key derivations of keys.c, which both ends of host.c share, to the numbers of docs/INTEGRATION.md, 5.3: a mistake that both ends
-   make alike shows here and not in host.c.
+/* Holds the key derivations of keys.c, which both ends of host.c share, to the numbers of docs/INTEGRATION.md, 5.3: a mistake that both
+   ends make alike shows here and not in host.c.
 
    Usage: numbers PAGE. Each number is worked out and has to be the one that the page has after its name. Exit status: 0 where all are, 1
    where one is not, 2 for a wrong use. Lengths are in bytes. */
 #include "curve.h"
 #include "hash.h"
-#include "keys.h"
+#include "published.h"
 
 #include <stdio.h>
-#include <stdlib.h>
 #include <string.h>
 
 enum {
@@ -72,7 +71,7 @@ static int key_pairs_and_init(const char *section, uint8_t ecdh_secret[TW_KEY_BY
     tw_session once = {{0}, {0}, {0}};
     int done = curve_point(rising(0x01), card_point) && curve_point(rising(0x21), point) && curve_ecdh(rising(0x01), point, ecdh_secret) &&
                curve_ecdh(rising(0x21), card_point, other_secret) && same_bytes(ecdh_secret, other_secret, TW_KEY_BYTES);
-    memcpy(content, "123456" "123456789012", TW_PIN_BYTES + TW_PUK_BYTES);
+    memcpy(content, "123456123456789012", TW_PIN_BYTES + TW_PUK_BYTES);
     memcpy(content + TW_PIN_BYTES + TW_PUK_BYTES, rising(0x70), TW_KEY_BYTES);
     memcpy(once.enc_key, ecdh_secret, TW_KEY_BYTES);
     memcpy(once.iv, rising(0xC0), TW_IV_BYTES);
@@ -108,24 +107,20 @@ static int channel(const char *section, const uint8_t ecdh_secret[TW_KEY_BYTES])
     return done;
 }
 
-/* A plain key, and an extended one by its seed, which is that of BIP 32's test vector 2: FF, FC, .. 42, each 3 less. */
+/* A plain key, and an extended one by its seed, with a path and a signature. */
 static int wallets(const char *section)
 {
-    static const uint8_t path[] = {0x00, 0x00, 0x00, 0x00, 0xFF, 0xFF, 0xFF, 0xFF, 0x00, 0x00,
-                                   0x00, 0x01, 0xFF, 0xFF, 0xFF, 0xFE, 0x00, 0x00, 0x00, 0x02};
-    uint8_t seed[SEED_BYTES], public_key[TW_PUBLIC_KEY_BYTES], key_uid[TW_KEY_BYTES], signature[CURVE_SIGNATURE_BYTES];
+    uint8_t public_key[TW_PUBLIC_KEY_BYTES], key_uid[TW_KEY_BYTES], signature[CURVE_SIGNATURE_BYTES];
     extended_key master, derived;
-    for (size_t at = 0; at < sizeof seed; at++) {
-        seed[at] = (uint8_t)(0xFF - 3 * at);
-    }
     int done = curve_point(rising(0x54), public_key) && keys_uid(public_key, key_uid);
     number(section, "\nLOAD: private key     54 .. 73           its public key", public_key, sizeof public_key);
     number(section, "\n  key UID, 32 bytes", key_uid, sizeof key_uid);
-    done = done && keys_master(seed, &master) && curve_point(master.private_key, public_key) && keys_uid(public_key, key_uid);
+    done = done && keys_master(PUBLISHED_SEED, &master) && curve_point(master.private_key, public_key) && keys_uid(public_key, key_uid);
     number(section, "\n  master's private key, 32 bytes", master.private_key, TW_KEY_BYTES);
     number(section, "\n  master's chain code, 32 bytes", master.chain_code, TW_KEY_BYTES);
     number(section, "\n  master's key UID, 32 bytes", key_uid, sizeof key_uid);
-    done = done && keys_derive(&master, path, sizeof path, &derived) && curve_point(derived.private_key, public_key) &&
+    done = done && keys_derive(&master, PUBLISHED_PATH, sizeof PUBLISHED_PATH, &derived) &&
+           curve_point(derived.private_key, public_key) && same_bytes(public_key, PUBLISHED_PUBLIC_KEY, sizeof public_key) &&
            curve_sign(derived.private_key, rising(0x01), signature);
     number(section, "\n  path's private key, 32 bytes", derived.private_key, TW_KEY_BYTES);
     number(section, "\n  path's public key, 65 bytes", public_key, sizeof public_key);

@@ -24,6 +24,11 @@ int store_open(const char *folder)
     return lock_fd >= 0 && fcntl(lock_fd, F_SETLK, &whole) == 0; /* the lock ends with the process */
 }
 
+int store_has_file(void)
+{
+    return faccessat(folder_fd, FILE_NAME, F_OK, 0) == 0;
+}
+
 int store_write(const uint8_t *bytes, size_t count)
 {
     const int fd = openat(folder_fd, NEW_NAME, O_WRONLY | O_CREAT | O_TRUNC | O_CLOEXEC, OWNER_ALONE);

@@ -8,10 +8,13 @@
 /* Takes the folder, for this process alone until it ends. 0: there is no such folder, or another process has it. */
 int store_open(const char *folder);
 
+/* Whether there is a file. */
+int store_has_file(void);
+
 /* Replaces the file durably. 1: when the call comes back, the bytes are on the disk. 0: they may or may not be. */
 int store_write(const uint8_t *bytes, size_t count);
 
-/* Reads the file. Gives how many bytes it has; 0: there is none, or it has more than the room. */
+/* Reads the file. Gives how many bytes it has; 0: there is none, it cannot be read, or it has more than the room. */
 size_t store_read(uint8_t *bytes, size_t room_bytes);
 
 #endif

@@ -6,7 +6,8 @@
 #include <string.h>
 
 enum {
-    P1_AT = 2,         /* where P1 is in a command */
+    P1_AT = 2, /* where P1 and P2 are in a command */
+    P2_AT = 3,
     FIELD_BYTES = 1 + 1, /* tag and length before a field's content */
     FLAG_BYTES = 1,
     /* LOAD's data without a public key has no more bytes than an extended key: A1, then 81 and 82 with 32 bytes each. */
@@ -63,8 +64,8 @@ static size_t supply_pair_final(const struct host *host, uint8_t *supply)
     return made ? TW_SUPPLY_PAIR_FINAL_BYTES : 0;
 }
 
-/* The key that LOAD's data brings, and its public key; where the data has a public key too, it has to be this one. The engine has seen to the
-   data's form: a seed, or A1 with the public key (80) or without, the private key (81), and for an extended key its chain code (82). */
+/* The key that LOAD's data brings, and its public key; where the data has a public key too, it has to be this one. The engine has seen to
+   the data's form: a seed, or A1 with the public key (80) or without, the private key (81), and for an extended key its chain code (82). */
 static int loaded_key(uint8_t p1, const uint8_t *data, size_t data_bytes, extended_key *wallet, uint8_t public_key[TW_PUBLIC_KEY_BYTES])
 {
     if (p1 == TW_P1_LOAD_SEED) {
@@ -117,8 +118,9 @@ static size_t supply_sign(const struct host *host, const uint8_t *data, uint8_t 
     return made ? TW_SUPPLY_SIGN_BYTES : 0;
 }
 
-/* Kind 9: flag, public key, private key. The data is a path; with P1 00 it is empty, and the current path is meant. */
-static size_t supply_export(const struct host *host, uint8_t p1, const uint8_t *data, size_t data_bytes, uint8_t *supply)
+/* Kind 9: flag, public key, private key, which stays zero where the public key alone is wanted. The data is a path; with P1 00 it is empty,
+   and the current path is meant. */
+static size_t supply_export(const struct host *host, uint8_t p1, uint8_t p2, const uint8_t *data, size_t data_bytes, uint8_t *supply)
 {
     const tw_path *const current = &host->card.current;
     const int of_current = p1 == TW_P1_EXPORT_CURRENT;
@@ -126,7 +128,9 @@ static size_t supply_export(const struct host *host, uint8_t p1, const uint8_t *
     const int is_key = keys_derive(&host->wallet, of_current ? current->bytes : data, of_current ? current->len : data_bytes, &derived) &&
                        curve_point(derived.private_key, supply + FLAG_BYTES);
     supply[0] = flag(is_key);
-    memcpy(supply + FLAG_BYTES + TW_PUBLIC_KEY_BYTES, derived.private_key, TW_KEY_BYTES);
+    if (p2 == TW_P2_EXPORT_PRIVATE_AND_PUBLIC) {
+        memcpy(supply + FLAG_BYTES + TW_PUBLIC_KEY_BYTES, derived.private_key, TW_KEY_BYTES);
+    }
     tw_wipe(&derived, sizeof derived);
     return TW_SUPPLY_EXPORT_BYTES;
 }
@@ -152,7 +156,7 @@ size_t supply_make(struct host *host, uint8_t kind, const uint8_t *command, cons
     case TW_SUPPLY_SIGN:
         return supply_sign(host, data, supply);
     case TW_SUPPLY_EXPORT:
-        return supply_export(host, command[P1_AT], data, data_bytes, supply);
+        return supply_export(host, command[P1_AT], command[P2_AT], data, data_bytes, supply);
     default:
         return 0;
     }

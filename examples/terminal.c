@@ -7,13 +7,15 @@
 
 enum {
     LC_BYTES = 1,
-    FIELD_BYTES = 1 + 1,                       /* tag and length before a field's content */
+    FIELD_BYTES = 1 + 1, /* tag and length before a field's content */
     SELECT_FRESH_BYTES = FIELD_BYTES + TW_PUBLIC_KEY_BYTES,
     SELECT_UID_BYTES = FIELD_BYTES + TW_UID_BYTES,
     INIT_CONTENT_BYTES = TW_PIN_BYTES + TW_PUK_BYTES + TW_KEY_BYTES,
-    INIT_CIPHERTEXT_BYTES = 64,                /* the content, padded to a multiple of 16 */
+    INIT_CIPHERTEXT_BYTES = 64, /* the content, padded to a multiple of 16 */
     INIT_DATA_BYTES = 1 + TW_PUBLIC_KEY_BYTES + TW_IV_BYTES + INIT_CIPHERTEXT_BYTES,
-    SEALED_CIPHERTEXT_AT = TW_HEADER_BYTES + LC_BYTES + TW_MAC_BYTES
+    SEALED_CIPHERTEXT_AT = TW_HEADER_BYTES + LC_BYTES + TW_MAC_BYTES,
+    LOAD_HEAD_MAX_BYTES = FIELD_BYTES + 1, /* A1 length, or A1 81 length */
+    LOAD_FIELDS_MAX_BYTES = FIELD_BYTES + TW_PUBLIC_KEY_BYTES + 2 * (FIELD_BYTES + TW_KEY_BYTES)
 };
 
 /* The status word at an answer's end; what is before it is the response data. */
@@ -46,6 +48,7 @@ unsigned terminal_sealed(struct terminal *terminal, uint8_t ins, uint8_t p1, uin
         const size_t answer_bytes = transmit(sealed, told.count, answer);
         told = tw_unseal(&terminal->session, answer, answer_bytes, terminal->data, sizeof terminal->data);
     }
+    tw_wipe_stack(); /* what SEAL and UNSEAL left there */
     return status_word(terminal, told.count); /* after a refusal the count is 0 */
 }
 
@@ -117,10 +120,10 @@ unsigned terminal_pair(struct terminal *terminal, const uint8_t pairing_secret[T
 
 unsigned terminal_open(struct terminal *terminal)
 {
-    uint8_t private_key[TW_KEY_BYTES], point[TW_PUBLIC_KEY_BYTES], ecdh_secret[TW_KEY_BYTES], random[TW_KEY_BYTES];
+    uint8_t private_key[TW_KEY_BYTES], point[TW_PUBLIC_KEY_BYTES], ecdh_secret[TW_KEY_BYTES], own_random[TW_KEY_BYTES];
     channel_keys keys = {{0}, {0}};
     unsigned status = 0;
-    if (keys_pair(private_key, point) && random_bytes(random, sizeof random) &&
+    if (keys_pair(private_key, point) && random_bytes(own_random, sizeof own_random) &&
         curve_ecdh(private_key, terminal->card_public_key, ecdh_secret)) {
         status = terminal_plain(terminal, TW_CLASS_CARD, TW_INS_OPEN, terminal->slot, point, sizeof point);
     }
@@ -131,12 +134,44 @@ unsigned terminal_open(struct terminal *terminal)
             memcpy(terminal->session.enc_key, keys.enc_key, TW_KEY_BYTES);
             memcpy(terminal->session.mac_key, keys.mac_key, TW_KEY_BYTES);
             memcpy(terminal->session.iv, iv, TW_IV_BYTES);
-            status = terminal_sealed(terminal, TW_INS_MUTUAL, 0x00, 0x00, random, sizeof random);
+            status = terminal_sealed(terminal, TW_INS_MUTUAL, 0x00, 0x00, own_random, sizeof own_random);
         }
     }
     tw_wipe(private_key, sizeof private_key);
     tw_wipe(ecdh_secret, sizeof ecdh_secret);
     tw_wipe(&keys, sizeof keys);
+    return status;
+}
+
+/* A field: tag, length, content. Gives where it ends. */
+static uint8_t *field(uint8_t *at, uint8_t tag, const uint8_t *content, uint8_t content_bytes)
+{
+    at[0] = tag;
+    at[1] = content_bytes;
+    memcpy(at + FIELD_BYTES, content, content_bytes);
+    return at + FIELD_BYTES + content_bytes;
+}
+
+unsigned terminal_load(struct terminal *terminal, uint8_t p1, const extended_key *key, const uint8_t *public_key)
+{
+    uint8_t data[LOAD_HEAD_MAX_BYTES + LOAD_FIELDS_MAX_BYTES], *const fields = data + LOAD_HEAD_MAX_BYTES, *end = fields;
+    if (public_key != NULL) {
+        end = field(end, 0x80, public_key, TW_PUBLIC_KEY_BYTES);
+    }
+    end = field(end, 0x81, key->private_key, TW_KEY_BYTES);
+    if (p1 == TW_P1_LOAD_EXTENDED) {
+        end = field(end, 0x82, key->chain_code, TW_KEY_BYTES);
+    }
+    /* The head goes before the fields: a length of 128 or more has the byte 81 before it. */
+    const size_t fields_bytes = (size_t)(end - fields);
+    uint8_t *head = fields;
+    *--head = (uint8_t)fields_bytes;
+    if (fields_bytes >= 0x80) {
+        *--head = 0x81;
+    }
+    *--head = 0xA1;
+    const unsigned status = terminal_sealed(terminal, TW_INS_LOAD, p1, 0x00, head, (size_t)(end - head));
+    tw_wipe(data, sizeof data);
     return status;
 }
 

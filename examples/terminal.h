@@ -30,6 +30,9 @@ unsigned terminal_pair(struct terminal *terminal, const uint8_t pairing_secret[T
 /* OPEN and MUTUAL: then the channel is there. */
 unsigned terminal_open(struct terminal *terminal);
 
+/* LOAD of a plain or an extended key (P1), with its public key, or without where that is NULL. */
+unsigned terminal_load(struct terminal *terminal, uint8_t p1, const extended_key *key, const uint8_t *public_key);
+
 /* SIGN's response: the public key, and the signature in DER, both inside the response data. 0: it has another form. */
 int terminal_signature(const struct terminal *terminal, const uint8_t **public_key, const uint8_t **der, size_t *der_bytes);
 
