@@ -11,8 +11,10 @@ static const char PIN[] = "024680", WRONG_PIN[] = "024681", PUK[] = "91827364554
 /* m/43'/60'/1581'/0', a chat key: of these paths EXPORT gives the private key too. */
 static const uint8_t CHAT_PATH[] = {0x80, 0x00, 0x00, 0x2B, 0x80, 0x00, 0x00, 0x3C, 0x80, 0x00, 0x06, 0x2D, 0x80, 0x00, 0x00, 0x00};
 enum {
-    EXPORTED_KEY_AT = 2 + 2, /* in EXPORT's response, after A1 length 80 41 */
-    STATUS_BYTES = 11,       /* GET STATUS's response, and where the PIN's tries are in it */
+    EXPORTED_KEY_AT = 2 + 2, /* the public key in EXPORT's response, after A1 length 80 41; then the private key, after 81 20 */
+    EXPORTED_PRIVATE_AT = EXPORTED_KEY_AT + TW_PUBLIC_KEY_BYTES + 2,
+    EXPORTED_BOTH_BYTES = EXPORTED_PRIVATE_AT + TW_KEY_BYTES,
+    STATUS_BYTES = 11, /* GET STATUS's response, and where the PIN's tries are in it */
     STATUS_TRIES_AT = 4
 };
 
@@ -135,8 +137,8 @@ static void exports(void)
     answers("EXPORT of the current path, its private key", sealed(TW_INS_EXPORT, TW_P1_EXPORT_CURRENT, "", 0), TW_SW_CONDITIONS_NOT_MET);
     answers("EXPORT of a chat key, its private key", sealed(TW_INS_EXPORT, TW_P1_EXPORT_DERIVE, CHAT_PATH, sizeof CHAT_PATH),
             TW_SW_SUCCESS);
-    check("private and public key belong together",
-          curve_point(phone.data + phone.data_bytes - TW_KEY_BYTES, public_key) && exported(public_key));
+    check("private and public key belong together", phone.data_bytes == EXPORTED_BOTH_BYTES &&
+                                                        curve_point(phone.data + EXPORTED_PRIVATE_AT, public_key) && exported(public_key));
 }
 
 /* The terminal goes and comes again: wallet and path are there, and PIN and channel have to be given anew. Then the wallet goes. */
