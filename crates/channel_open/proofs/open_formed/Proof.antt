@@ -8,10 +8,10 @@ use native.Mathlib.Omega.{arith}
 use lib.ListN.{length, take, drop}
 use borrow.Author.Tests.{not-true, not-false}
 use Rattle.channel_rules.specs.Message.{opened}
-use Rattle.channel_seal.proofs.Unsealed.{mac-differs, padding-wrong, padding-right, compared, deciphered, deciphered-long, searched}
+use Rattle.channel_open.proofs.Unsealed.{mac-differs, padding-wrong, padding-right, compared, deciphered, deciphered-long, searched}
 use borrow.Author.Needs.{needs}
-use Rattle.channel_seal.proofs.open_formed.Statement.{statement}
-use Rattle.channel_seal.proofs.open_formed.Tie as tie
+use Rattle.channel_open.proofs.open_formed.Statement.{statement}
+use Rattle.channel_open.proofs.open_formed.Tie as tie
 
 sub-cbc-mac : tie.Need-sub-cbc-mac
 sub-cbc-mac c = search needs

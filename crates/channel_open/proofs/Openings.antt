@@ -11,7 +11,7 @@ use Rattle.channel_rules.specs.declared.Opening.{Opening}
 use Rattle.channel_rules.specs.declared.Opening.the-variants as opening
 use Rattle.channel_rules.specs.Message.{fieldForm, opened, openField, openingOf}
 use Rattle.channel_rules.proofs.Fields.{provided-some, form-is}
-use Rattle.channel_seal.specs.Promise.{Opens}
+use Rattle.channel_open.specs.Promise.{Opens}
 
 pub closed : (o : Option (List ℕ)) → opening.Refused ≡ openingOf o → o ≡ none
 closed none e = refl

@@ -18,8 +18,8 @@ use Rattle.channel_rules.specs.declared.Session.{Session}
 use Rattle.channel_rules.specs.declared.Opening.the-variants as opening
 use Rattle.channel_rules.specs.Message.{macOf, fieldForm, provided, opened, openField, openingOf, OpeningOut, openedTo, fieldOut, openingOut}
 use Rattle.channel_rules.specs.declared.Opening.{Opening}
-use Rattle.channel_seal.specs.Promise.{Opens}
-use Rattle.channel_seal.proofs.Sealed.{tail-is}
+use Rattle.channel_open.specs.Promise.{Opens}
+use Rattle.channel_heads.proofs.Tails.{tail-is}
 
 -- nothing is opened
 pub opens-none : (o : Option (List ℕ)) (plain : List ℕ) → o ≡ none → Opens o opening.Refused plain

@@ -4,13 +4,13 @@ use mathlib.Core.Path.{_≡_, sym, _∙_}
 use Prim.Native.Nat.{ℕ}
 use Rattle.channel_rules.specs.Message.{commandHead, fieldForm}
 use Rattle.channel_rules.proofs.Fields.{Form, form-is}
-use Rattle.channel_seal.proofs.Unsealed.{opens-formed, opens-unformed}
+use Rattle.channel_open.proofs.Unsealed.{opens-formed, opens-unformed}
 use mathlib.Core.List.{List}
 use native.Mathlib.Omega.{arith}
 use lib.ListN.{length}
 use borrow.Author.Needs.{needs}
-use Rattle.channel_seal.proofs.open_command.Statement.{statement}
-use Rattle.channel_seal.proofs.open_command.Tie as tie
+use Rattle.channel_open.proofs.open_command.Statement.{statement}
+use Rattle.channel_open.proofs.open_command.Tie as tie
 
 well-formed-requires : tie.Need-well-formed-requires
 well-formed-requires c κs = search needs

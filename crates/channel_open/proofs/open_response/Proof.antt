@@ -7,10 +7,10 @@ use native.Mathlib.Omega.{arith}
 use lib.ListN.{length}
 use Rattle.channel_rules.specs.Message.{responseHead, fieldForm}
 use Rattle.channel_rules.proofs.Fields.{Form, form-is}
-use Rattle.channel_seal.proofs.Unsealed.{opens-formed, opens-unformed}
+use Rattle.channel_open.proofs.Unsealed.{opens-formed, opens-unformed}
 use borrow.Author.Needs.{needs}
-use Rattle.channel_seal.proofs.open_response.Statement.{statement}
-use Rattle.channel_seal.proofs.open_response.Tie as tie
+use Rattle.channel_open.proofs.open_response.Statement.{statement}
+use Rattle.channel_open.proofs.open_response.Tie as tie
 
 well-formed-requires : tie.Need-well-formed-requires
 well-formed-requires c κs = search needs
