@@ -4,9 +4,9 @@ use mathlib.Core.Path.{sym, _∙_}
 use native.Mathlib.Omega.{arith}
 use lib.Seq.{length-take-le}
 use borrow.Author.Needs.{needs}
-use Rattle.soft_card_bytes.proofs.Placed.{placed}
-use Rattle.soft_card_bytes.proofs.parts.place.Statement.{statement}
-use Rattle.soft_card_bytes.proofs.parts.place.Tie as tie
+use Rattle.soft_card_put.proofs.Placed.{placed}
+use Rattle.soft_card_put.proofs.parts.place.Statement.{statement}
+use Rattle.soft_card_put.proofs.parts.place.Tie as tie
 
 least-requires : tie.Need-least-requires
 least-requires c κs = search needs

@@ -4,9 +4,9 @@ use native.Mathlib.Omega.{arith}
 use lib.ListN.{length-set}
 use borrow.Author.Needs.{needs}
 use Rattle.card.specs.Sizes.{pathMostBytes}
-use Rattle.soft_card_bytes.proofs.Grown.{wrote-room}
-use Rattle.soft_card_bytes.proofs.with_path.Statement.{statement}
-use Rattle.soft_card_bytes.proofs.with_path.Tie as tie
+use Rattle.soft_card_put.proofs.Wrote.{wrote-room}
+use Rattle.soft_card_put.proofs.with_path.Statement.{statement}
+use Rattle.soft_card_put.proofs.with_path.Tie as tie
 
 array-write-r : tie.Need-array-write-r
 array-write-r c = search needs

@@ -6,10 +6,10 @@ use lib.ListN.{length-set}
 use lib.Seq.{take-all}
 use borrow.Author.Needs.{needs}
 use Rattle.card.specs.Sizes.{tapMostBytes, cardBytes}
 use Rattle.soft_card_bytes.specs.Offsets.{tapOffset}
-use Rattle.soft_card_bytes.proofs.Grown.{wrote-room}
-use Rattle.soft_card_bytes.proofs.with_tap.Statement.{statement}
-use Rattle.soft_card_bytes.proofs.with_tap.Tie as tie
+use Rattle.soft_card_put.proofs.Wrote.{wrote-room}
+use Rattle.soft_card_put.proofs.with_tap.Statement.{statement}
+use Rattle.soft_card_put.proofs.with_tap.Tie as tie
 
 array-write-r : tie.Need-array-write-r
 array-write-r c = search needs

@@ -3,10 +3,10 @@
 use mathlib.Core.Path.{sym, refl}
 use mathlib.Core.List.{[], _∷_}
 use borrow.Author.Needs.{needs}
 use Rattle.soft_card_bytes.proofs.Grown.{join}
 use Rattle.soft_card_bytes.specs.Flat.{cardFlat}
-use Rattle.soft_card_bytes.proofs.record_of.Statement.{statement}
-use Rattle.soft_card_bytes.proofs.record_of.Tie as tie
+use Rattle.soft_card_put.proofs.record_of.Statement.{statement}
+use Rattle.soft_card_put.proofs.record_of.Tie as tie
 
 with-identity-requires : tie.Need-with-identity-requires
 with-identity-requires c κs = search needs

@@ -4,10 +4,11 @@ use native.Mathlib.Omega.{arith}
 use lib.ListN.{take}
 use borrow.Author.Needs.{needs}
 use Rattle.card.specs.Sizes.{uidBytes, publicKeyBytes}
 use Rattle.soft_card_bytes.specs.Offsets.{identityOffset, publicKeyOffset}
-use Rattle.soft_card_bytes.proofs.Grown.{join, wrote-bytes}
-use Rattle.soft_card_bytes.proofs.with_identity.Statement.{statement}
-use Rattle.soft_card_bytes.proofs.with_identity.Tie as tie
+use Rattle.soft_card_bytes.proofs.Grown.{join}
+use Rattle.soft_card_put.proofs.Wrote.{wrote-bytes}
+use Rattle.soft_card_put.proofs.with_identity.Statement.{statement}
+use Rattle.soft_card_put.proofs.with_identity.Tie as tie
 
 slice-aggregate-put : tie.Need-slice-aggregate-put
 slice-aggregate-put c = search needs

@@ -7,10 +7,11 @@ use native.Mathlib.Omega.{arith}
 use lib.ListN.{take, set, length-set}
 use borrow.Author.Needs.{needs}
 use Rattle.card.specs.Sizes.{keyBytes, slotBytes, slotCount}
 use Rattle.soft_card_bytes.specs.Offsets.{pairingOffset, slotsOffset, pendingOffset, expectedOffset}
-use Rattle.soft_card_bytes.proofs.Grown.{join, wrote-byte, wrote-bytes}
-use Rattle.soft_card_bytes.proofs.with_pairing.Statement.{statement}
-use Rattle.soft_card_bytes.proofs.with_pairing.Tie as tie
+use Rattle.soft_card_bytes.proofs.Grown.{join}
+use Rattle.soft_card_put.proofs.Wrote.{wrote-byte, wrote-bytes}
+use Rattle.soft_card_put.proofs.with_pairing.Statement.{statement}
+use Rattle.soft_card_put.proofs.with_pairing.Tie as tie
 
 slots-bytes-requires : tie.Need-slots-bytes-requires
 slots-bytes-requires c κs = search needs

@@ -7,11 +7,12 @@ use lib.ListN.{replicate}
 use lib.Seq.{take-all}
 use borrow.Author.Needs.{needs}
 use Rattle.card.specs.Sizes.{keyBytes, ivBytes, sessionBytes}
 use Rattle.soft_card_bytes.specs.Offsets.{sessionMacKeyOffset, sessionIvOffset}
-use Rattle.soft_card_bytes.proofs.Grown.{join, wrote-bytes}
+use Rattle.soft_card_bytes.proofs.Grown.{join}
+use Rattle.soft_card_put.proofs.Wrote.{wrote-bytes}
 use Rattle.soft_card_bytes.specs.Flat.{sessionFlat}
-use Rattle.soft_card_bytes.proofs.session_bytes.Statement.{statement}
-use Rattle.soft_card_bytes.proofs.session_bytes.Tie as tie
+use Rattle.soft_card_put.proofs.session_bytes.Statement.{statement}
+use Rattle.soft_card_put.proofs.session_bytes.Tie as tie
 
 slice-aggregate-put : tie.Need-slice-aggregate-put
 slice-aggregate-put c = search needs

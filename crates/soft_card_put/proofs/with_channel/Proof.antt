@@ -4,10 +4,11 @@ use native.Mathlib.Omega.{arith}
 use lib.ListN.{take, set, length-set}
 use borrow.Author.Needs.{needs}
 use Rattle.card.specs.Sizes.{keyBytes, ivBytes}
 use Rattle.soft_card_bytes.specs.Offsets.{channelOffset, encKeyOffset, macKeyOffset, ivOffset}
-use Rattle.soft_card_bytes.proofs.Grown.{join, wrote-byte, wrote-bytes}
-use Rattle.soft_card_bytes.proofs.with_channel.Statement.{statement}
-use Rattle.soft_card_bytes.proofs.with_channel.Tie as tie
+use Rattle.soft_card_bytes.proofs.Grown.{join}
+use Rattle.soft_card_put.proofs.Wrote.{wrote-byte, wrote-bytes}
+use Rattle.soft_card_put.proofs.with_channel.Statement.{statement}
+use Rattle.soft_card_put.proofs.with_channel.Tie as tie
 
 array-write-r : tie.Need-array-write-r
 array-write-r c = search needs

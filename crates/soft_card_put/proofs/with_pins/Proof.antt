@@ -6,10 +6,11 @@ use native.Mathlib.Omega.{arith}
 use lib.ListN.{take}
 use borrow.Author.Needs.{needs}
 use Rattle.card.specs.Sizes.{pinBytes, pukBytes}
 use Rattle.soft_card_bytes.specs.Offsets.{pinsOffset, pukOffset, pinTriesOffset}
-use Rattle.soft_card_bytes.proofs.Grown.{join, wrote-bytes}
-use Rattle.soft_card_bytes.proofs.with_pins.Statement.{statement}
-use Rattle.soft_card_bytes.proofs.with_pins.Tie as tie
+use Rattle.soft_card_bytes.proofs.Grown.{join}
+use Rattle.soft_card_put.proofs.Wrote.{wrote-bytes}
+use Rattle.soft_card_put.proofs.with_pins.Statement.{statement}
+use Rattle.soft_card_put.proofs.with_pins.Tie as tie
 
 slice-aggregate-put : tie.Need-slice-aggregate-put
 slice-aggregate-put c = search needs
