@@ -21,6 +21,8 @@ mod disk;
 mod keeper;
 #[path = "host/keycard.rs"]
 mod keycard;
+#[path = "host/numbers.rs"]
+mod numbers;
 #[path = "host/terminal.rs"]
 mod terminal;
 #[path = "host/wallet.rs"]
@@ -34,6 +36,7 @@ use treadlewisp::*;
 use crypto::{random, sha256, Secret};
 use curve::Curve;
 use keeper::{key_file, Keeper};
+use numbers::bytes;
 use terminal::{Outcome, Terminal, Wire};
 use wallet::Key;
 
@@ -107,15 +110,6 @@ const SEED: &str = concat!(
 /// x of the public key of m/44'/60'/0'/0/0 from this seed, 32 bytes; worked out by other programs.
 const SEED_KEY_X: &str = "37b0bb7a8288d38ed49a524b5dc98cff3eb5ca824c9f9dc0dfdb3d9cd600f299";
 
-/// The bytes of hexadecimal digits.
-fn bytes<const N: usize>(digits: &str) -> Outcome<[u8; N]> {
-    let mut bytes = [0; N];
-    for (at, byte) in bytes.iter_mut().enumerate() {
-        *byte = u8::from_str_radix(digits.get(2 * at..2 * at + 2).ok_or("too short")?, 16)?;
-    }
-    Ok(bytes)
-}
-
 fn main() -> Outcome<()> {
     let named = env::args_os().nth(1).map(PathBuf::from);
     let folder = named
@@ -143,6 +137,10 @@ fn first_contact(device: &mut Device, terminal: &mut Terminal) -> Outcome<()> {
 }
 
 fn life(folder: &path::Path) -> Outcome<()> {
+    println!(
+        "NUMBERS {} numbers of docs/INTEGRATION.md, as they should be",
+        numbers::compare(&Curve::new()?)?
+    );
     let mut device = Device::make(folder.to_path_buf())?;
     println!(
         "FRESH   the record on the disk has {} bytes",

@@ -21,6 +21,9 @@ fn bytes(digits: &str) -> Vec<u8> {
     (0..digits.len()).step_by(2).map(pair).collect()
 }
 
+/// A part of a drawing: its offset, and its bytes.
+type Drawn<'a> = (usize, &'a [u8]);
+
 /// Whether the part lies at this offset of the bytes.
 fn lies(bytes: &[u8], offset: usize, part: &[u8]) -> bool {
     bytes.get(offset..offset + part.len()) == Some(part)
@@ -69,7 +72,7 @@ fn supplies_with_parts() {
         })
     };
     let yes: &[u8] = &[0x01];
-    let drawings: [(Supply, SupplyKind, &[(usize, &[u8])]); 6] = [
+    let drawings: [(Supply, SupplyKind, &[Drawn]); 6] = [
         (open, SupplyKind::Open, &[(0, yes), (1, &a), (33, &b), (65, &c), (97, &iv)]),
         (pair_first, SupplyKind::PairFirst, &[(0, &a), (32, &b), (64, &c)]),
         (pair_final, SupplyKind::PairFinal, &[(0, &a), (32, &b)]),
@@ -235,7 +238,7 @@ fn the_templates_of_load() {
         chain_code: &chain_code,
         public_key,
     };
-    let drawings: [(LoadedKey, u8, &[u8], &[(usize, &[u8])]); 4] = [
+    let drawings: [(LoadedKey, u8, &[u8], &[Drawn]); 4] = [
         (plain(None), 0x01, &[0xA1, 0x22], &[(2, &[0x81, 0x20]), (4, &private_key)]),
         (
             plain(Some(&point)),
