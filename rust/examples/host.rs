@@ -35,7 +35,7 @@ use treadlewisp::*;
 
 use crypto::{random, sha256, Secret};
 use curve::Curve;
-use keeper::{key_file, Keeper};
+use keeper::{key_file, Keeper, CARD_KEY_FILE, RECORD_FILE};
 use numbers::bytes;
 use terminal::{Outcome, Terminal, Wire};
 use wallet::Key;
@@ -59,7 +59,7 @@ impl Device {
             wallet: Vec::new(),
         };
         let card = Card::fresh(&random()?, &public_key);
-        disk::write(&host.folder, "card.key", &host.card_key.0)?;
+        disk::write(&host.folder, CARD_KEY_FILE, &host.card_key.0)?;
         let mut record = [0; WRITE_ROOM_BYTES];
         let record_bytes = card.write(&mut record)?;
         host.store(&card, &record[..record_bytes])?;
@@ -68,10 +68,10 @@ impl Device {
 
     /// READ: power-up, from what is on the disk.
     fn start(folder: PathBuf) -> Outcome<Device> {
-        let mut record = fs::read(folder.join("record"))?;
+        let mut record = fs::read(folder.join(RECORD_FILE))?;
         let card = Card::read(&record);
         wipe(&mut record);
-        let (card, card_key) = (card?, Secret(fs::read(folder.join("card.key"))?[..].try_into()?));
+        let (card, card_key) = (card?, Secret(fs::read(folder.join(CARD_KEY_FILE))?[..].try_into()?));
         let mut wallet = Vec::new();
         if card.key_kind() != Some(KeyKind::None) {
             let mut bytes = fs::read(folder.join(key_file(card.key_uid())))?;
@@ -144,14 +144,14 @@ fn life(folder: &path::Path) -> Outcome<()> {
     let mut device = Device::make(folder.to_path_buf())?;
     println!(
         "FRESH   the record on the disk has {} bytes",
-        fs::read(folder.join("record"))?.len()
+        fs::read(folder.join(RECORD_FILE))?.len()
     );
     let mut terminal = Terminal::new(b"024680", b"918273645546")?;
     first_contact(&mut device, &mut terminal)?;
 
     // A wrong PIN loses a try, on the disk too, before the terminal learns of it.
     let wrong = terminal.send(&mut device, &ChannelCommand::verify(b"024681"))?.status();
-    let stored_tries = Card::read(&fs::read(folder.join("record"))?)?.pin_tries();
+    let stored_tries = Card::read(&fs::read(folder.join(RECORD_FILE))?)?.pin_tries();
     println!("VERIFY  a wrong PIN: {wrong}; on the disk: {stored_tries} tries");
     check(wrong == StatusWord::TRIES_LEFT_2 && stored_tries == 2, "the try was not lost")?;
     terminal.verify(&mut device)?;

@@ -104,6 +104,13 @@
 //! The library `libtreadlewisp.a` is linked from the repository's `target/staticlib`, where `tools/library` puts it, or from the folder
 //! that the environment variable `TREADLEWISP_LIB_DIR` names (a relative one counts from this package). It is for x86-64 Linux. With the
 //! feature `sha256`, `libsha_c.a` is linked too, from the same folder; `tools/library` puts it there, and `tools/archive sha_c` makes it alone.
+//!
+//! The crate is `no_std` and depends on no other. `cargo package`, called in its folder, packs sources and example. The libraries are not in the
+//! package: they are proved and made in the repository, and a program that uses the package names their folder in `TREADLEWISP_LIB_DIR`.
+//! Package and library must be of the same version.
+//!
+//! `examples/host.rs` is a host and its terminal, with a real curve. It alone needs other libraries, Debian's packages libsecp256k1-dev and
+//! libssl-dev, and is built with the feature `host_example`: `cargo run --example host --features host_example`.
 
 #![no_std]
 #![deny(unsafe_code, unsafe_op_in_unsafe_fn, missing_docs)]

@@ -390,8 +390,19 @@ fn exchanges_leave_no_secret_on_the_stack() {
         ("LOAD", ChannelCommand::load(&loaded), KEY_BYTES),
         ("EXPORT", ChannelCommand::export(&chat, ExportedKeys::PrivateAndPublic), 103),
     ];
-    for (name, command, data_bytes) in exchanged {
-        assert_eq!(found(&on_stack(&mut || send(&command, data_bytes))), [], "{name}");
+    for (name, command, data_bytes) in &exchanged {
+        assert_eq!(found(&on_stack(&mut || send(command, *data_bytes))), [], "{name}");
+    }
+    for (name, command, _) in &exchanged {
+        let sealed = command.seal(&mut life.terminal).expect("SEAL");
+        let mut served = None;
+        let left = on_stack(&mut || served = Some(life.card.serve(&mut desk, sealed.bytes()).is_ok()));
+        assert_eq!((found(&left), served), (vec![], Some(true)), "{name}, the host's end alone");
+        life.terminal = Session::from_bytes(
+            &life.card.to_bytes()[place("enc_key").start..place("tap").start]
+                .try_into()
+                .expect("a session"),
+        );
     }
 }
 

@@ -18,8 +18,18 @@ pub fn write(folder: &Path, name: &str, bytes: &[u8]) -> io::Result<()> {
     File::open(folder)?.sync_all()
 }
 
-/// Deletes a file of this name, durably.
-pub fn delete(folder: &Path, name: &str) -> io::Result<()> {
-    fs::remove_file(folder.join(name))?;
-    File::open(folder)?.sync_all()
+/// Deletes all files of the folder but those of these names, durably.
+pub fn keep_only(folder: &Path, names: &[&str]) -> io::Result<()> {
+    let mut deleted = false;
+    for entry in fs::read_dir(folder)? {
+        let entry = entry?;
+        if !names.iter().any(|name| entry.file_name() == *name) {
+            fs::remove_file(entry.path())?;
+            deleted = true;
+        }
+    }
+    if deleted {
+        File::open(folder)?.sync_all()?;
+    }
+    Ok(())
 }

@@ -20,6 +20,10 @@ pub struct Keeper {
     pub wallet: Vec<([u8; KEY_BYTES], Key)>,
 }
 
+/// The files of the card's record, and of its own private key.
+pub const RECORD_FILE: &str = "record";
+pub const CARD_KEY_FILE: &str = "card.key";
+
 /// The file of the wallet's key with this UID: private key, and chain code if it has one.
 pub fn key_file(uid: &[u8; KEY_BYTES]) -> String {
     uid.iter().map(|byte| format!("{byte:02x}")).collect::<String>() + ".key"
@@ -102,9 +106,10 @@ impl Host for Keeper {
         let mut bytes = [&key.private_key.0[..], key.chain_code.as_ref().map_or(&[], |code| &code.0)].concat();
         let written = disk::write(&self.folder, &key_file(&uid), &bytes);
         wipe(&mut bytes);
+        written?;
         self.wallet.retain(|(other, _)| *other != uid);
         self.wallet.push((uid, key));
-        written.map(|()| Supply::load(&uid))
+        Ok(Supply::load(&uid))
     }
 
     fn derive(&mut self, card: &Card, path: &Path) -> io::Result<Supply> {
@@ -134,11 +139,10 @@ impl Host for Keeper {
         }))
     }
 
-    /// The record first; then keys that it does not name go, those that LOAD has replaced or REMOVE removed.
+    /// The record first; then keys that it does not name go: those that LOAD has replaced or REMOVE removed, and what a power cut left.
     fn store(&mut self, card: &Card, record: &[u8]) -> io::Result<()> {
-        disk::write(&self.folder, "record", record)?;
-        let (kept, gone) = self.wallet.drain(..).partition(|(uid, _)| uid == card.key_uid());
-        self.wallet = kept;
-        gone.iter().try_for_each(|(uid, _)| disk::delete(&self.folder, &key_file(uid)))
+        disk::write(&self.folder, RECORD_FILE, record)?;
+        self.wallet.retain(|(uid, _)| uid == card.key_uid());
+        disk::keep_only(&self.folder, &[RECORD_FILE, CARD_KEY_FILE, &key_file(card.key_uid())])
     }
 }
