@@ -71,7 +71,10 @@ impl Device {
         let mut record = fs::read(folder.join(RECORD_FILE))?;
         let card = Card::read(&record);
         wipe(&mut record);
-        let (card, card_key) = (card?, Secret(fs::read(folder.join(CARD_KEY_FILE))?[..].try_into()?));
+        let card = card?;
+        let mut bytes = fs::read(folder.join(CARD_KEY_FILE))?;
+        let card_key = Secret(bytes[..].try_into()?);
+        wipe(&mut bytes);
         let mut wallet = Vec::new();
         if card.key_kind() != Some(KeyKind::None) {
             let mut bytes = fs::read(folder.join(key_file(card.key_uid())))?;
