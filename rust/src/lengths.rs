@@ -59,6 +59,12 @@ pub const PAGE_BYTES: usize = 4096;
 /// How much of the stack [`wipe_stack`](crate::wipe_stack) overwrites, in bytes. Every call of this crate uses less.
 pub const STACK_WIPE_BYTES: usize = 8 * PAGE_BYTES;
 
+/// Length of a hash to sign, in bytes.
+pub const HASH_BYTES: usize = 32;
+/// Length of a seed that LOAD takes, in bytes.
+pub const SEED_BYTES: usize = 64;
+/// The most data of a plain command, in bytes: Lc is one byte.
+pub const PLAIN_DATA_MAX_BYTES: usize = 255;
 /// The most data that SEAL takes, in bytes.
 pub const DATA_MAX_BYTES: usize = 223;
 /// The longest supply of any kind, in bytes.
@@ -86,6 +92,8 @@ const RECORD_SECRETS_BYTES: usize = 5 * FIELD_HEAD_BYTES + PIN_BYTES + PUK_BYTES
 pub const SLOTS: usize = 8;
 /// How many pairing slots a card had up to version 0.5.0. [`Card::read`](crate::Card::read) takes the records of both.
 pub const SLOTS_BEFORE: usize = 5;
+/// What is added to a component of a path that is hardened: 44' is `44 + HARDENED`. This is no length.
+pub const HARDENED: u32 = 0x8000_0000;
 /// How many tries a PIN starts with.
 pub const PIN_TRIES: u8 = 3;
 /// How many tries a PUK starts with.
