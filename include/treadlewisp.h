@@ -26,15 +26,17 @@ extern "C" {
 /* The version: one number for this header, the library, the Rust crate and the crates that they are proved from. CHANGELOG.md says what it
    promises about the card's layout and the stored record. */
 #define TW_VERSION_MAJOR 0
-#define TW_VERSION_MINOR 5
+#define TW_VERSION_MINOR 6
 #define TW_VERSION_PATCH 0
-#define TW_VERSION "0.5.0"
+#define TW_VERSION "0.6.0"
 
 /* Numbers that follow from others are written as their sums; docs/LAYOUT.md has them worked out, and rust/tests/layout.rs holds both against
    each other. */
 enum {
-    /* How many pairing slots a card has, how many tries a PIN and a PUK start with, and how deep templates may nest (a top one is at 1). */
-    TW_SLOTS = 5,
+    /* How many pairing slots a card has, their indexes being 0 to 7, and how many it had up to version 0.5.0, whose records READ takes too;
+       how many tries a PIN and a PUK start with; how deep templates may nest (a top one is at 1). */
+    TW_SLOTS = 8,
+    TW_SLOTS_BEFORE = 5,
     TW_PIN_TRIES = 3,
     TW_PUK_TRIES = 5,
     TW_WALK_DEPTH_MAX = 4,
@@ -85,15 +87,22 @@ enum {
     TW_SESSION_BYTES = TW_KEY_BYTES + TW_KEY_BYTES + TW_IV_BYTES,
 
     /* The length of a stored record, in bytes: before INIT, and the least and the greatest after it. A field has a tag and a length before
-       its content; there are 3 before INIT and 13 after it, and four of these may be empty. Up to version 0.4.0 a record had no field for
-       the tap record, the last one: READ takes these old records too. */
+       its content; there are 3 before INIT and 13 after it, and four of these may be empty. The part that is there in every form of an
+       initialised record is its fields without the content of the slots, and without the tap record's field. */
     TW_FIELD_HEAD_BYTES = 1 + 2,
     TW_RECORD_FRESH_BYTES = 3 * TW_FIELD_HEAD_BYTES + 1 + TW_UID_BYTES + TW_PUBLIC_KEY_BYTES,
-    TW_RECORD_SECRETS_BYTES = 5 * TW_FIELD_HEAD_BYTES + TW_PIN_BYTES + TW_PUK_BYTES + TW_KEY_BYTES + 1 + 1 + TW_SLOTS * TW_SLOT_BYTES,
-    TW_RECORD_OLD_MIN_BYTES = TW_RECORD_FRESH_BYTES + TW_RECORD_SECRETS_BYTES + 4 * TW_FIELD_HEAD_BYTES + 1,
-    TW_RECORD_OLD_MAX_BYTES = TW_RECORD_OLD_MIN_BYTES + TW_KEY_BYTES + 2 * TW_PATH_MAX_BYTES,
-    TW_RECORD_MIN_BYTES = TW_RECORD_OLD_MIN_BYTES + TW_FIELD_HEAD_BYTES,
-    TW_RECORD_MAX_BYTES = TW_RECORD_OLD_MAX_BYTES + TW_FIELD_HEAD_BYTES + TW_TAP_MAX_BYTES,
+    TW_RECORD_SECRETS_BYTES = 5 * TW_FIELD_HEAD_BYTES + TW_PIN_BYTES + TW_PUK_BYTES + TW_KEY_BYTES + 1 + 1,
+    TW_RECORD_KEYS_BYTES = 4 * TW_FIELD_HEAD_BYTES + 1,
+    TW_RECORD_ALWAYS_BYTES = TW_RECORD_FRESH_BYTES + TW_RECORD_SECRETS_BYTES + TW_RECORD_KEYS_BYTES,
+    TW_RECORD_MIN_BYTES = TW_RECORD_ALWAYS_BYTES + TW_SLOTS * TW_SLOT_BYTES + TW_FIELD_HEAD_BYTES,
+    TW_RECORD_MAX_BYTES = TW_RECORD_MIN_BYTES + TW_KEY_BYTES + 2 * TW_PATH_MAX_BYTES + TW_TAP_MAX_BYTES,
+
+    /* READ takes three older forms of an initialised record too, and WRITE writes none of them: with TW_SLOTS_BEFORE slots and without the
+       tap record's field, 336 to 448 bytes (up to version 0.4.0); with TW_SLOTS_BEFORE slots and with that field, 339 to 674 bytes (version
+       0.5.0); with TW_SLOTS slots and without that field, 435 to 547 bytes (no version wrote it). The least and the greatest of these three,
+       in bytes. */
+    TW_RECORD_OLD_MIN_BYTES = TW_RECORD_ALWAYS_BYTES + TW_SLOTS_BEFORE * TW_SLOT_BYTES,
+    TW_RECORD_OLD_MAX_BYTES = TW_RECORD_OLD_MIN_BYTES + TW_KEY_BYTES + 2 * TW_PATH_MAX_BYTES + TW_FIELD_HEAD_BYTES + TW_TAP_MAX_BYTES,
 
     /* The least room of a buffer, in bytes; under it the operation is refused with TW_ROOM. */
     TW_ASK_ROOM_BYTES = 255,
@@ -419,8 +428,8 @@ tw_told tw_unseal(tw_session *session, const uint8_t *response, size_t response_
 tw_told tw_walk(const uint8_t *input, size_t input_bytes);
 
 /* WRITE: the card's stored record from the buffer's start: TW_RECORD_FRESH_BYTES bytes before INIT, TW_RECORD_MIN_BYTES to
-   TW_RECORD_MAX_BYTES after it. After INIT it has the field of the tap record, also where that is empty. The card is only
-   read.
+   TW_RECORD_MAX_BYTES after it. After INIT it has all 8 slots, and the field of the tap record, also where that is empty. The card is
+   only read.
    Refusals: TW_UNSOUND, TW_ROOM (buf_bytes under TW_WRITE_ROOM_BYTES, also before INIT).
    The caller ensures:
    - card: TW_CARD_BYTES bytes, valid to read, and written by no one during the call;
@@ -429,8 +438,8 @@ tw_told tw_walk(const uint8_t *input, size_t input_bytes);
 tw_told tw_write(const tw_card *card, uint8_t *buf, size_t buf_bytes);
 
 /* READ: the card becomes that of the stored record, sound and reset; refused, it becomes FRESH of zeros. What *card held is not read.
-   Gives the refusal: TW_DONE or TW_NOT_RECORD. An old record, without the field of the tap record, is that of a card with none; WRITE then
-   writes it with the field.
+   Gives the refusal: TW_DONE or TW_NOT_RECORD. Older records are taken too: one with 5 slots is that of a card whose slots 5 to 7 are free,
+   and one without the field of the tap record that of a card with none. WRITE then writes it with 8 slots and with the field.
    The caller ensures:
    - card: TW_CARD_BYTES bytes, valid to write, overlapping no other argument, and used by no other thread during the call;
    - record: record_bytes bytes, valid to read, and written by no one during the call;
@@ -438,9 +447,9 @@ tw_told tw_write(const tw_card *card, uint8_t *buf, size_t buf_bytes);
 uint8_t tw_read(tw_card *card, const uint8_t *record, size_t record_bytes);
 
 /* The tap read: which bytes a phone is to read when the card is held to it. Where the stored record has the card's own tap record, they are
-   its bytes inside record: source TW_TAP_RECORD. Where READ takes the record and it has none (the field is empty, or it is an old record, or
-   one before INIT), they are the whole of factory: source TW_TAP_FACTORY, offset 0, length factory_bytes. The bytes of factory are not looked
-   at, and may be none. It needs no card and no buffer, and writes nothing.
+   its bytes inside record, at whichever offset its form has them: source TW_TAP_RECORD. Where READ takes the record and it has none (the
+   field is empty or missing, or it is a record before INIT), they are the whole of factory: source TW_TAP_FACTORY, offset 0, length
+   factory_bytes. The bytes of factory are not looked at, and may be none. It needs no card and no buffer, and writes nothing.
    Refusal: TW_NOT_RECORD, exactly where READ refuses the record. Then source is TW_TAP_NONE, and offset and length are 0.
    The caller ensures:
    - record: record_bytes bytes, valid to read, and written by no one during the call;

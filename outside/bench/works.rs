@@ -1,5 +1,5 @@
 //! What is measured: works of many calls, whose inputs are made beforehand from a seed. Every card is initialised, in stage 2, with all slots
-//! filled, both paths and the tap record full, so its record has 674 bytes. Lengths are in bytes.
+//! filled, both paths and the tap record full, so its record has 773 bytes. Lengths are in bytes.
 
 use crate::model_side::Model;
 use crate::sides::{Side, State};

@@ -1,7 +1,7 @@
 /* One card's life through include/treadlewisp.h, with all eleven operations: from FRESH over INIT, PAIR, OPEN and MUTUAL to PIN, PUK, its tap
-   record, keys, signatures and exported keys, its stored record, its refusals and templates. The life is played once for each placing of memory
-   (life_places.h), and what holds of every call is checked at every call (life_calls.h). Exit status 0: every answer was the one that the
-   rules give. Lengths are in bytes. */
+   record, keys, signatures and exported keys, its eight slots, its stored record, its refusals and templates. The life is played once for
+   each placing of memory (life_places.h), and what holds of every call is checked at every call (life_calls.h). Exit status 0: every answer
+   was the one that the rules give. Lengths are in bytes. */
 #include "life_calls.h"
 #include "life_places.h"
 
@@ -141,8 +141,8 @@ static void fresh_card(void)
     plain_status("another application", plain_command(TW_CLASS_SELECT, TW_INS_SELECT, TW_P1_SELECT, words("Other")), TW_SW_NOT_FOUND);
 }
 
-/* The tap read of the card's record: its own tap record where it has one, else the factory's; and of the record's old form, which has none,
-   and of bytes that are no record. */
+/* The tap read of the card's record: its own tap record where it has one, else the factory's; and of the record without field 34, which has
+   none, and of bytes that are no record. */
 static void tapped(text record)
 {
     const text factory = text_of(FACTORY, sizeof FACTORY), own = text_of(card->tap.bytes, card->tap.len);
@@ -152,8 +152,8 @@ static void tapped(text record)
     expect(call_tap(record, factory, &source, &part) == TW_DONE, "the tap read is refused");
     expect(source == (own.count > 0 ? TW_TAP_RECORD : TW_TAP_FACTORY), "where its part lies");
     expect(same(part, own.count > 0 ? own : factory), "its part");
-    expect(call_tap(text_of(record.bytes, record.count - field_bytes), factory, &source, &part) == TW_DONE, "of an old record");
-    expect(source == TW_TAP_FACTORY && same(part, factory), "its part, of an old record");
+    expect(call_tap(text_of(record.bytes, record.count - field_bytes), factory, &source, &part) == TW_DONE, "of a record without it");
+    expect(source == TW_TAP_FACTORY && same(part, factory), "its part, of a record without it");
     expect(call_tap(text_of(record.bytes, record.count - field_bytes), none(), &source, &part) == TW_DONE, "with an empty factory record");
     expect(source == TW_TAP_FACTORY && part.count == 0, "its part, an empty factory record");
     expect(call_tap(text_of(record.bytes, record.count - 1), factory, &source, &part) == TW_NOT_RECORD, "of a part");
@@ -221,31 +221,49 @@ static void init_card(void)
     plain_status("OPEN of a free slot", plain_command(TW_CLASS_CARD, TW_INS_OPEN, 0, point()), TW_SW_WRONG_PARAMETERS);
 }
 
+static text pair_first(void)
+{
+    return plain_command(TW_CLASS_CARD, TW_INS_PAIR, TW_P1_PAIR_FIRST, key(0x0F));
+}
+
+static void pair_step_one(const char *step)
+{
+    const text supply = joined(joined(key(0x91), key(0x93)), key(0x53));
+    const text challenge = joined(joined(key(0x91), key(0x93)), status(TW_SW_SUCCESS));
+    plain(step, pair_first(), TW_SUPPLY_PAIR_FIRST, key(0x0F), supply, challenge);
+    expect(card->pending == 1, "pending");
+}
+
+/* The slot with this index is filled with a key of these bytes, and the one after it, if there is one, is free. */
+static void pair_step_two(const char *step, unsigned index, uint8_t value)
+{
+    const text right = plain_command(TW_CLASS_CARD, TW_INS_PAIR, TW_P1_PAIR_FINAL, key(0x53));
+    plain(step, right, TW_SUPPLY_PAIR_FINAL, key(0x53), joined(key(0x92), key(value)),
+          joined(joined(byte(index), key(0x92)), status(TW_SW_SUCCESS)));
+    expect(card->pending == 0, "no more pending");
+    expect(card->slots[index].filled == 1 && card->slots[index].key[31] == value, "the slot");
+    expect(index + 1 == TW_SLOTS || card->slots[index + 1].filled == 0, "the next slot");
+}
+
 /* PAIR: a wrong cryptogram ends the pairing, the right one fills slot 0. */
 static void pair(void)
 {
-    const text first = plain_command(TW_CLASS_CARD, TW_INS_PAIR, TW_P1_PAIR_FIRST, key(0x0F));
-    const text supply = joined(joined(key(0x91), key(0x93)), key(0x53));
-    const text challenge = joined(joined(key(0x91), key(0x93)), status(TW_SW_SUCCESS));
     const text right = plain_command(TW_CLASS_CARD, TW_INS_PAIR, TW_P1_PAIR_FINAL, key(0x53));
     const text wrong = plain_command(TW_CLASS_CARD, TW_INS_PAIR, TW_P1_PAIR_FINAL, key(0x54));
-    plain("PAIR first", first, TW_SUPPLY_PAIR_FIRST, key(0x0F), supply, challenge);
-    expect(card->pending == 1, "pending");
+    pair_step_one("PAIR first");
     plain_status("PAIR final, wrong", wrong, TW_SW_SECURITY_NOT_MET);
     expect(card->pending == 0, "no more pending");
     plain_status("PAIR final without a first step", right, TW_SW_WRONG_PARAMETERS);
-    plain("PAIR first again", first, TW_SUPPLY_PAIR_FIRST, key(0x0F), supply, challenge);
-    plain("PAIR final", right, TW_SUPPLY_PAIR_FINAL, key(0x53), joined(key(0x92), key(0x52)),
-          joined(joined(byte(0), key(0x92)), status(TW_SW_SUCCESS)));
-    expect(card->slots[0].filled == 1 && card->slots[0].key[31] == 0x52 && card->slots[1].filled == 0, "slot 0");
+    pair_step_one("PAIR first again");
+    pair_step_two("PAIR final", 0, 0x52);
 }
 
-/* OPEN and MUTUAL; then both ends hold the same session. */
-static void open_channel(void)
+/* OPEN of this slot, and MUTUAL; then both ends hold the same session. */
+static void open_slot(unsigned index)
 {
     const text iv = filled(0x63, TW_IV_BYTES);
     const text supply = joined(joined(byte(1), key(0x61)), joined(joined(key(0x62), key(0x94)), iv));
-    const text open = plain_command(TW_CLASS_CARD, TW_INS_OPEN, 0, point());
+    const text open = plain_command(TW_CLASS_CARD, TW_INS_OPEN, index, point());
     plain_status("OPEN past the last slot", plain_command(TW_CLASS_CARD, TW_INS_OPEN, TW_SLOTS, point()), TW_SW_WRONG_PARAMETERS);
     plain("OPEN", open, TW_SUPPLY_OPEN, point(), supply, joined(joined(key(0x94), iv), status(TW_SW_SUCCESS)));
     expect(card->stage == TW_STAGE_OPENED, "stage 1");
@@ -254,6 +272,11 @@ static void open_channel(void)
     memset(terminal->iv, 0x63, sizeof terminal->iv);
     sealed("MUTUAL", TW_INS_MUTUAL, 0, key(0x0E), TW_SUPPLY_MUTUAL, key(0x95), joined(key(0x95), status(TW_SW_SUCCESS)));
     expect(card->stage == TW_STAGE_MUTUAL, "stage 2");
+}
+
+static void open_channel(void)
+{
+    open_slot(0);
 }
 
 static void tries(const char *step, uint8_t pin, uint8_t puk, uint8_t has_key)
@@ -287,7 +310,7 @@ static void pin_and_puk(void)
 }
 
 /* SET NDEF: the two bytes at the start count those after them, not themselves and not Lc. What is stored last stays for the rest of the
-   card's life. An old record, without field 34, is read as none, and written with an empty one. */
+   card's life. A record without field 34 is read as none, and written with an empty one. */
 static void tap_record(void)
 {
     const unsigned ins = TW_INS_SET_NDEF;
@@ -311,12 +334,13 @@ static void tap_record(void)
     const tw_tap_record wanted = card->tap;
     expect(same(text_of(wanted.bytes, wanted.len), tap), "the tap record");
     expect(wanted.bytes[sizeof TAP] == 0 && wanted.bytes[TW_TAP_MAX_BYTES - 1] == 0, "zero past its end");
-    about("an old record");
+    about("a record without field 34");
     text record;
     tw_card again;
     expect(call_write(card, TW_WRITE_ROOM_BYTES, &record) == TW_DONE, "WRITE is refused");
     record.count -= TW_FIELD_HEAD_BYTES + sizeof TAP;
-    expect(record.count == TW_RECORD_OLD_MIN_BYTES && call_read(&again, record) == TW_DONE && again.tap.len == 0, "it is read as none");
+    expect(record.count == TW_RECORD_MIN_BYTES - TW_FIELD_HEAD_BYTES, "its length");
+    expect(call_read(&again, record) == TW_DONE && again.tap.len == 0, "it is read as none");
     expect(call_write(&again, TW_WRITE_ROOM_BYTES, &record) == TW_DONE && record.count == TW_RECORD_MIN_BYTES, "and written with field 34");
     again = *card;
     again.tap.bytes[1]++;
@@ -440,7 +464,7 @@ static void second_client(void)
 {
     text wrote;
     const text open = plain_command(TW_CLASS_CARD, TW_INS_OPEN, 0, point());
-    const text pairing = plain_command(TW_CLASS_CARD, TW_INS_PAIR, TW_P1_PAIR_FIRST, key(0x0F));
+    const text pairing = pair_first();
     pair();
     open_channel();
     sealed_status("VERIFY, the first client", TW_INS_VERIFY, 0, words(PIN), TW_SW_SUCCESS);
@@ -463,6 +487,81 @@ static void second_client(void)
     expect(tw_sound(card) == 0 && call_reset(card) == TW_UNSOUND, "a verified PIN in stage 0 is not sound");
     card->verified = 0;
     expect(tw_sound(card) == 1, "the same card without it is sound");
+}
+
+/* What SELECT counts on this card, which it leaves in stage 0. */
+static void free_slots(const char *step, unsigned count)
+{
+    about(step);
+    text wrote;
+    const size_t at = 2 + 2 + TW_UID_BYTES + 2 + TW_PUBLIC_KEY_BYTES + 4;
+    expect(call_answer(card, select_command(), none(), TW_ANSWER_ROOM_BYTES, &wrote) == TW_DONE, "SELECT is refused");
+    expect(wrote.bytes[at] == 0x02 && wrote.bytes[at + 1] == 1 && wrote.bytes[at + 2] == count, "free slots");
+}
+
+/* A card has the slots 0 to 7: after the first, seven more are paired in their order, and no more. OPEN and UNPAIR take the last one, and not
+   the index 8. */
+static void eight_slots(void)
+{
+    free_slots("one slot is filled", TW_SLOTS - 1);
+    for (unsigned index = 1; index < TW_SLOTS; index++) {
+        pair_step_one("PAIR first, the next slot");
+        pair_step_two("PAIR final, the next slot", index, (uint8_t)(0x52 + index));
+    }
+    free_slots("all slots are filled", 0);
+    plain_status("a ninth pairing", pair_first(), TW_SW_NO_SPACE);
+    open_slot(TW_SLOTS - 1);
+    sealed_status("VERIFY over the last slot", TW_INS_VERIFY, 0, words(PIN), TW_SW_SUCCESS);
+    sealed_status("UNPAIR past the last slot", TW_INS_UNPAIR, TW_SLOTS, none(), TW_SW_WRONG_PARAMETERS);
+    sealed_status("UNPAIR of the last slot", TW_INS_UNPAIR, TW_SLOTS - 1, none(), TW_SW_SUCCESS);
+    free_slots("one slot is free", 1);
+    plain_status("OPEN of the freed slot", plain_command(TW_CLASS_CARD, TW_INS_OPEN, TW_SLOTS - 1, point()), TW_SW_WRONG_PARAMETERS);
+    pair_step_one("PAIR first, once more");
+    pair_step_two("PAIR final, once more", TW_SLOTS - 1, 0x52);
+}
+
+/* A record that WRITE wrote, in another form: with this many slots in field 24, and without its last bytes. */
+static text in_form(text record, size_t slots, size_t cut_bytes)
+{
+    const size_t at = TW_RECORD_FRESH_BYTES + TW_RECORD_SECRETS_BYTES - TW_FIELD_HEAD_BYTES;
+    const size_t content_at = at + TW_FIELD_HEAD_BYTES, after_at = content_at + TW_SLOTS * TW_SLOT_BYTES;
+    const size_t slots_bytes = slots * TW_SLOT_BYTES;
+    const uint8_t head[] = {0x24, (uint8_t)(slots_bytes >> 8), (uint8_t)slots_bytes};
+    const text before = joined(text_of(record.bytes, at), text_of(head, sizeof head));
+    const text after = text_of(record.bytes + after_at, record.count - after_at - cut_bytes);
+    return joined(joined(before, text_of(record.bytes + content_at, slots_bytes)), after);
+}
+
+/* READ of the record in its older forms, with the 5 slots of before, with field 34 and without it: the slots 5 to 7 are free then, and WRITE
+   writes today's form. Any other number of slots is no record. */
+static void older_records(void)
+{
+    const size_t tap_field_bytes = TW_FIELD_HEAD_BYTES + sizeof TAP;
+    text record, again_record;
+    tw_card again;
+    about("the record with all slots filled");
+    expect(call_write(card, TW_WRITE_ROOM_BYTES, &record) == TW_DONE, "WRITE is refused");
+    expect(same(in_form(record, TW_SLOTS, 0), record), "its form");
+    for (size_t slots = 0; slots < TW_SLOTS; slots++) {
+        about(slots == TW_SLOTS_BEFORE ? "a record with the slots of before" : "a record with another number of slots");
+        for (int tapped = 0; tapped <= 1; tapped++) {
+            const text older = in_form(record, slots, tapped ? 0 : tap_field_bytes);
+            if (slots != TW_SLOTS_BEFORE) {
+                expect(call_read(&again, older) == TW_NOT_RECORD, "READ takes it");
+                continue;
+            }
+            expect(call_read(&again, older) == TW_DONE, "READ is refused");
+            tw_card wanted = *card;
+            expect(call_reset(&wanted) == TW_DONE, "RESET is refused");
+            memset(wanted.slots + slots, 0, sizeof wanted.slots - slots * sizeof wanted.slots[0]);
+            if (!tapped) {
+                memset(&wanted.tap, 0, sizeof wanted.tap);
+            }
+            expect(memcmp(&again, &wanted, sizeof again) == 0, "READ's card");
+            expect(call_write(&again, TW_WRITE_ROOM_BYTES, &again_record) == TW_DONE, "WRITE is refused");
+            expect(again_record.count == TW_RECORD_MIN_BYTES + TW_KEY_BYTES + (tapped ? sizeof TAP : 0), "today's form");
+        }
+    }
 }
 
 /* SP 800-38A, F.2.5, CBC-AES256.Encrypt: its first block, as SEAL enciphers it. */
@@ -528,6 +627,8 @@ static void play(enum placing placing)
     keys();
     messages();
     second_client();
+    eight_slots();
+    older_records();
     about("the end of its life");
     expect(same(text_of(card->tap.bytes, card->tap.len), text_of(TAP, sizeof TAP)), "all else kept the tap record");
     published_vector();

@@ -43,7 +43,7 @@ pub fn ready_card(random: &mut Random, situation: Situation) -> Card {
     card
 }
 
-fn filled(random: &mut Random) -> Slot {
+pub fn filled(random: &mut Random) -> Slot {
     Slot {
         filled: YES,
         key: array(random),

@@ -1,6 +1,7 @@
 //! The proved library beside the plain model of the rules, over the C boundary: the rows to settle, sweeps, every way to keep or lose a
-//! verified PIN, every way to export a key, tap records, whole lives of cards, and the two runs of demand 3. The first difference ends the run with a status that is not 0, and so
-//! does a row of the tables that never occurred, or an answer that they do not have.
+//! verified PIN, every way to export a key, tap records, pairing slots, whole lives of cards, and the two runs of demand 3. The first
+//! difference ends the run with a status that is not 0, and so does a row of the tables that never occurred, or an answer that they do not
+//! have.
 
 mod both;
 mod directed;
@@ -15,6 +16,8 @@ mod records;
 mod requests;
 mod second_client;
 mod settled_rows;
+mod slot_fields;
+mod slots;
 mod standing;
 mod states;
 mod sweeps;
@@ -89,6 +92,8 @@ fn main() {
     exports::run(&mut both, options.seed);
     taps::run(&mut both, options.seed);
     tap_fields::run(&mut both, options.seed);
+    slots::run(&mut both, options.seed);
+    slot_fields::run(&mut both, options.seed);
     let mut lives = 0;
     while both.tally.calls() < options.calls / 100 * (100 - PAIRS_PERCENT) {
         lives::live(&mut both, options.seed, lives);

@@ -3,7 +3,7 @@
 
 use crate::exports::{EVERY_P1, EVERY_P2};
 use crate::paths::{place_of, Place, EVERY_PLACE};
-use crate::records::is_old;
+use crate::records::{form_of_record, SLOTS_NOW, SLOTS_THEN};
 use outside::ciphers::plain::BLOCK_BYTES;
 use outside::model::card::{is_path_length, Card, Session, AUTHENTICATED, EXTENDED_KEY, NO, OPENED, YES};
 use outside::model::commands::*;
@@ -41,36 +41,41 @@ pub const REFUSALS: [(Operation, &[u8]); 11] = [
     (Operation::Tap, &[NOT_REFUSED, NOT_A_RECORD]),
 ];
 
-/// A record that the tap read is lent, by what READ says of it.
+/// A record that the tap read is lent, by what READ says of it; after INIT with the number of slots that field 24 holds.
 #[derive(Clone, Copy, PartialEq, Eq, PartialOrd, Ord, Debug)]
 pub enum Recorded {
     /// READ refuses it.
     NotRecord,
     PreInitialised,
     /// It ends before field 34.
-    Old,
+    Untapped(usize),
     /// Its field 34 is empty.
-    NeverSet,
+    NeverSet(usize),
     /// Its field 34 has the card's own tap record.
-    Own,
+    Own(usize),
 }
 
-pub const EVERY_RECORDED: [Recorded; 5] = [
+pub const EVERY_RECORDED: [Recorded; 8] = [
     Recorded::NotRecord,
     Recorded::PreInitialised,
-    Recorded::Old,
-    Recorded::NeverSet,
-    Recorded::Own,
+    Recorded::Untapped(SLOTS_THEN),
+    Recorded::Untapped(SLOTS_NOW),
+    Recorded::NeverSet(SLOTS_THEN),
+    Recorded::NeverSet(SLOTS_NOW),
+    Recorded::Own(SLOTS_THEN),
+    Recorded::Own(SLOTS_NOW),
 ];
 
 pub fn recorded(record: &[u8]) -> Recorded {
     let (refusal, card) = read(record);
-    match refusal {
-        NOT_REFUSED if card.initialised == NO => Recorded::PreInitialised,
-        NOT_REFUSED if card.tap.used_bytes != 0 => Recorded::Own,
-        NOT_REFUSED if is_old(record) => Recorded::Old,
-        NOT_REFUSED => Recorded::NeverSet,
-        _ => Recorded::NotRecord,
+    if refusal != NOT_REFUSED {
+        return Recorded::NotRecord;
+    }
+    match form_of_record(record) {
+        None => Recorded::PreInitialised,
+        Some(form) if card.tap.used_bytes != 0 => Recorded::Own(form.slots),
+        Some(form) if form.tapped => Recorded::NeverSet(form.slots),
+        Some(form) => Recorded::Untapped(form.slots),
     }
 }
 
@@ -78,8 +83,8 @@ pub fn recorded(record: &[u8]) -> Recorded {
 pub fn tapped_of(recorded: Recorded) -> (u8, Source) {
     match recorded {
         Recorded::NotRecord => (NOT_A_RECORD, Source::None),
-        Recorded::PreInitialised | Recorded::Old | Recorded::NeverSet => (NOT_REFUSED, Source::Factory),
-        Recorded::Own => (NOT_REFUSED, Source::Record),
+        Recorded::PreInitialised | Recorded::Untapped(_) | Recorded::NeverSet(_) => (NOT_REFUSED, Source::Factory),
+        Recorded::Own(_) => (NOT_REFUSED, Source::Record),
     }
 }
 
@@ -274,6 +279,37 @@ pub fn export_words((_, p2, place): Exported) -> &'static [u16] {
 pub fn every_exported() -> Vec<Exported> {
     let parameters = EVERY_P1.iter().flat_map(|&p1| EVERY_P2.map(|p2| (p1, p2)));
     parameters.flat_map(|(p1, p2)| EVERY_PLACE.map(|place| (p1, p2, place))).collect()
+}
+
+/// A success that has to do with the slots of the card that got it, by the index or the count that the card gave or took.
+#[derive(Clone, Copy, PartialEq, Eq, PartialOrd, Ord, Debug)]
+pub enum Slotted {
+    /// PAIR filled the slot.
+    Paired(usize),
+    /// OPEN took the slot.
+    Opened(usize),
+    /// UNPAIR freed the slot.
+    Unpaired(usize),
+    /// SELECT told so many free slots.
+    Free(usize),
+}
+
+/// What of the slots a success of this command shows, by the card that it was given.
+pub fn slotted(card: &Card, command: &[u8]) -> Option<Slotted> {
+    let p1 = *command.get(2)?;
+    match name_of(command)? {
+        Name::Pair if p1 == 0x01 => card.first_free_slot().map(Slotted::Paired),
+        Name::Open => Some(Slotted::Opened(p1 as usize)),
+        Name::Unpair => Some(Slotted::Unpaired(p1 as usize)),
+        Name::Select if card.initialised == YES => Some(Slotted::Free(card.free_slots())),
+        _ => None,
+    }
+}
+
+/// Each index, 0 to 7, and each count, 0 to 8.
+pub fn every_slotted() -> Vec<Slotted> {
+    let indices = (0..SLOTS_NOW).flat_map(|index| [Slotted::Paired(index), Slotted::Opened(index), Slotted::Unpaired(index)]);
+    indices.chain((0..=SLOTS_NOW).map(Slotted::Free)).collect()
 }
 
 /// How a command is made, by its length and byte 4.

@@ -1,5 +1,5 @@
-//! Stored records for READ: of sound cards, of cards with one rule of soundness broken, with damaged fields or bytes, cut off, and random.
-//! Lengths are in bytes.
+//! Stored records for READ: of sound cards in every form, of cards with one rule of soundness broken, with damaged fields or bytes, cut off,
+//! and random. The forms are told here, apart from the model. Lengths are in bytes.
 
 use crate::states::{break_rule, sound_card, RULES};
 use outside::model::card::{Card, NO, PATH_BYTES, TAP_BYTES};
@@ -7,8 +7,29 @@ use outside::model::record::record_of;
 use outside::random::choice::{array, byte, chance, damaged, pick, some_bytes};
 use outside::random::Random;
 
-const HEAD_BYTES: usize = 3;
-const PINLESS_PATH: u8 = 0x33;
+pub const HEAD_BYTES: usize = 3;
+/// A slot in field 24: its flag and its key.
+pub const SLOT_BYTES: usize = 33;
+pub const PAIRING_SLOTS: u8 = 0x24;
+const TAP: u8 = 0x34;
+/// The slots of a card in field 24, and those of a card up to version 0.5.0.
+pub const SLOTS_NOW: usize = 8;
+pub const SLOTS_THEN: usize = 5;
+
+/// A form in which READ takes the record of an initialised card: how many slots field 24 holds, and whether field 34 is there.
+#[derive(Clone, Copy, PartialEq, Eq, PartialOrd, Ord, Debug)]
+pub struct RecordForm {
+    pub slots: usize,
+    pub tapped: bool,
+}
+
+/// The form that WRITE writes, and the three of before.
+pub const WRITTEN: RecordForm = form(SLOTS_NOW, true);
+pub const EVERY_RECORD_FORM: [RecordForm; 4] = [WRITTEN, form(SLOTS_NOW, false), form(SLOTS_THEN, true), form(SLOTS_THEN, false)];
+
+const fn form(slots: usize, tapped: bool) -> RecordForm {
+    RecordForm { slots, tapped }
+}
 
 /// A field: its tag, the length that its head tells, and its content.
 #[derive(Clone)]
@@ -18,37 +39,63 @@ struct Field {
     content: Vec<u8>,
 }
 
-/// The record of a card in the old form, which ends before field 34 and does not tell the card's tap record; before INIT there is one form.
-pub fn old_record_of(card: &Card) -> Vec<u8> {
-    let mut record = record_of(card);
-    if card.initialised != NO {
-        record.truncate(record.len() - HEAD_BYTES - card.tap.used_bytes as usize);
+impl Field {
+    fn has(&mut self, content: Vec<u8>) {
+        self.told_bytes = content.len() as u16;
+        self.content = content;
     }
-    record
 }
 
-/// Whether a record that READ takes is one of the old form: its last field is the PIN-less path.
-pub fn is_old(record: &[u8]) -> bool {
-    fields_of(record).last().is_some_and(|last| last.tag == PINLESS_PATH)
+/// The record of a card in this form. One of before has no place for the slots from the sixth on, or for a tap record, and does not tell
+/// them; before INIT there is one form.
+pub fn record_in(form: RecordForm, card: &Card) -> Vec<u8> {
+    let mut fields = fields_of(&record_of(card));
+    if card.initialised == NO {
+        return joined(&fields);
+    }
+    for slots in fields.iter_mut().filter(|field| field.tag == PAIRING_SLOTS) {
+        slots.has(slots.content[..form.slots * SLOT_BYTES].to_vec());
+    }
+    fields.retain(|field| form.tapped || field.tag != TAP);
+    joined(&fields)
 }
 
-/// Stored records in the old form and in the new one.
+/// The form of a record that READ takes; none before INIT.
+pub fn form_of_record(record: &[u8]) -> Option<RecordForm> {
+    let fields = fields_of(record);
+    let slots = fields.iter().find(|field| field.tag == PAIRING_SLOTS)?;
+    let tapped = fields.iter().any(|field| field.tag == TAP);
+    Some(form(slots.content.len() / SLOT_BYTES, tapped))
+}
+
+/// A record that READ takes, as WRITE writes it: zeros after the slots of before, up to 264 bytes, and an empty field 34 where none was.
+pub fn renewed(record: &[u8]) -> Vec<u8> {
+    let Some(form) = form_of_record(record) else {
+        return record.to_vec();
+    };
+    let mut fields = fields_of(record);
+    for slots in fields.iter_mut().filter(|field| field.tag == PAIRING_SLOTS) {
+        let zeros = vec![0; 264 - slots.content.len()];
+        slots.has([&slots.content[..], &zeros].concat());
+    }
+    let added: &[u8] = if form.tapped { &[] } else { &[TAP, 0x00, 0x00] };
+    [&joined(&fields), added].concat()
+}
+
+/// Stored records in the form that is written and in those of before.
 pub fn random_record(random: &mut Random, from: &Card) -> Vec<u8> {
     let card = match random.below(10) {
         0 => Card::fresh(array(random), array(random)),
         1..=4 => *from,
         _ => sound_card(random),
     };
-    let record = if chance(random, 30) {
-        old_record_of(&card)
-    } else {
-        record_of(&card)
-    };
+    let form = pick(random, &EVERY_RECORD_FORM);
+    let record = record_in(form, &card);
     match random.below(12) {
         0 | 1 => record,
         2 | 3 => damaged(random, &record),
         4 => record[..random.below(record.len() + 1)].to_vec(),
-        5 => some_bytes(random, 0, 760),
+        5 => some_bytes(random, 0, 860),
         6 | 7 => record_of_unsound(random, &card),
         _ => with_damaged_field(random, &record),
     }
@@ -90,7 +137,7 @@ fn joined(fields: &[Field]) -> Vec<u8> {
 }
 
 /// The record with each field but the last in the place of the next one, left out, and doubled. The last is doubled alone: without its
-/// field 34 a record is one of the old form.
+/// field 34 a record is one of before.
 pub fn moved_fields(record: &[u8]) -> Vec<Vec<u8>> {
     let fields = fields_of(record);
     let mut moved = Vec::new();
@@ -111,25 +158,48 @@ fn with_damaged_field(random: &mut Random, record: &[u8]) -> Vec<u8> {
     let mut fields = fields_of(record);
     let at = random.below(fields.len());
     let other = random.below(fields.len());
-    match random.below(8) {
+    match random.below(9) {
         0 => fields[at].tag = pick(random, &[0x10, 0x12, 0x13, 0x20, 0x24, 0x30, 0x33, 0x34, 0x35]),
         1 => fields.swap(at, other),
         2 => drop(fields.remove(at)),
         3 => fields.insert(other, fields[at].clone()),
         4 => {
             let bytes = pick(random, &[0, 1, 2, 4, 31, 32, 33, 39, 40, 41, 44, 222, 223, 224, 255, 256, 260, 288]);
-            fields[at].content = random.bytes(bytes);
-            fields[at].told_bytes = bytes as u16;
+            fields[at].has(random.bytes(bytes));
         }
-        5 => fields[at].told_bytes = fields[at].told_bytes.wrapping_add(pick(random, &[1, 4, 256, u16::MAX])),
+        5 => {
+            fields[at].told_bytes = fields[at]
+                .told_bytes
+                .wrapping_add(pick(random, &[1, 4, 99, 256, u16::MAX, u16::MAX - 98]))
+        }
         6 => fields[at]
             .content
             .iter_mut()
             .take(1)
             .for_each(|first| *first = first.wrapping_add(1)),
+        7 => change_slots(random, &mut fields),
         _ => change_content(random, &mut fields[at]),
     }
     joined(&fields)
+}
+
+/// Another number of whole slots in field 24, those that come free or filled, or some bytes fewer or more.
+fn change_slots(random: &mut Random, fields: &mut [Field]) {
+    for slots in fields.iter_mut().filter(|field| field.tag == PAIRING_SLOTS) {
+        let mut content = slots.content.clone();
+        while chance(random, 70) {
+            content.push(pick(random, &[0, 1]));
+            let is_filled = content.last() == Some(&1);
+            content.extend(if is_filled {
+                random.bytes(SLOT_BYTES - 1)
+            } else {
+                vec![0; SLOT_BYTES - 1]
+            });
+        }
+        let cut = pick(random, &[0, 0, 1, SLOT_BYTES, 3 * SLOT_BYTES]);
+        content.truncate(content.len() - cut);
+        slots.has(content);
+    }
 }
 
 /// A byte of the content becomes one that is mostly at the edge of what a field may hold.

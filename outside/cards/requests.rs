@@ -125,7 +125,7 @@ fn filled_slot(random: &mut Random, card: &Card) -> u8 {
     around.into_iter().find(|&index| card.slots[index].filled == YES).unwrap_or(start) as u8
 }
 
-fn point(random: &mut Random) -> Vec<u8> {
+pub fn point(random: &mut Random) -> Vec<u8> {
     let mut point = random.bytes(POINT_BYTES);
     point[0] = 0x04;
     point
@@ -147,7 +147,7 @@ fn init_data(random: &mut Random, key: &Key, content: &[u8]) -> Vec<u8> {
 pub fn wrong(random: &mut Random, card: &Card, name: Name, init_key: &Key) -> Request {
     let mut request = right(random, card, name, init_key);
     match random.below(8) {
-        0 => request.header[2] = pick(random, &[0, 1, 2, 3, 4, 5, 6, 0xff]),
+        0 => request.header[2] = pick(random, &[0, 1, 2, 3, 4, 5, 6, 7, 8, 9, 0xff]),
         1 => request.header[3] = byte(random),
         _ if name == Name::Export && chance(random, 40) => request.header[3] ^= 1,
         2 => request.data = some_bytes(random, 0, 70),

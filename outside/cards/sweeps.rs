@@ -2,9 +2,9 @@
 //! buffer, each length of a message, and all short templates of some bytes. Lengths are in bytes.
 
 use crate::both::{hex, Both};
-use crate::directed::ready_card;
+use crate::directed::{filled, ready_card};
 use crate::may_occur::{Room, Situation, EVERY_ROOM, EVERY_SITUATION};
-use crate::records::{is_old, moved_fields, old_record_of};
+use crate::records::{moved_fields, record_in, renewed, RecordForm, EVERY_RECORD_FORM, WRITTEN};
 use crate::states::{break_rule, random_session, tap_data, RULES};
 use crate::terminal::with_old_lr;
 use outside::ffi::treadlewisp::{card_bytes, card_of, session_bytes, CARD_BYTES};
@@ -39,11 +39,11 @@ pub fn run(both: &mut Both, seed: u64) {
         rooms_of_a_card(both, random, situation);
     }
     for card in cards_to_store(random) {
-        let old = old_record_of(&card);
-        records(both, random, &record_of(&card), &old);
+        let forms = EVERY_RECORD_FORM.into_iter();
+        for form in forms.filter(|&form| card.initialised == YES || form == WRITTEN) {
+            records(both, random, &card, form);
+        }
     }
-    let old = old_record_of(&ready_card(random, Situation::Closed));
-    records(both, random, &old, &old);
     messages(both, random);
     for _ in 0..OLD_LR_SESSIONS {
         old_responses(both, random);
@@ -131,13 +131,15 @@ fn rooms_of_a_session(both: &mut Both, random: &mut Random) {
     }
 }
 
-/// A card before INIT, one with an extended key and the longest paths and tap record, and one with no key, a PIN-less path and no tap record.
+/// A card before INIT, one with an extended key, the longest paths and tap record and all slots filled, and one with no key, a PIN-less path,
+/// no tap record and one slot filled.
 fn cards_to_store(random: &mut Random) -> [Card; 3] {
     let fresh = ready_card(random, Situation::PreInitialised);
     let mut longest = ready_card(random, Situation::Authenticated);
     longest.current_path = Path::of(&random.bytes(PATH_BYTES));
     longest.pinless_path = Path::of(&random.bytes(PATH_BYTES));
     longest.tap = TapRecord::of(&tap_data(random, TAP_BYTES));
+    longest.slots = longest.slots.map(|_| filled(random));
     let mut keyless = ready_card(random, Situation::Closed);
     (keyless.key_kind, keyless.key_uid) = (NO_KEY, [0; KEY_UID_BYTES]);
     keyless.current_path = Path::of(&[]);
@@ -145,14 +147,17 @@ fn cards_to_store(random: &mut Random) -> [Card; 3] {
     [fresh, longest, keyless]
 }
 
-/// A card's record cut at each length, with each byte replaced, with bytes after it, and with its fields moved about. Cut to the one of the
-/// old form it is a record.
-fn records(both: &mut Both, random: &mut Random, record: &[u8], old: &[u8]) {
+/// A card's record in this form, cut at each length, with each byte replaced, with bytes after it, and with its fields moved about. Cut before
+/// field 34 it is a record of another form. Bytes at the edge are tried in the form that is written.
+fn records(both: &mut Both, random: &mut Random, card: &Card, form: RecordForm) {
+    let record = &record_in(form, card)[..];
+    let untapped = record_in(RecordForm { tapped: false, ..form }, card);
+    let edges: &[u8] = if form == WRITTEN { &EDGES } else { &[] };
     let mut is_right = is_taken(both, random, record);
     for at in 0..record.len() {
-        is_right &= is_taken(both, random, &record[..at]) == (record[..at] == *old);
+        is_right &= is_taken(both, random, &record[..at]) == (record[..at] == untapped);
         let flipped = record[at] ^ 1 << random.below(8);
-        for byte in EDGES.into_iter().chain([flipped]) {
+        for byte in edges.iter().copied().chain([flipped]) {
             let mut replaced = record.to_vec();
             replaced[at] = byte;
             is_taken(both, random, &replaced);
@@ -172,7 +177,8 @@ fn records(both: &mut Both, random: &mut Random, record: &[u8], old: &[u8]) {
     }
 }
 
-/// Whether READ takes a record; the tap read refuses exactly what READ refuses, and WRITE of the card that it gives has to write it again, one of the old form with an empty field 34 after it.
+/// Whether READ takes a record; the tap read refuses exactly what READ refuses, and WRITE of the card that it gives has to write it again, in
+/// the form that is written.
 fn is_taken(both: &mut Both, random: &mut Random, record: &[u8]) -> bool {
     let (refusal, card) = both.read(record);
     let tapped = both.tap(record, &FACTORY);
@@ -185,8 +191,7 @@ fn is_taken(both: &mut Both, random: &mut Random, record: &[u8]) -> bool {
     }
     let mut buffer = random.bytes(WRITE_ROOM_BYTES);
     let told = both.write(&card, &mut buffer);
-    let added: &[u8] = if is_old(record) { &[0x34, 0x00, 0x00] } else { &[] };
-    if buffer[..told.count] != [record, added].concat() {
+    if buffer[..told.count] != renewed(record) {
         println!("THE SWEEP read the record {} and wrote {}", hex(record), hex(&buffer[..told.count]));
         std::process::exit(1);
     }

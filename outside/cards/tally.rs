@@ -41,6 +41,8 @@ pub struct Tally {
     exports: BTreeMap<(Exported, u16), usize>,
     /// What the tap read gave, by the record that it was lent.
     taps: BTreeMap<(Recorded, (u8, Source)), usize>,
+    /// Successes that have to do with the slots.
+    slots: BTreeMap<Slotted, usize>,
     /// Supplies by the kind that was read.
     supplies: BTreeMap<(u8, Supplied), usize>,
 }
@@ -101,6 +103,10 @@ impl Tally {
         if let Some(exported) = exported(card, command) {
             *self.exports.entry((exported, status)).or_default() += 1;
         }
+        let slotted = slotted(card, command).filter(|_| status == SUCCESS);
+        if let Some(slotted) = slotted {
+            *self.slots.entry(slotted).or_default() += 1;
+        }
         if let Some(comparison) = answered.comparison {
             *self.comparisons.entry(comparison).or_default() += 1;
         }
@@ -154,6 +160,7 @@ impl Tally {
                 export_words(exported).iter().map(|&status| (exported, status)),
             ));
         }
+        missing.extend(lacking("slots", &self.slots, every_slotted()));
         missing.extend(lacking(
             "tap read",
             &self.taps,
@@ -169,7 +176,7 @@ impl Tally {
         missing
     }
 
-    /// Answers, passages, kinds and opened responses that the tables do not have.
+    /// Answers, passages, kinds, opened responses and slots that the tables do not have.
     pub fn too_many(&self) -> Vec<String> {
         let rows = every_row();
         let answers = self
@@ -195,6 +202,9 @@ impl Tally {
         let exported = exported.map(|row| format!("export {row:x?}"));
         let tapped = self.taps.keys().filter(|(recorded, tapped)| tapped_of(*recorded) != *tapped);
         let tapped = tapped.map(|row| format!("tap read {row:?}"));
+        let can_slot = every_slotted();
+        let slots = self.slots.keys().filter(|row| !can_slot.contains(row));
+        let slots = slots.map(|row| format!("slots {row:?}"));
         answers
             .chain(verified)
             .chain(passed)
@@ -202,6 +212,7 @@ impl Tally {
             .chain(opened)
             .chain(exported)
             .chain(tapped)
+            .chain(slots)
             .collect()
     }
 
@@ -255,6 +266,7 @@ impl Tally {
         for recorded in EVERY_RECORDED {
             print_part(&self.taps, recorded);
         }
+        println!("slots: {}", listed(shown(&self.slots)));
         println!("EXPORT past its data, by P1, P2 and the place of the path:");
         for exported in every_exported() {
             let of_it = self.exports.iter().filter(|((e, _), _)| *e == exported);

@@ -1,27 +1,25 @@
-//! Field 34 of the stored record, in both forms, and the tap read: every length, every damaged byte, every cut, bytes behind it, and any
-//! factory record. What is wanted is told here, apart from the model. Lengths are in bytes.
+//! Field 34 of the stored record, there and missing, and the tap read: every length, every damaged byte, every cut, bytes behind it, and any
+//! factory record. Field 24 has either number of slots. What is wanted is told here, apart from the model. Lengths are in bytes.
 
 use crate::both::{hex, Both};
 use crate::directed::ready_card;
 use crate::may_occur::Situation;
-use crate::records::old_record_of;
+use crate::records::{record_in, renewed, RecordForm, HEAD_BYTES, SLOTS_NOW, SLOTS_THEN};
 use crate::states::{random_tap_data, sound_card, tap_data};
 use crate::taps::{fail, without_key};
 use outside::model::card::*;
 use outside::model::engine::*;
 use outside::model::record::record_of;
 use outside::model::status::*;
-use outside::random::choice::{array, byte, some_bytes};
+use outside::random::choice::{array, byte, pick, some_bytes};
 use outside::random::Random;
 
 const FIELD: u8 = 0x34;
-/// The tag and the two bytes of the length.
-const HEAD_BYTES: usize = 3;
 /// The lengths of field 34 that are tried: all up to some more than a length of one byte can tell.
 const FIELD_BYTES: usize = 300;
-/// The new form of an initialised record: the least, and the most, which is WRITE's room.
-const LEAST_RECORD_BYTES: usize = 339;
-const MOST_RECORD_BYTES: usize = 674;
+/// What WRITE writes of an initialised card: the least, and the most, which is its room.
+const LEAST_RECORD_BYTES: usize = 438;
+const MOST_RECORD_BYTES: usize = 773;
 
 pub fn run(both: &mut Both, seed: u64) {
     both.walk = "the fields of tap records".to_string();
@@ -66,7 +64,7 @@ pub fn gives_factory(both: &mut Both, random: &mut Random, record: &[u8]) {
     }
 }
 
-/// READ takes these bytes, the card has this tap record, WRITE writes the new form, and the tap read finds its content where it lies.
+/// READ takes these bytes, the card has this tap record, WRITE writes the form of today, and the tap read finds its content where it lies.
 fn is_taken(both: &mut Both, random: &mut Random, old: &[u8], after: &[u8], content: &[u8]) {
     let record = [old, after].concat();
     let (refusal, card) = both.read(&record);
@@ -77,8 +75,8 @@ fn is_taken(both: &mut Both, random: &mut Random, old: &[u8], after: &[u8], cont
         );
     }
     let rewritten = written(both, random, &card);
-    if rewritten != [old, &field(content)].concat() {
-        fail("WRITE did not write the new form", &rewritten);
+    if rewritten != renewed(&[old, &field(content)].concat()) {
+        fail("WRITE did not write the form of today", &rewritten);
     }
     for record in [record, rewritten] {
         if content.is_empty() {
@@ -86,7 +84,7 @@ fn is_taken(both: &mut Both, random: &mut Random, old: &[u8], after: &[u8], cont
             continue;
         }
         let tapped = both.tap(&record, &some_bytes(random, 0, 300));
-        let place = (NOT_REFUSED, Source::Record, old.len() + HEAD_BYTES, content.len());
+        let place = (NOT_REFUSED, Source::Record, record.len() - content.len(), content.len());
         if (tapped.refusal, tapped.source, tapped.offset, tapped.length) != place {
             fail(&format!("{tapped:?} instead of {place:?}"), &record);
         }
@@ -108,16 +106,21 @@ fn is_no_record(both: &mut Both, random: &mut Random, record: &[u8]) {
     }
 }
 
-/// The record of an initialised card as far as field 33, which is one of the old form.
+/// The record of an initialised card as far as field 33, which is a form of before.
+fn old_record_of(random: &mut Random, card: &Card) -> Vec<u8> {
+    let slots = pick(random, &[SLOTS_NOW, SLOTS_THEN]);
+    record_in(RecordForm { slots, tapped: false }, card)
+}
+
 fn old_record(random: &mut Random) -> Vec<u8> {
     let mut card = sound_card(random);
     if random.below(3) == 0 {
         without_key(&mut card);
     }
-    old_record_of(&card)
+    old_record_of(random, &card)
 }
 
-/// The old form and each length of the new one; the least and the most that WRITE writes.
+/// Records without field 34, and with it each length of it; the least and the most that WRITE writes.
 fn lengths(both: &mut Both, random: &mut Random) {
     for bytes in 2..=TAP_BYTES {
         let old = old_record(random);
@@ -184,7 +187,7 @@ fn fields(both: &mut Both, random: &mut Random) {
 }
 
 /// Each byte of field 34 with each other value: the head and the count are as they have to be, the rest may be anything. And the field cut
-/// at each place: to nothing it is the old form, and else no record.
+/// at each place: to nothing it is a record without it, and else no record.
 fn damaged_bytes(both: &mut Both, random: &mut Random) {
     for bytes in [0, 3] {
         let old = old_record(random);
@@ -247,7 +250,7 @@ fn ends(both: &mut Both, random: &mut Random) {
     }
     let mut card = ready_card(random, Situation::Authenticated);
     card.pinless_path = Path::EMPTY;
-    let old = old_record_of(&card);
+    let old = old_record_of(random, &card);
     let (before, pinless) = old.split_at(old.len() - HEAD_BYTES);
     for own in [field(&[]), field(&content)] {
         is_no_record(both, random, &[before, &own, pinless].concat());

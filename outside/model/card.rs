@@ -16,7 +16,9 @@ pub const PATH_BYTES: usize = 40;
 pub const TAP_BYTES: usize = 223;
 pub const TAP_COUNT_BYTES: usize = 2;
 
-pub const SLOTS: usize = 5;
+/// How many pairing slots a card has, and how many it had up to version 0.5.0: stored records of both kinds are read.
+pub const SLOTS: usize = 8;
+pub const SLOTS_BEFORE: usize = 5;
 pub const PIN_TRIES: u8 = 3;
 pub const PUK_TRIES: u8 = 5;
 

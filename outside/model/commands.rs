@@ -265,7 +265,18 @@ pub fn require_p1_p2(apdu: &Apdu, listed_p1: &[u8], listed_p2: &[u8]) -> Result<
     require(right, WRONG_P1_P2)
 }
 
-pub const SLOT_INDICES: [u8; SLOTS] = [0, 1, 2, 3, 4];
+/// The index of each slot: they count from 0.
+pub const SLOT_INDICES: [u8; SLOTS] = slot_indices();
+
+const fn slot_indices() -> [u8; SLOTS] {
+    let mut indices = [0; SLOTS];
+    let mut index = 0;
+    while index < SLOTS {
+        indices[index] = index as u8;
+        index += 1;
+    }
+    indices
+}
 
 fn select(card: &mut Card, apdu: &Apdu) -> Outcome {
     require_p1(apdu, &[0x04])?;

@@ -12,7 +12,7 @@ pub const ASK_ROOM_BYTES: usize = 255;
 pub const ANSWER_ROOM_BYTES: usize = 258;
 pub const SEAL_ROOM_BYTES: usize = 261;
 pub const UNSEAL_ROOM_BYTES: usize = 223;
-pub const WRITE_ROOM_BYTES: usize = 674;
+pub const WRITE_ROOM_BYTES: usize = 773;
 
 #[derive(Clone, Copy, PartialEq, Eq, Debug)]
 pub struct Asked {

@@ -3,8 +3,9 @@
 
 use super::card::*;
 use super::cipher::{BLOCK_BYTES, KEY_BYTES};
+use std::mem::size_of;
 
-pub const CARD_BYTES: usize = 753;
+pub const CARD_BYTES: usize = size_of::<Card>();
 pub const SESSION_BYTES: usize = 2 * KEY_BYTES + BLOCK_BYTES;
 
 pub fn card_bytes(card: &Card) -> Vec<u8> {
@@ -49,7 +50,7 @@ fn next_byte(left: &mut &[u8]) -> u8 {
     next::<1>(left)[0]
 }
 
-/// The card of these 753 bytes, sound or not.
+/// The card of these bytes, sound or not.
 pub fn card_of(bytes: &[u8]) -> Card {
     let mut left = bytes;
     let initialised = next_byte(&mut left);

@@ -1,7 +1,7 @@
 //! The stored record (RULES 10): what WRITE writes and READ takes. A field is a tag, a length of two bytes, high byte first, and its
 //! content; lengths are in bytes.
 
-use super::card::{is_tap_record, Card, Path, Slot, TapRecord, EXTENDED_KEY, KEY_UID_BYTES, NO_KEY, PATH_BYTES, SLOTS, YES};
+use super::card::{is_tap_record, Card, Path, Slot, TapRecord, EXTENDED_KEY, KEY_UID_BYTES, NO_KEY, PATH_BYTES, SLOTS, SLOTS_BEFORE, YES};
 use super::cipher::KEY_BYTES;
 use std::ops::Range;
 
@@ -77,13 +77,7 @@ fn take_initialised(left: &mut &[u8], card: &mut Card) -> Option<()> {
     card.puk = take_array(left, PUK)?;
     card.pairing_secret = take_array(left, PAIRING_SECRET)?;
     [card.pin_tries, card.puk_tries] = take_array(left, TRIES)?;
-    let slots: [u8; SLOTS * SLOT_BYTES] = take_array(left, PAIRING_SLOTS)?;
-    for (slot, bytes) in card.slots.iter_mut().zip(slots.chunks_exact(SLOT_BYTES)) {
-        *slot = Slot {
-            filled: bytes[0],
-            key: bytes[1..].try_into().ok()?,
-        };
-    }
+    card.slots = take_slots(left)?;
     [card.key_kind] = take_array(left, KEY_KIND)?;
     card.key_uid = match card.key_kind {
         NO_KEY => take_array::<0>(left, KEY_UID).map(|_| [0; KEY_UID_BYTES])?,
@@ -95,12 +89,28 @@ fn take_initialised(left: &mut &[u8], card: &mut Card) -> Option<()> {
     (card.key_kind <= EXTENDED_KEY).then_some(())
 }
 
+/// Field 24: a card's slots, or those of a card of before, which had fewer; the others are then free.
+fn take_slots(left: &mut &[u8]) -> Option<[Slot; SLOTS]> {
+    let content = take(left, PAIRING_SLOTS)?;
+    if ![SLOTS * SLOT_BYTES, SLOTS_BEFORE * SLOT_BYTES].contains(&content.len()) {
+        return None;
+    }
+    let mut slots = [Slot::FREE; SLOTS];
+    for (slot, bytes) in slots.iter_mut().zip(content.chunks_exact(SLOT_BYTES)) {
+        *slot = Slot {
+            filled: bytes[0],
+            key: bytes[1..].try_into().ok()?,
+        };
+    }
+    Some(slots)
+}
+
 fn take_path(left: &mut &[u8], tag: u8) -> Option<Path> {
     let content = take(left, tag)?;
     (content.len() <= PATH_BYTES).then(|| Path::of(content))
 }
 
-/// Field 34: empty, or what SET NDEF takes. An old record ends before it.
+/// Field 34: empty, or what SET NDEF takes. A record of before may end without it, with either number of slots.
 fn take_tap(left: &mut &[u8]) -> Option<TapRecord> {
     if left.is_empty() {
         return Some(TapRecord::NONE);

@@ -8,7 +8,7 @@ use outside::model::engine::{self, Asked, Source, Tapped, Told};
 use outside::model::message::HEADER_BYTES;
 
 pub trait Engine {
-    /// The card as its 753 bytes, and the session as its 80 bytes.
+    /// The card as its 852 bytes, and the session as its 80 bytes.
     fn card(&self) -> Vec<u8>;
     fn put_card(&mut self, card: &[u8]);
     fn session(&self) -> Vec<u8>;

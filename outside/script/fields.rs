@@ -8,7 +8,7 @@ use std::ops::Range;
 const SESSION_FIELDS: [(&str, usize); 3] = [("enc_key", KEY_BYTES), ("mac_key", KEY_BYTES), ("iv", BLOCK_BYTES)];
 
 /// Every field's name and size.
-const CARD_FIELDS: [(&str, usize); 33] = [
+const CARD_FIELDS: [(&str, usize); 39] = [
     ("initialised", 1),
     ("uid", UID_BYTES),
     ("public_key", POINT_BYTES),
@@ -28,6 +28,12 @@ const CARD_FIELDS: [(&str, usize); 33] = [
     ("slot3.key", KEY_BYTES),
     ("slot4.filled", 1),
     ("slot4.key", KEY_BYTES),
+    ("slot5.filled", 1),
+    ("slot5.key", KEY_BYTES),
+    ("slot6.filled", 1),
+    ("slot6.key", KEY_BYTES),
+    ("slot7.filled", 1),
+    ("slot7.key", KEY_BYTES),
     ("pending", 1),
     ("expected", CRYPTOGRAM_BYTES),
     ("key_kind", 1),

@@ -13,11 +13,11 @@ fn bytes(word: &str) -> Result<Vec<u8>, Fault> {
 }
 
 fn reason(line: &str) -> String {
-    call_of(line.as_bytes(), &[7; 674]).expect_err(line)
+    call_of(line.as_bytes(), &[7; 773]).expect_err(line)
 }
 
 fn call(line: &str) -> Call {
-    call_of(line.as_bytes(), &[7; 674]).expect(line)
+    call_of(line.as_bytes(), &[7; 773]).expect(line)
 }
 
 /// All that is written for a script, on the model and the same on the library.
@@ -32,7 +32,7 @@ fn played(script: &str) -> String {
 }
 
 const CARD_OF_ZEROS: &str =
-    "  card: initialised 0, stage 0, verified 0, PIN tries 0, PUK tries 0, slots 0 0 0 0 0, pending 0, key kind 0, \
+    "  card: initialised 0, stage 0, verified 0, PIN tries 0, PUK tries 0, slots 0 0 0 0 0 0 0 0, pending 0, key kind 0, \
                              current path 0 bytes, PIN-less path 0 bytes, tap record 0 bytes\n";
 
 #[test]
@@ -120,7 +120,7 @@ fn a_word_means_at_most_1024_bytes() {
     assert_eq!(bytes(&"00".repeat(1025)), Err(Fault::TooMany));
     assert_eq!(bytes("00*1024.00*0"), Ok(vec![0; 1024]));
     assert_eq!(bytes("00*1024.00"), Err(Fault::TooMany));
-    assert_eq!(bytes_of(b"last.last", &[7; 674]), Err(Fault::TooMany));
+    assert_eq!(bytes_of(b"last.last", &[7; 773]), Err(Fault::TooMany));
 }
 
 #[test]
@@ -221,15 +221,15 @@ fn arguments_of_wrong_length() {
         ("send 00 zz zz", "HEADER has 4 bytes, not 1 byte"),
         ("session 00*31 zz zz", "ENC has 32 bytes, not 31 bytes"),
         ("session 00*32 00*33 zz", "MAC has 32 bytes, not 33 bytes"),
-        ("session 00*32 00*32 last", "IV has 16 bytes, not 674 bytes"),
+        ("session 00*32 00*32 last", "IV has 16 bytes, not 773 bytes"),
         ("set pin 00*7", "pin has 6 bytes, not 7 bytes"),
         ("set stage 0000", "stage has 1 byte, not 2 bytes"),
         ("set tap.len 0000", "tap.len has 1 byte, not 2 bytes"),
         ("set tap.bytes 00*222", "tap.bytes has 223 bytes, not 222 bytes"),
         ("set tap 00", "the card has no such field"),
-        ("set slot4.key -", "slot4.key has 32 bytes, not 0 bytes"),
+        ("set slot7.key -", "slot7.key has 32 bytes, not 0 bytes"),
         ("set nothing zz", "the card has no such field"),
-        ("set slot5.key 00*32", "the card has no such field"),
+        ("set slot8.key 00*32", "the card has no such field"),
         ("set PIN 00*6", "the card has no such field"),
     ];
     for (line, wanted) in lines {
@@ -243,7 +243,7 @@ fn rooms() {
     assert_eq!(call("answer - -"), Call::Answer(vec![], vec![], 258));
     assert_eq!(call("seal 00*4 -"), Call::Seal([0; 4], vec![], 261));
     assert_eq!(call("unseal -"), Call::Unseal(vec![], 223));
-    assert_eq!(call("write"), Call::Write(674));
+    assert_eq!(call("write"), Call::Write(773));
     assert_eq!(call("ask 01 room 0"), Call::Ask(vec![1], 0));
     assert_eq!(call("answer 01 02 room 1024"), Call::Answer(vec![1], vec![2], 1024));
     assert_eq!(call("seal 00*4 01 room 0261"), Call::Seal([0; 4], vec![1], 261));
@@ -278,11 +278,12 @@ fn the_fields_fill_the_records() {
     for (name, start) in [
         ("pin", 82),
         ("slot1.filled", 168),
-        ("pending", 300),
-        ("pinless.len", 407),
-        ("iv", 513),
-        ("tap.len", 529),
-        ("tap.bytes", 530),
+        ("slot7.key", 367),
+        ("pending", 399),
+        ("pinless.len", 506),
+        ("iv", 612),
+        ("tap.len", 628),
+        ("tap.bytes", 629),
     ] {
         assert_eq!(place(name), Some(start), "{name}");
     }
@@ -300,12 +301,12 @@ fn every_line_is_written_again() {
 #[test]
 fn the_last_bytes_are_those_that_were_written() {
     let script =
-        "walk last\nwrite\nwrite room 673\nread last\nask 80F20000\nwalk last\nanswer - -\nsound\nread 80.last\nwalk last\nwalk 80.last\n";
+        "walk last\nwrite\nwrite room 772\nread last\nask 80F20000\nwalk last\nanswer - -\nsound\nread 80.last\nwalk last\nwalk 80.last\n";
     let record = ["10000100110010", &"00".repeat(16), "120041", &"00".repeat(65)].concat();
     let wanted = [
         "> walk last\nwalk: 0 fields\n> write\nwrite: 91 bytes: ",
         &record,
-        "\n> write room 673\nwrite: refusal 2, the buffer has fewer than 674 bytes\n> read last\nread: done\n",
+        "\n> write room 772\nwrite: refusal 2, the buffer has fewer than 773 bytes\n> read last\nread: done\n",
         CARD_OF_ZEROS,
         "> ask 80F20000\nask: kind 0, no supply is read\n> walk last\nwalk: refusal 4, malformed\n",
         "> answer - -\nanswer: 2 bytes: 6700\n  status word 6700, wrong length\n",
@@ -319,8 +320,16 @@ fn the_last_bytes_are_those_that_were_written() {
 
 #[test]
 fn a_tap_read_shows_the_part_and_changes_nothing() {
-    let record =
-        "10000101.110010.A0+16.120041.04+65.200006.31+6.21000C.30*12.220020.70+32.2300020305.2400A5.00*165.30000100.310000.320000.330000";
+    for (slots, offset_bytes) in [("2400A5.00*165", 339), ("240108.00*264", 438)] {
+        let record = format!(
+            "10000101.110010.A0+16.120041.04+65.200006.31+6.21000C.30*12.220020.70+32.2300020305.{slots}.30000100.310000.320000.330000"
+        );
+        tap_reads(&record, offset_bytes);
+    }
+}
+
+/// The tap reads of a record that ends before field 34, and of it with such a field, whose content is at this offset.
+fn tap_reads(record: &str, offset_bytes: usize) {
     let script = format!(
         "tap - -\ntap 00 0102\ntap {record} 0102\ntap {record}.340000 -\ntap {record}.3400020000 0102\ntap {record}.340003000155 0102\n\
          tap {record}.340003000255 0102\nwalk last\nwrite\ntap last AB\nread last\n"
@@ -334,8 +343,8 @@ fn a_tap_read_shows_the_part_and_changes_nothing() {
         refused,
         "tap: factory, offset 0, 2 bytes: 0102",
         "tap: factory, offset 0, 0 bytes",
-        "tap: record, offset 339, 2 bytes: 0000",
-        "tap: record, offset 339, 3 bytes: 000155",
+        &format!("tap: record, offset {offset_bytes}, 2 bytes: 0000"),
+        &format!("tap: record, offset {offset_bytes}, 3 bytes: 000155"),
         refused,
         "walk: 0 fields",
         &fresh,

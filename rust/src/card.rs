@@ -1,13 +1,13 @@
 //! The card: its record, what can be read of it, and the operations on it.
 
-use std::fmt;
-use std::mem::{align_of, offset_of, size_of};
+use core::fmt;
+use core::mem::{align_of, offset_of, size_of};
 
 use crate::ffi;
 use crate::lengths::*;
 use crate::parts::{KeyKind, Path, Slot, Stage, TapRecord};
 use crate::refusal::Refusal;
-use crate::secrets::{wiped, Record};
+use crate::secrets::{wipe, wiped, Record};
 use crate::supply::SupplyKind;
 
 /// A card's whole state: the record of [`CARD_BYTES`] bytes that the library takes, byte for byte as `include/treadlewisp.h` has it.
@@ -41,6 +41,7 @@ pub struct Card {
 
 /// Where a field lies in a card's bytes.
 #[derive(Clone, Copy, PartialEq, Eq, Debug)]
+#[non_exhaustive]
 pub struct CardField {
     /// Its name in `include/treadlewisp.h`.
     pub name: &'static str,
@@ -105,8 +106,12 @@ const _: () = {
     assert!(end == CARD_BYTES);
 };
 
+/// What every byte of a card is that has ended; no flag of a sound card is this.
+const ENDED: u8 = 0xFF;
+
 /// What ASK reports.
 #[derive(Clone, Copy, PartialEq, Eq, Debug)]
+#[non_exhaustive]
 pub struct Asked {
     /// The supply that ANSWER will read for the command.
     pub kind: SupplyKind,
@@ -123,6 +128,7 @@ impl Card {
     /// let card = Card::fresh(&[0x11; 16], &[0x04; 65]);
     /// assert!(card.is_sound() && !card.is_initialised());
     /// ```
+    #[must_use]
     pub fn fresh(uid: &[u8; UID_BYTES], public_key: &[u8; PUBLIC_KEY_BYTES]) -> Card {
         wiped(|| {
             let mut card = Card::zero();
@@ -132,23 +138,28 @@ impl Card {
     }
 
     /// Whether the card is sound.
+    #[must_use]
     pub fn is_sound(&self) -> bool {
         wiped(|| ffi::sound(self))
     }
 
     /// RESET: power-up. Channel, verification and a pending pairing are gone, all else is kept.
     ///
-    /// Refused with [`Refusal::Unsound`]; the card is then as it was. Resetting twice is resetting once: a second call gives what the first
-    /// gave and changes no byte.
+    /// Resetting twice is resetting once: a second call gives what the first gave and changes no byte.
+    ///
+    /// # Errors
+    ///
+    /// [`Refusal::Unsound`]; the card is then as it was.
     pub fn reset(&mut self) -> Result<(), Refusal> {
         wiped(|| ffi::reset(self))
     }
 
     /// ASK: which supply [`answer`](Card::answer) will read for this command, with the command's opened data from the buffer's start. The
-    /// host works out the supply from them.
+    /// host works out the supply from them. Bytes past the count are never touched.
     ///
-    /// Refused with [`Refusal::Unsound`], or [`Refusal::Room`] where the buffer is under [`ASK_ROOM_BYTES`]; the buffer is then as it was.
-    /// Bytes past the count are never touched.
+    /// # Errors
+    ///
+    /// [`Refusal::Unsound`], or [`Refusal::Room`] where the buffer is under [`ASK_ROOM_BYTES`]; the buffer is then as it was.
     pub fn ask(&self, command: &[u8], buffer: &mut [u8]) -> Result<Asked, Refusal> {
         wiped(|| ffi::ask(self, command, buffer))
     }
@@ -156,9 +167,13 @@ impl Card {
     /// ANSWER: response data and status word from the buffer's start, and their count in bytes; the card becomes the next card. A sealed
     /// response is MAC, ciphertext and 9000; Lr, in its MAC, counts MAC and ciphertext, in bytes.
     ///
-    /// The supply is read only where [`ask`](Card::ask) names a kind; else it may be empty. Refused with [`Refusal::Unsound`],
-    /// [`Refusal::Room`] where the buffer is under [`ANSWER_ROOM_BYTES`], or [`Refusal::BadSupply`]; card and buffer are then as they were.
-    /// Bytes past the count are never touched.
+    /// The supply is read only where [`ask`](Card::ask) names a kind; else it may be empty. Bytes past the count are never touched.
+    /// [`serve`](Card::serve) does ASK, ANSWER and WRITE in their order.
+    ///
+    /// # Errors
+    ///
+    /// [`Refusal::Unsound`], [`Refusal::Room`] where the buffer is under [`ANSWER_ROOM_BYTES`], or [`Refusal::BadSupply`]; card and buffer are
+    /// then as they were.
     ///
     /// ```
     /// use treadlewisp::{Card, Refusal, StatusWord, ANSWER_ROOM_BYTES};
@@ -175,18 +190,22 @@ impl Card {
     }
 
     /// WRITE: the card's stored record from the buffer's start, and its length in bytes. It holds what [`reset`](Card::reset) keeps, and
-    /// after INIT the field of the tap record, also where that is empty.
+    /// after INIT all [`SLOTS`] slots and the field of the tap record, also where that is empty. Bytes past the count are never touched.
     ///
-    /// Refused with [`Refusal::Unsound`], or [`Refusal::Room`] where the buffer is under [`WRITE_ROOM_BYTES`]; the buffer is then as it
-    /// was. Bytes past the count are never touched.
+    /// # Errors
+    ///
+    /// [`Refusal::Unsound`], or [`Refusal::Room`] where the buffer is under [`WRITE_ROOM_BYTES`]; the buffer is then as it was.
     pub fn write(&self, buffer: &mut [u8]) -> Result<usize, Refusal> {
         wiped(|| ffi::write(self, buffer))
     }
 
-    /// READ: the card of a stored record, sound and reset. An old record, which versions up to 0.4.0 wrote without the field of the tap
-    /// record, is that of a card with none; [`write`](Card::write) then writes it with the field.
+    /// READ: the card of a stored record, sound and reset. Older records are taken too. One with the [`SLOTS_BEFORE`] slots that versions up to
+    /// 0.5.0 wrote is that of a card whose other slots are free; one without the field of the tap record, as versions up to 0.4.0 wrote it, is
+    /// that of a card with none. [`write`](Card::write) then writes it with all slots and with the field.
     ///
-    /// Refused with [`Refusal::NotRecord`]; there is then no card. (In C the record that is lent becomes FRESH of zeros.)
+    /// # Errors
+    ///
+    /// [`Refusal::NotRecord`]; there is then no card. (In C the record that is lent becomes FRESH of zeros.)
     ///
     /// ```
     /// use treadlewisp::{Card, Refusal};
@@ -212,13 +231,23 @@ impl Card {
     /// assert_eq!(card.reset(), Err(Refusal::Unsound));
     /// assert_eq!(card.to_bytes(), [0xFF; CARD_BYTES]);
     /// ```
+    #[must_use]
     pub fn from_bytes(bytes: &[u8; CARD_BYTES]) -> Card {
         wiped(|| Card::of(bytes))
     }
 
     /// The card's bytes, PIN, PUK and keys among them. They are the caller's to [`wipe`](crate::wipe).
+    #[must_use]
     pub fn to_bytes(&self) -> [u8; CARD_BYTES] {
         wiped(|| *self.bytes())
+    }
+
+    /// Ends the card: it is overwritten, and is not sound any more. (A card of zeros would be sound, as one before INIT.)
+    pub(crate) fn end(&mut self) {
+        wiped(|| {
+            wipe(self.bytes_mut());
+            self.bytes_mut().fill(ENDED);
+        });
     }
 
     /// A record of zeros, for an operation to write over.
@@ -230,76 +259,91 @@ impl Card {
 /// What can be read of a card. A flag reads as set where its byte is 01.
 impl Card {
     /// Whether INIT was done.
+    #[must_use]
     pub fn is_initialised(&self) -> bool {
         self.initialised == 1
     }
 
     /// The card's UID.
+    #[must_use]
     pub fn uid(&self) -> &[u8; UID_BYTES] {
         &self.uid
     }
 
     /// The card's public key.
+    #[must_use]
     pub fn public_key(&self) -> &[u8; PUBLIC_KEY_BYTES] {
         &self.public_key
     }
 
     /// Tries left for the PIN, at most [`PIN_TRIES`].
+    #[must_use]
     pub fn pin_tries(&self) -> u8 {
         self.pin_tries
     }
 
     /// Tries left for the PUK, at most [`PUK_TRIES`].
+    #[must_use]
     pub fn puk_tries(&self) -> u8 {
         self.puk_tries
     }
 
     /// Whether the PIN is verified. A sound card has a verified PIN only in [`Stage::Mutual`]: verification ends with the channel.
+    #[must_use]
     pub fn is_verified(&self) -> bool {
         self.verified == 1
     }
 
     /// The pairing secret, which the host needs for PAIR's cryptograms.
+    #[must_use]
     pub fn pairing_secret(&self) -> &[u8; KEY_BYTES] {
         &self.secret
     }
 
-    /// The pairing slots.
+    /// The pairing slots, by their indexes: 0 to 7.
+    #[must_use]
     pub fn slots(&self) -> &[Slot; SLOTS] {
         &self.slots
     }
 
     /// Whether a first step of PAIR waits for its final one.
+    #[must_use]
     pub fn is_pairing_pending(&self) -> bool {
         self.pending == 1
     }
 
     /// The kind of the card's key; none where the byte is over 2, which no sound card has.
+    #[must_use]
     pub fn key_kind(&self) -> Option<KeyKind> {
         KeyKind::from_number(self.key_kind)
     }
 
     /// The key's UID, zero without a key.
+    #[must_use]
     pub fn key_uid(&self) -> &[u8; KEY_BYTES] {
         &self.key_uid
     }
 
     /// The current path.
+    #[must_use]
     pub fn current_path(&self) -> &Path {
         &self.current
     }
 
     /// The PIN-less path.
+    #[must_use]
     pub fn pinless_path(&self) -> &Path {
         &self.pinless
     }
 
     /// The card's own tap record; empty where none was set.
+    #[must_use]
     pub fn tap_record(&self) -> &TapRecord {
         &self.tap
     }
 
     /// The stage of the channel; none where the byte is over 2, which no sound card has.
+    #[must_use]
     pub fn stage(&self) -> Option<Stage> {
         Stage::from_number(self.stage)
     }

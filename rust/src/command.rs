@@ -10,13 +10,13 @@ pub const CLASS_CARD: u8 = 0x80;
 pub const SELECT: u8 = 0xA4;
 /// INIT, plain.
 pub const INIT: u8 = 0xFE;
-/// OPEN SECURE CHANNEL, plain; P1 is the slot, under [`SLOTS`](crate::SLOTS).
+/// OPEN SECURE CHANNEL, plain; P1 is the slot's index, from 0, under [`SLOTS`](crate::SLOTS).
 pub const OPEN: u8 = 0x10;
 /// MUTUALLY AUTHENTICATE, sealed.
 pub const MUTUAL: u8 = 0x11;
 /// PAIR, plain.
 pub const PAIR: u8 = 0x12;
-/// UNPAIR, sealed; P1 is the slot, under [`SLOTS`](crate::SLOTS).
+/// UNPAIR, sealed; P1 is the slot's index, from 0, under [`SLOTS`](crate::SLOTS).
 pub const UNPAIR: u8 = 0x13;
 /// GET STATUS, sealed.
 pub const GET_STATUS: u8 = 0xF2;
@@ -47,9 +47,9 @@ pub const SIGN: u8 = 0xC0;
 /// ```
 /// use treadlewisp::*;
 ///
-/// // A card with an extended key, taken from its stored record; its PIN is 024680.
-/// let slots = [&[0x01][..], &[0x52; 32], &[0x00; 4 * SLOT_BYTES]].concat();
-/// let fields: [(u8, &[u8]); 12] = [
+/// // A card with an extended key, taken from its stored record; its PIN is 024680, and one of its slots is filled.
+/// let slots = [&[0x01][..], &[0x52; 32], &[0x00; (SLOTS - 1) * SLOT_BYTES]].concat();
+/// let fields: [(u8, &[u8]); 13] = [
 ///     (0x10, &[0x01]),
 ///     (0x11, &[0x11; UID_BYTES]),
 ///     (0x12, &[0x04; PUBLIC_KEY_BYTES]),
@@ -62,8 +62,10 @@ pub const SIGN: u8 = 0xC0;
 ///     (0x31, &[0x71; 32]),
 ///     (0x32, &[]),
 ///     (0x33, &[]),
+///     (0x34, &[]),
 /// ];
-/// let record: Vec<u8> = fields.iter().flat_map(|(tag, content)| [&[*tag, 0x00, content.len() as u8], *content].concat()).collect();
+/// let head = |tag: u8, content: &[u8]| [tag, (content.len() >> 8) as u8, content.len() as u8];
+/// let record: Vec<u8> = fields.iter().flat_map(|&(tag, content)| [&head(tag, content), content].concat()).collect();
 /// let mut card = Card::read(&record)?;
 ///
 /// // OPEN. The supply is the host's: flag, both keys, salt and IV.
@@ -110,8 +112,9 @@ pub const EXPORT: u8 = 0xC2;
 /// ```
 /// use treadlewisp::*;
 ///
-/// // A card without a key, taken from its stored record; its PIN is 024680. The record is an old one: no field 34 for the tap record.
-/// let slots = [&[0x01][..], &[0x52; 32], &[0x00; 4 * SLOT_BYTES]].concat();
+/// // A card without a key, taken from its stored record; its PIN is 024680. The record is an old one: five slots, and no field 34 for the
+/// // tap record.
+/// let slots = [&[0x01][..], &[0x52; 32], &[0x00; (SLOTS_BEFORE - 1) * SLOT_BYTES]].concat();
 /// let fields: [(u8, &[u8]); 12] = [
 ///     (0x10, &[0x01]),
 ///     (0x11, &[0x11; UID_BYTES]),
@@ -156,7 +159,7 @@ pub const EXPORT: u8 = 0xC2;
 /// assert_eq!(send(command::SET_NDEF, &[&[0x00, 0x12][..], &message].concat(), &[])?, [0x6A, 0x80]); // 18 counts the two bytes too
 /// assert_eq!(send(command::SET_NDEF, &tap_record, &[])?, [0x90, 0x00]);
 ///
-/// // The stored record now ends with the tap record, and the tap read gives that part of it.
+/// // The stored record now has eight slots and ends with the tap record, and the tap read gives that part of it.
 /// let mut record = [0; WRITE_ROOM_BYTES];
 /// let count = card.write(&mut record)?;
 /// assert_eq!(count, RECORD_MIN_BYTES + 18);

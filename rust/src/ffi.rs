@@ -7,7 +7,7 @@
 //! - what is behind `&` is written by no one, as no type here has interior mutability;
 //! - `Card` and `Session` are `repr(C)` and have the header's layout, asserted at compile time where they are declared.
 
-use std::mem::{offset_of, size_of};
+use core::mem::{offset_of, size_of};
 
 use crate::card::{Asked, Card};
 use crate::lengths::*;

@@ -59,6 +59,12 @@ pub const PAGE_BYTES: usize = 4096;
 /// How much of the stack [`wipe_stack`](crate::wipe_stack) overwrites, in bytes. Every call of this crate uses less.
 pub const STACK_WIPE_BYTES: usize = 8 * PAGE_BYTES;
 
+/// Length of a hash to sign, in bytes.
+pub const HASH_BYTES: usize = 32;
+/// Length of a seed that LOAD takes, in bytes.
+pub const SEED_BYTES: usize = 64;
+/// The most data of a plain command, in bytes: Lc is one byte.
+pub const PLAIN_DATA_MAX_BYTES: usize = 255;
 /// The most data that SEAL takes, in bytes.
 pub const DATA_MAX_BYTES: usize = 223;
 /// The longest supply of any kind, in bytes.
@@ -68,19 +74,26 @@ pub const FIELD_HEAD_BYTES: usize = 1 + 2;
 /// Length of a stored record before INIT, in bytes: three fields.
 pub const RECORD_FRESH_BYTES: usize = 3 * FIELD_HEAD_BYTES + 1 + UID_BYTES + PUBLIC_KEY_BYTES;
 /// The shortest stored record after INIT, in bytes: ten fields more, four of them empty.
-pub const RECORD_MIN_BYTES: usize = RECORD_OLD_MIN_BYTES + FIELD_HEAD_BYTES;
+pub const RECORD_MIN_BYTES: usize = RECORD_ALWAYS_BYTES + SLOTS * SLOT_BYTES + FIELD_HEAD_BYTES;
 /// The longest stored record, in bytes: with a key UID, two full paths and the longest tap record.
-pub const RECORD_MAX_BYTES: usize = RECORD_OLD_MAX_BYTES + FIELD_HEAD_BYTES + TAP_MAX_BYTES;
-/// The shortest stored record after INIT without the field of the tap record, in bytes, as versions up to 0.4.0 wrote it. READ takes it.
-pub const RECORD_OLD_MIN_BYTES: usize = RECORD_FRESH_BYTES + RECORD_SECRETS_BYTES + 4 * FIELD_HEAD_BYTES + 1;
-/// The longest stored record without the field of the tap record, in bytes.
-pub const RECORD_OLD_MAX_BYTES: usize = RECORD_OLD_MIN_BYTES + KEY_BYTES + 2 * PATH_MAX_BYTES;
+pub const RECORD_MAX_BYTES: usize = RECORD_MIN_BYTES + KEY_BYTES + 2 * PATH_MAX_BYTES + TAP_MAX_BYTES;
+/// The shortest stored record after INIT in an older form, in bytes: with [`SLOTS_BEFORE`] slots and without the field of the tap record.
+/// READ takes it.
+pub const RECORD_OLD_MIN_BYTES: usize = RECORD_ALWAYS_BYTES + SLOTS_BEFORE * SLOT_BYTES;
+/// The longest stored record in an older form, in bytes: with [`SLOTS_BEFORE`] slots and the longest tap record. READ takes it.
+pub const RECORD_OLD_MAX_BYTES: usize = RECORD_OLD_MIN_BYTES + KEY_BYTES + 2 * PATH_MAX_BYTES + FIELD_HEAD_BYTES + TAP_MAX_BYTES;
 
-/// The five fields of PIN, PUK, pairing secret, tries and slots.
-const RECORD_SECRETS_BYTES: usize = 5 * FIELD_HEAD_BYTES + PIN_BYTES + PUK_BYTES + KEY_BYTES + 1 + 1 + SLOTS * SLOT_BYTES;
+/// What every form of a stored record has after INIT: its fields without the content of the slots, and without the field of the tap record.
+const RECORD_ALWAYS_BYTES: usize = RECORD_FRESH_BYTES + RECORD_SECRETS_BYTES + 4 * FIELD_HEAD_BYTES + 1;
+/// The five fields of PIN, PUK, pairing secret, tries and slots, the last without its content.
+const RECORD_SECRETS_BYTES: usize = 5 * FIELD_HEAD_BYTES + PIN_BYTES + PUK_BYTES + KEY_BYTES + 1 + 1;
 
-/// How many pairing slots a card has.
-pub const SLOTS: usize = 5;
+/// How many pairing slots a card has; their indexes are 0 to 7.
+pub const SLOTS: usize = 8;
+/// How many pairing slots a card had up to version 0.5.0. [`Card::read`](crate::Card::read) takes the records of both.
+pub const SLOTS_BEFORE: usize = 5;
+/// What is added to a component of a path that is hardened: 44' is `44 + HARDENED`. This is no length.
+pub const HARDENED: u32 = 0x8000_0000;
 /// How many tries a PIN starts with.
 pub const PIN_TRIES: u8 = 3;
 /// How many tries a PUK starts with.

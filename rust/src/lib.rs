@@ -18,6 +18,19 @@
 //! | READ | [`Card::read`] | the card of a stored record |
 //! | tap read | [`tap`] | what a phone is to read of a stored card: its own tap record, or the factory's |
 //!
+//! Above these there are names for what goes in and out, and the calls in their order:
+//!
+//! | What | Here |
+//! |---|---|
+//! | a supply, one constructor for each kind | [`Supply`] |
+//! | a command as it is sent; SELECT, INIT, PAIR and OPEN by name | [`PlainCommand`] |
+//! | a command over the channel, each by name | [`ChannelCommand`] |
+//! | an answer: data and status word | [`Answer`] |
+//! | what a host does: supplies, and storing the record | [`Host`] |
+//! | the host's end: ASK, supply, ANSWER, store, and only then the answer | [`Card::serve`] |
+//! | the terminal's end: SEAL, there and back, UNSEAL | [`Session::exchange`] |
+//! | both ends in one program | [`exchange`] |
+//!
 //! Every length, room and count is in bytes; [`walk`] alone counts fields. Buffers are the caller's. An operation that cannot be done gives
 //! a [`Refusal`] and leaves card, session and buffer as they were. No operation panics or allocates, and nothing is kept between calls.
 //!
@@ -54,14 +67,14 @@
 //!
 //! # Secrets
 //!
-//! A [`Card`] holds PIN, PUK and keys, a [`Session`] keys, a [`Slot`] a key.
+//! A [`Card`] holds PIN, PUK and keys, a [`Session`] keys, a [`Slot`] a key; a [`Supply`], a [`ChannelCommand`] and an [`Answer`] may hold some.
 //!
 //! - When one is dropped, each byte of it is overwritten with zero.
 //! - Each call wipes the stack that it used before it gives its result ([`wipe_stack`], [`STACK_WIPE_BYTES`] bytes), and so do `clone`,
 //!   [`Card::from_bytes`], [`Card::to_bytes`] and their like. A thread needs that much stack.
 //! - `==` looks at all bytes, wherever the first difference is. Nothing is claimed about the time that it or any call takes.
 //! - `Debug` shows no PIN, PUK, secret or key.
-//! - Commands, supplies and buffers are the caller's: [`wipe`] is for them. The data that [`Session::seal`] takes may be a PIN; the buffer of
+//! - Commands, supplies and buffers that the caller makes as bytes are the caller's: [`wipe`] is for them. The data that [`Session::seal`] takes may be a PIN; the buffer of
 //!   [`Card::ask`] has the key that LOAD brings, that of [`Session::unseal`] the key that EXPORT gives, and that of [`Card::write`] the stored record.
 //! - A move copies a value's bytes, and what it leaves at the old place is not wiped. `?` on [`Card::read`] and `Box::new(card)` are moves
 //!   too. To leave no copy, keep the `Result` and borrow from it (`as_mut`), or make the card in a function of its own that gives it back in
@@ -91,39 +104,65 @@
 //! The library `libtreadlewisp.a` is linked from the repository's `target/staticlib`, where `tools/library` puts it, or from the folder
 //! that the environment variable `TREADLEWISP_LIB_DIR` names (a relative one counts from this package). It is for x86-64 Linux. With the
 //! feature `sha256`, `libsha_c.a` is linked too, from the same folder; `tools/library` puts it there, and `tools/archive sha_c` makes it alone.
+//!
+//! The crate is `no_std` and depends on no other. `cargo package`, called in its folder, packs sources and example. The libraries are not in the
+//! package: they are proved and made in the repository, and a program that uses the package names their folder in `TREADLEWISP_LIB_DIR`.
+//! Package and library must be of the same version.
+//!
+//! `examples/host.rs` is a host and its terminal, with a real curve. It alone needs other libraries, Debian's packages libsecp256k1-dev and
+//! libssl-dev, and is built with the feature `host_example`: `cargo run --example host --features host_example`.
 
+#![no_std]
 #![deny(unsafe_code, unsafe_op_in_unsafe_fn, missing_docs)]
 
+mod buffer;
 mod card;
+mod channel_command;
 pub mod command;
+mod exchange;
 #[allow(unsafe_code)]
 mod ffi;
+mod host;
 mod lengths;
+mod loaded;
 mod parts;
+mod plain_command;
 mod refusal;
+mod reply;
 #[allow(unsafe_code)]
 mod secrets;
 mod session;
 #[cfg(feature = "sha256")]
 mod sha256;
 mod status;
+mod supplies;
 mod supply;
 
 pub use card::{Asked, Card, CardField};
+pub use channel_command::{ChannelCommand, ExportedKeys};
+pub use exchange::{exchange, ExchangeError};
+pub use host::{Host, ServeError};
 pub use lengths::*;
+pub use loaded::LoadedKey;
 pub use parts::{KeyKind, Path, Slot, Stage, TapRecord};
+pub use plain_command::{InitParts, PlainCommand};
 pub use refusal::Refusal;
+pub use reply::Answer;
 pub use secrets::{wipe, wipe_stack};
 pub use session::Session;
 #[cfg(feature = "sha256")]
 pub use sha256::{sha256, DIGEST_BYTES};
 pub use status::StatusWord;
+pub use supplies::{ExportParts, OpenParts, PairFinalParts, PairFirstParts, SignParts, Supply};
 pub use supply::SupplyKind;
 
 /// WALK: how many fields that are not templates the input holds. The count is in fields; the input may have any length in bytes.
 ///
-/// Refused with [`Refusal::Malformed`] or [`Refusal::TooDeep`], by the first fault from left to right. Parts that it accepts, joined, count
-/// the sum of their fields.
+/// Parts that it accepts, joined, count the sum of their fields.
+///
+/// # Errors
+///
+/// [`Refusal::Malformed`] or [`Refusal::TooDeep`], by the first fault from left to right.
 ///
 /// ```
 /// use treadlewisp::{walk, Refusal};
@@ -142,10 +181,12 @@ pub fn walk(input: &[u8]) -> Result<usize, Refusal> {
 /// nothing is copied.
 ///
 /// Where the record has the card's own tap record, which SET NDEF stored ([`command::SET_NDEF`]), the part is that, inside the record. Where
-/// it has none, because it was never set, or the record is an old one, or one before INIT, the part is the whole factory record. That is not
+/// it has none, because it was never set, or the record has no field for it, or is one before INIT, the part is the whole factory record. That is not
 /// looked at: it may be any bytes, or none.
 ///
-/// Refused with [`Refusal::NotRecord`] exactly where [`Card::read`] refuses the record.
+/// # Errors
+///
+/// [`Refusal::NotRecord`] exactly where [`Card::read`] refuses the record.
 ///
 /// ```
 /// use treadlewisp::{tap, Card, Refusal, WRITE_ROOM_BYTES};

@@ -1,10 +1,11 @@
 //! The numbered refusals.
 
-use std::error::Error;
-use std::fmt;
+use core::error::Error;
+use core::fmt;
 
-/// Why an operation was refused. A refused operation has left card, session and buffer as they were.
+/// Why an operation was refused. A refused operation has left card, session and buffer as they were. A later version may have more.
 #[derive(Clone, Copy, PartialEq, Eq, Hash, Debug)]
+#[non_exhaustive]
 #[repr(u8)]
 pub enum Refusal {
     /// RESET, ASK, ANSWER, WRITE: the card is not sound.
@@ -39,11 +40,13 @@ impl Refusal {
     ];
 
     /// The refusal's number, 1 to 8.
+    #[must_use]
     pub const fn number(self) -> u8 {
         self as u8
     }
 
     /// The refusal with this number, if it is 1 to 8.
+    #[must_use]
     pub const fn from_number(number: u8) -> Option<Refusal> {
         match number {
             1 => Some(Refusal::Unsound),

@@ -1,11 +1,11 @@
 //! How secrets end: records that are overwritten with zeros when they are dropped, and the stack that is overwritten after each call. With
 //! `ffi`, the only unsafe code of this crate.
 
-use std::arch::asm;
-use std::hint::black_box;
-use std::mem::{align_of, size_of};
-use std::ptr::{from_mut, from_ref, write_volatile};
-use std::sync::atomic::{compiler_fence, Ordering};
+use core::arch::asm;
+use core::hint::black_box;
+use core::mem::{align_of, size_of};
+use core::ptr::{from_mut, from_ref, write_volatile};
+use core::sync::atomic::{compiler_fence, Ordering};
 
 use crate::card::Card;
 use crate::lengths::{CARD_BYTES, PAGE_BYTES, SESSION_BYTES, SLOT_BYTES, STACK_WIPE_BYTES};

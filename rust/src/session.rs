@@ -1,7 +1,7 @@
 //! The terminal's end of the secure channel.
 
-use std::fmt;
-use std::mem::{align_of, offset_of, size_of};
+use core::fmt;
+use core::mem::{align_of, offset_of, size_of};
 
 use crate::ffi;
 use crate::lengths::{HEADER_BYTES, IV_BYTES, KEY_BYTES, SESSION_BYTES};
@@ -22,6 +22,7 @@ const _: () = assert!(offset_of!(Session, mac_key) == KEY_BYTES && offset_of!(Se
 
 impl Session {
     /// The session that OPEN begins, with its seed IV.
+    #[must_use]
     pub fn new(enc_key: &[u8; KEY_BYTES], mac_key: &[u8; KEY_BYTES], iv: &[u8; IV_BYTES]) -> Session {
         wiped(|| Session {
             enc_key: *enc_key,
@@ -31,11 +32,12 @@ impl Session {
     }
 
     /// SEAL: the whole sealed command from the buffer's start, and its length in bytes; the session becomes the next one. The header is CLA
-    /// INS P1 P2.
+    /// INS P1 P2. Bytes past the count are never touched.
     ///
-    /// Refused with [`Refusal::Room`] where the buffer is under [`SEAL_ROOM_BYTES`](crate::SEAL_ROOM_BYTES), or [`Refusal::TooLong`] where
-    /// there are more data than [`DATA_MAX_BYTES`](crate::DATA_MAX_BYTES); session and buffer are then as they were. Bytes past the count
-    /// are never touched.
+    /// # Errors
+    ///
+    /// [`Refusal::Room`] where the buffer is under [`SEAL_ROOM_BYTES`](crate::SEAL_ROOM_BYTES), or [`Refusal::TooLong`] where there are more
+    /// data than [`DATA_MAX_BYTES`](crate::DATA_MAX_BYTES); session and buffer are then as they were.
     ///
     /// ```
     /// use treadlewisp::{Refusal, Session, SEAL_ROOM_BYTES};
@@ -54,25 +56,30 @@ impl Session {
     /// the next one.
     ///
     /// Lr, in the response's MAC, counts MAC and ciphertext, in bytes. Cards of version 0.1.0 left the MAC out: their sealed responses are not
-    /// genuine here.
+    /// genuine here. Bytes past the count are never touched. [`exchange`](Session::exchange) does SEAL and UNSEAL around what carries the bytes.
     ///
-    /// Refused with [`Refusal::Room`] where the buffer is under [`UNSEAL_ROOM_BYTES`](crate::UNSEAL_ROOM_BYTES), or
-    /// [`Refusal::NotGenuine`]; session and buffer are then as they were. Bytes past the count are never touched.
+    /// # Errors
+    ///
+    /// [`Refusal::Room`] where the buffer is under [`UNSEAL_ROOM_BYTES`](crate::UNSEAL_ROOM_BYTES), or [`Refusal::NotGenuine`]; session and
+    /// buffer are then as they were.
     pub fn unseal(&mut self, response: &[u8], buffer: &mut [u8]) -> Result<usize, Refusal> {
         wiped(|| ffi::unseal(self, response, buffer))
     }
 
     /// The session of these bytes.
+    #[must_use]
     pub fn from_bytes(bytes: &[u8; SESSION_BYTES]) -> Session {
         wiped(|| Session::of(bytes))
     }
 
     /// The session's bytes, both keys among them. They are the caller's to [`wipe`](crate::wipe).
+    #[must_use]
     pub fn to_bytes(&self) -> [u8; SESSION_BYTES] {
         wiped(|| *self.bytes())
     }
 
     /// The IV of the next message: the seed IV, then the MAC of the latest message. It is no secret.
+    #[must_use]
     pub fn iv(&self) -> &[u8; IV_BYTES] {
         &self.iv
     }

@@ -24,6 +24,7 @@ pub const DIGEST_BYTES: usize = 32;
 ///     ]
 /// );
 /// ```
+#[must_use]
 pub fn sha256(message: &[u8]) -> [u8; DIGEST_BYTES] {
     wiped(|| ffi::sha256(message))
 }

@@ -1,6 +1,6 @@
 //! Status words.
 
-use std::fmt;
+use core::fmt;
 
 /// A status word: the last two bytes of an answer, the high byte first (in a sealed answer, of its plaintext).
 #[derive(Clone, Copy, PartialEq, Eq, PartialOrd, Ord, Hash, Debug)]
@@ -47,16 +47,19 @@ impl StatusWord {
     /// assert_eq!(StatusWord::of(&[0x01, 0x63, 0xC2]), Some(StatusWord::TRIES_LEFT_2));
     /// assert_eq!(StatusWord::of(&[0x90]), None);
     /// ```
+    #[must_use]
     pub fn of(answer: &[u8]) -> Option<StatusWord> {
         answer.last_chunk().map(|&word| StatusWord(u16::from_be_bytes(word)))
     }
 
     /// The number.
+    #[must_use]
     pub const fn number(self) -> u16 {
         self.0
     }
 
     /// Whether this is 9000.
+    #[must_use]
     pub const fn is_success(self) -> bool {
         self.0 == StatusWord::SUCCESS.0
     }
@@ -68,6 +71,7 @@ impl StatusWord {
     /// assert_eq!(StatusWord(0x63C2).tries_left(), Some(2));
     /// assert_eq!(StatusWord::SUCCESS.tries_left(), None);
     /// ```
+    #[must_use]
     pub const fn tries_left(self) -> Option<u8> {
         let [high, low] = self.0.to_be_bytes();
         if high == 0x63 && low & 0xF0 == 0xC0 {

@@ -1,9 +1,11 @@
 //! Kinds of supply: the results of curve arithmetic and the random bytes that ANSWER reads from the host.
 
-use std::fmt;
+use core::fmt;
 
-/// A kind of supply, as ASK reports it. A flag is one byte, 00 (no) or 01 (yes); after 00 the rest is there but not read.
+/// A kind of supply, as ASK reports it. A flag is one byte, 00 (no) or 01 (yes); after 00 the rest is there but not read. [`Supply`](crate::Supply)
+/// has a constructor for each kind. A later version may have more kinds.
 #[derive(Clone, Copy, PartialEq, Eq, PartialOrd, Ord, Hash, Debug)]
+#[non_exhaustive]
 #[repr(u8)]
 pub enum SupplyKind {
     /// ANSWER reads no supply.
@@ -45,11 +47,13 @@ impl SupplyKind {
     ];
 
     /// The kind's number, 0 to 9.
+    #[must_use]
     pub const fn number(self) -> u8 {
         self as u8
     }
 
     /// The kind with this number, if it is 0 to 9.
+    #[must_use]
     pub const fn from_number(number: u8) -> Option<SupplyKind> {
         match number {
             0 => Some(SupplyKind::None),
@@ -67,6 +71,7 @@ impl SupplyKind {
     }
 
     /// How many bytes ANSWER wants; 0 where it reads no supply.
+    #[must_use]
     pub const fn bytes(self) -> usize {
         match self {
             SupplyKind::None => 0,
@@ -82,6 +87,7 @@ impl SupplyKind {
     }
 
     /// Whether the supply's first byte is a flag.
+    #[must_use]
     pub const fn has_flag(self) -> bool {
         matches!(
             self,
@@ -90,6 +96,7 @@ impl SupplyKind {
     }
 
     /// The name of the command that reads this supply; none for kind 0.
+    #[must_use]
     pub const fn command_name(self) -> Option<&'static str> {
         match self {
             SupplyKind::None => None,

@@ -174,6 +174,7 @@ fn hold(constants: &[(&str, usize)], front: &str, written: &Written) {
 fn the_constants_of_the_header() {
     let constants = named![
         SLOTS,
+        SLOTS_BEFORE,
         PIN_TRIES,
         PUK_TRIES,
         WALK_DEPTH_MAX,
@@ -221,6 +222,7 @@ fn the_constants_of_the_engine() {
     engine.extend(rattle("record_rules"));
     let constants = named![
         SLOTS,
+        SLOTS_BEFORE,
         PIN_TRIES,
         PUK_TRIES,
         UID_BYTES,

@@ -2,6 +2,8 @@
 //! that is then searched for PINs, PUKs and keys: bare calls leave many, so the search does find; this crate's leave none.
 //! `cargo test --test secrets -- --nocapture` shows what was found. Lengths are in bytes.
 
+#[path = "common/desk.rs"]
+mod desk;
 #[path = "common/stack.rs"]
 mod stack;
 
@@ -12,6 +14,7 @@ use std::mem::{size_of, MaybeUninit};
 use std::slice;
 
 use common::*;
+use desk::Desk;
 use stack::{on_stack, Left};
 use treadlewisp::command::*;
 use treadlewisp::*;
@@ -334,6 +337,73 @@ fn values_leave_no_secret_on_the_stack() {
     }
     let left = on_stack(&mut || seen(&{ *card_bytes }));
     assert!(!found(&left).is_empty(), "a copy that nobody wipes is found");
+}
+
+/// Builders and whole exchanges, the host's supplies among them, leave nothing either.
+#[test]
+fn exchanges_leave_no_secret_on_the_stack() {
+    let keys = Box::new([key(LOADED.1), key(CHAIN.1), key(INITIAL.1), key(PAIRED.1)]);
+    let [private_key, chain_code, aes_key, pairing_secret] = &*keys;
+    let (point, iv, pin, puk) = (&POINT, &SEED_IV, PIN, PUK);
+    let (init, loaded) = (
+        InitParts {
+            aes_key,
+            point,
+            iv,
+            pin,
+            puk,
+            pairing_secret,
+        },
+        LoadedKey::Extended {
+            private_key,
+            chain_code,
+            public_key: None,
+        },
+    );
+    let chat = Path::from_bytes(&EIP1581_PATH).expect("a path");
+    let (mut life, mut desk) = (Box::new(Life::in_channel()), Desk::new());
+    desk.supply = |kind| match kind {
+        SupplyKind::Export => [&[0x01], &POINT[..], &key(EXPORTED.1)].concat(),
+        _ => supply(kind),
+    };
+    let mut send = |command: &ChannelCommand, data_bytes: usize| {
+        let answer = exchange(&mut life.terminal, &mut life.card, &mut desk, command);
+        assert!(answer
+            .as_ref()
+            .is_ok_and(|answer| answer.status().is_success() && answer.data().len() == data_bytes));
+    };
+    let made: [(&str, &mut dyn FnMut()); 3] = [
+        ("INIT", &mut || seen(&PlainCommand::init(&init))),
+        ("LOAD's command", &mut || seen(&ChannelCommand::load(&loaded))),
+        ("EXPORT's supply", &mut || {
+            seen(&Supply::export(&ExportParts {
+                public_key: point,
+                private_key: Some(private_key),
+            }))
+        }),
+    ];
+    for (name, make) in made {
+        assert_eq!(found(&on_stack(make)), [], "{name}");
+    }
+    let exchanged = [
+        ("VERIFY", ChannelCommand::verify(PIN), 0),
+        ("LOAD", ChannelCommand::load(&loaded), KEY_BYTES),
+        ("EXPORT", ChannelCommand::export(&chat, ExportedKeys::PrivateAndPublic), 103),
+    ];
+    for (name, command, data_bytes) in &exchanged {
+        assert_eq!(found(&on_stack(&mut || send(command, *data_bytes))), [], "{name}");
+    }
+    for (name, command, _) in &exchanged {
+        let sealed = command.seal(&mut life.terminal).expect("SEAL");
+        let mut served = None;
+        let left = on_stack(&mut || served = Some(life.card.serve(&mut desk, sealed.bytes()).is_ok()));
+        assert_eq!((found(&left), served), (vec![], Some(true)), "{name}, the host's end alone");
+        life.terminal = Session::from_bytes(
+            &life.card.to_bytes()[place("enc_key").start..place("tap").start]
+                .try_into()
+                .expect("a session"),
+        );
+    }
 }
 
 /// Uses a value, so that it is made.

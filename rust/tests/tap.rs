@@ -39,14 +39,11 @@ fn field(content: &[u8]) -> Vec<u8> {
     [&[0x34], &length[..], content].concat()
 }
 
-/// The record of a card with no key, without its field 34: one of the old form.
-fn old_record() -> Vec<u8> {
+/// The record of a card with no key, without its field 34: a form that READ takes and WRITE does not write.
+fn untapped_record() -> Vec<u8> {
     let record = written(&Life::initialised().card);
     assert_eq!(record.len(), RECORD_MIN_BYTES);
-    assert!(record.ends_with(&[0x33, 0x00, 0x00, 0x34, 0x00, 0x00]));
-    let old = record[..RECORD_OLD_MIN_BYTES].to_vec();
-    assert_eq!(RECORD_OLD_MIN_BYTES + FIELD_HEAD_BYTES, RECORD_MIN_BYTES);
-    old
+    record.strip_suffix(&[0x34, 0x00, 0x00]).expect("an empty field 34").to_vec()
 }
 
 /// The part lies in what was lent, at this place.
@@ -204,7 +201,7 @@ fn what_keeps_it() {
 /// Field 34 of every length: READ takes 0 and 2 to 223, with the count that SET NDEF would take, and the tap read follows it.
 #[test]
 fn every_length_of_the_field() {
-    let old = old_record();
+    let old = untapped_record();
     for bytes in 0..=300 {
         let content = if bytes < 2 { vec![0; bytes] } else { tap_record_long(bytes) };
         let record = [&old[..], &field(&content)].concat();
@@ -239,7 +236,7 @@ fn tap_record_long(bytes: usize) -> Vec<u8> {
 /// Each byte of field 34 damaged, and the field cut at each place.
 #[test]
 fn damaged_fields() {
-    let old = old_record();
+    let old = untapped_record();
     let whole = field(&tap_record(8));
     let no_record = |record: &[u8]| {
         assert_eq!(Card::read(record), Err(Refusal::NotRecord), "{record:02X?}");
@@ -269,22 +266,21 @@ fn damaged_fields() {
     }
 }
 
-/// Records of the old form are read as none, and written with an empty field 34.
+/// Records without field 34 are read as none, and written with an empty one.
 #[test]
-fn old_records() {
-    let old = old_record();
-    let card = Card::read(&old).expect("an old record");
+fn untapped_records() {
+    let old = untapped_record();
+    let card = Card::read(&old).expect("a record without field 34");
     assert!(card.tap_record().is_empty());
     assert_eq!(card, Life::initialised().card);
     assert_eq!(written(&card), [&old[..], &[0x34, 0x00, 0x00]].concat());
-    assert_eq!(RECORD_OLD_MAX_BYTES, 448);
     is_part(tap(&old, &FACTORY).expect("a record"), &FACTORY, 0, FACTORY.len());
 }
 
 /// The factory record is handed back whole, whatever it is; it may be the stored record itself.
 #[test]
 fn factory_records() {
-    let (old, fresh) = (old_record(), written(&Life::fresh().card));
+    let (old, fresh) = (untapped_record(), written(&Life::fresh().card));
     for factory in [&[][..], &[0x00], &[0xFF; 300], &old, &fresh] {
         for record in [&old, &fresh] {
             is_part(tap(record, factory).expect("a record"), factory, 0, factory.len());

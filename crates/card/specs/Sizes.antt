@@ -32,7 +32,7 @@ tapMostBytes = 223
 
 -- ---- the number of pairing slots (RULES 2.2)
 abbrev pub slotCount : ℕ
-slotCount = 5
+slotCount = 8
 
 -- ---- the parts, in bytes (RULES 2.1)
 abbrev pub identityBytes : ℕ

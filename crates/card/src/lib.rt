@@ -168,7 +168,7 @@ impl Card {
 
     pub const PUK_TRIES: u8 = 5;
 
-    pub const SLOTS: usize = 5;
+    pub const SLOTS: usize = 8;
 
     pub const VERSION: [u8; 2] = [2, 0];
 

@@ -1,8 +1,9 @@
-// The search for a free pairing slot.
+// The search for a free pairing slot, and whether the slots from an index on are all free.
 // An index counts slots from 0; the facts hold for any number of slots.
 // Proved: the slot found is the free one with the least index, and none is found exactly where all are filled.
 ghost use mathlib.Core.Path.{_≡_};
-ghost use Rattle.card.specs.Slots.{someOf, isFree};
+ghost use lib.ListN.{drop};
+ghost use Rattle.card.specs.Slots.{allOf, someOf, isFree};
 ghost use Rattle.card_slots.specs.Free.{firstFree, Says};
 use card::Card;
 use card::Slot;
@@ -39,4 +40,19 @@ pub fn has_free(slots: [Slot; Card::SLOTS]) -> bool
         Free::At(_) => true,
         Free::Full => false,
     }
+}
+
+// Whether the slots from an index on are all free.
+pub fn free_from(slots: [Slot; Card::SLOTS], first: usize) -> bool
+    ensures { λ r. ⌜ r ≡ allOf isFree (drop first slots) ⌝ }
+{
+    let mut i = first;
+    while i < Card::SLOTS {
+        let slot = slots[i];
+        if slot.filled != 0 {
+            return false;
+        }
+        i += 1;
+    }
+    true
 }

@@ -1,4 +1,2 @@
-pub mod Openings
 pub mod Sealed
-pub mod Unsealed
 pub mod Responses

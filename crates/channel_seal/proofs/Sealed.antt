@@ -1,23 +1,15 @@
 -- What a buffer holds while a field is sealed in it: after the padding, after the encryption of the part that was lent, and after the MAC.
 -- Assumes nothing.
 use mathlib.Core.Path.{_≡_, refl, sym, ap, ap₂, _∙_}
-use mathlib.Core.List.{List, _++_, append-assoc, append-nil}
+use mathlib.Core.List.{List, _++_, append-assoc}
 use Prim.Native.Nat.{ℕ, _+_, _-_, _≤_}
 use native.Mathlib.Omega.{arith}
-use lib.ListN.{length, take, drop, length-append, length-take, length-drop, drop-of-length-le}
-use lib.Seq.{take-at, drop-at, take-all, drop-drop, length-take-le}
+use lib.ListN.{length, take, drop, length-append, length-take, length-drop}
+use lib.Seq.{take-at, drop-at, drop-drop, length-take-le}
 use Rattle.octets.specs.Bytes.{overwrite, written}
 use Rattle.aes_padding.specs.Padding.{paddedBytes, pad}
 use Rattle.aes_padding.proofs.Laws.{length-pad, padded-larger}
-
--- a part from byte a to the end is all that follows a
-pub tail-is : (a : ℕ) (xs : List ℕ) → take (length xs - a) (drop a xs) ≡ drop a xs
-tail-is a xs = take-all (length xs - a) (drop a xs) (omega (arith, length-drop a xs))
-
-pub tail-put : (a : ℕ) (xs y : List ℕ) → take a xs ++ (y ++ drop (length xs - a) (drop a xs)) ≡ take a xs ++ y
-tail-put a xs y =
-    ap (λ (r : List ℕ). take a xs ++ (y ++ r)) (drop-of-length-le (drop a xs) {i = length xs - a} (omega (arith, length-drop a xs)))
-    ∙ ap (λ (r : List ℕ). take a xs ++ r) (append-nil y)
+use Rattle.channel_heads.proofs.Tails.{tail-is, tail-put}
 
 -- B is the buffer as it was, p the padded length, y₁ its tail after padding, y₂ the part after encryption
 module _ (B : List ℕ) (n p : ℕ) (ep : p ≡ paddedBytes n) (room : 16 + paddedBytes n ≤ length B) (y₁ : List ℕ)

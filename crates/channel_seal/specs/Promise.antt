@@ -1,15 +1,12 @@
--- What the card's side of sealing (RULES 8.3, 8.5) and opening (RULES 8.4) promises, as records whose parts have names. Lengths are in bytes.
-use Prim.Native.Nat.{ℕ, _+_, _≤_}
+-- What the sealing of a field (RULES 8.3) and of a response (RULES 8.5) promises, as records whose parts have names. Lengths are in bytes.
+use Prim.Native.Nat.{ℕ}
 use mathlib.Core.List.{List, _++_}
-use mathlib.Core.Option.{Option, some}
 use mathlib.Core.Path.{_≡_}
 use lib.ListN.{length, take, drop}
-use Rattle.refusals.specs.Refusals.{dataMost}
 use Rattle.octets.specs.Bytes.{written}
 use Rattle.aes_padding.specs.Padding.{paddedBytes}
 use Rattle.channel_rules.specs.declared.Session.{Session}
-use Rattle.channel_rules.specs.declared.Opening.{Opening}
-use Rattle.channel_rules.specs.Message.{withIv, responseHead, ciphertext, macOf, fieldMac, openingOf, fieldOut, openingOut}
+use Rattle.channel_rules.specs.Message.{withIv, responseHead, ciphertext, macOf, fieldMac}
 use Rattle.channel_rules.specs.Terminal.{sealedResponse}
 use Rattle.channel_seal.specs.declared.Response.{Response}
 
@@ -19,14 +16,6 @@ pub record FieldSealed (s : Session) (head : List ℕ) (n : ℕ) (before mac aft
   pub told : mac ≡ macOf s head (ciphertext s (take n (drop 16 before)))
   pub left : after ≡ written (mac ++ ciphertext s (take n (drop 16 before))) before
   pub long : length (ciphertext s (take n (drop 16 before))) ≡ paddedBytes n
-
--- an opening gives the length of the opened data, at most 223 bytes, which are at the start of `plain`; or that there is none. `says` has
--- the status word and the refusal that mean no data
-pub record Opens (data′ : Option (List ℕ)) (r : Opening) (plain : List ℕ) : Type 0 where
-  pub told : r ≡ openingOf data′
-  pub says : openingOut plain r ≡ fieldOut data′
-  pub left : (x : List ℕ) → data′ ≡ some x → x ≡ take (length x) plain
-  pub short : (x : List ℕ) → data′ ≡ some x → length x ≤ dataMost
 
 -- a response's data and status word were sealed from the buffer's start, with 9000 in the clear after them
 pub record ResponseSealed (s : Session) (plain : List ℕ) (before : List ℕ) (r : Response) (after : List ℕ) : Type 0 where

@@ -16,7 +16,7 @@ use Rattle.channel_rules.specs.declared.Session.{Session}
 use Rattle.channel_rules.specs.Message.{withIv, lc, commandHead, ciphertext, macOf, fieldMac, sealField}
 use Rattle.channel_rules.specs.Terminal.{Out, sealedCommand, sealOut}
 use Rattle.channel_seal.specs.Promise.{FieldSealed}
-use Rattle.channel_seal.proofs.Sealed.{tail-is, tail-put}
+use Rattle.channel_heads.proofs.Tails.{tail-is, tail-put}
 use Rattle.channel_seal.proofs.Responses.{response-fits}
 use Rattle.channel_terminal.specs.declared.Outcome.{Outcome}
 use Rattle.channel_terminal.specs.Did.{Did}

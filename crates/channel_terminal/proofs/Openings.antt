@@ -15,8 +15,8 @@ use Rattle.channel_rules.specs.declared.Session.{Session}
 use Rattle.channel_rules.specs.declared.Opening.{Opening}
 use Rattle.channel_rules.specs.Message.{withIv}
 use Rattle.channel_rules.specs.Terminal.{Out, refused, plainSuccess, unsealed}
-use Rattle.channel_seal.specs.Promise.{Opens}
-use Rattle.channel_seal.proofs.Openings.{Holds}
+use Rattle.channel_open.specs.Promise.{Opens}
+use Rattle.channel_open.proofs.Openings.{Holds}
 use Rattle.channel_terminal.specs.declared.Outcome.{Outcome}
 use Rattle.channel_terminal.specs.Did.{Did}
 

@@ -9,10 +9,10 @@ ghost use Rattle.refusals.specs.Refusals.{unsealRoom};
 ghost use Rattle.channel_rules.specs.Message.{responseHead, openField};
 ghost use Rattle.channel_rules.specs.Terminal.{sealOut, unsealed, unsealOut};
 ghost use Rattle.channel_terminal.specs.Did.{Did};
+use channel_open::CIPHERTEXT_MAX_BYTES;
 use channel_rules::MAC_BYTES;
 use channel_rules::Opening;
 use channel_rules::Session;
-use channel_seal::CIPHERTEXT_MAX_BYTES;
 use channel_seal::PLAIN_SUCCESS;
 use refusals::REFUSAL_DATA_LONG;
 use refusals::REFUSAL_NONE;
@@ -73,7 +73,7 @@ fn unseal_field(s: Session, field: &[u8], buf: &mut [u8]) -> Outcome
         (now (buf .entry)) (now (buf .exit)) ⌝ }
 {
     let mut plain = [0u8; CIPHERTEXT_MAX_BYTES];
-    let Opening::Bytes(count) = channel_seal::open_response(s, field, &mut plain) else {
+    let Opening::Bytes(count) = channel_open::open_response(s, field, &mut plain) else {
         return Outcome {
             refusal: REFUSAL_NOT_GENUINE,
             count: 0,

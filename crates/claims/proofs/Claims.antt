@@ -11,6 +11,7 @@ use Rattle.claims.proofs.TapReads.{tap-reads}
 use Rattle.claims.proofs.Verified.{verified}
 use Rattle.claims.proofs.Export.{export}
 use Rattle.claims.proofs.TapRecord.{tap-record}
+use Rattle.claims.proofs.Slots.{slots}
 use Rattle.claims.proofs.Rows.{rows}
 use Rattle.claims.proofs.RowsMet.{rows-met}
 use Rattle.claims.proofs.WrongEngines.{wrong-engines}
@@ -28,6 +29,7 @@ claims = record {
   verified = verified;
   export = export;
   taprecord = tap-record;
+  slots = slots;
   rows = rows;
   rowsmet = rows-met;
   wrongengines = wrong-engines;

@@ -17,5 +17,8 @@ pub mod Elsewhere
 pub mod Exporting
 pub mod Export
 pub mod TapRecord
+pub mod SlotCounts
+pub mod SlotCommands
+pub mod Slots
 pub mod Secrecy
 pub mod Claims

@@ -21,9 +21,12 @@ use Rattle.card.proofs.SoundFacts.{verified-stage}
 use Rattle.card.proofs.TapFacts.{ndef-rules, tap-of-data}
 use Rattle.sound.specs.declared.Answer.{Answer}
 use Rattle.sound.specs.Reset.{resetAnswer, done}
+use Rattle.record_rules.specs.declared.Form.{Form}
 use Rattle.record_rules.specs.Fields.{encodeAll, fieldsIn, recordOf}
+use Rattle.record_rules.specs.Forms.{forms, Listed}
 use Rattle.record_rules.specs.Answers.{readAnswer}
-use Rattle.record_rules.proofs.ReadFacts.{read-record, read-untapped}
+use Rattle.record_rules.proofs.FormFacts.{holds-each}
+use Rattle.record_rules.proofs.ReadFacts.{read-record, read-held}
 use Rattle.record_tap.specs.Tap.{tapPart}
 use Rattle.record_tap.proofs.PlaceFacts.{part-tap, part-none}
 use Rattle.rules.specs.declared.Instruction.the-variants as ins
@@ -224,10 +227,12 @@ module _ (f : List ℕ) where
       reads-none (recordOf verifiedCard) f verifiedCard
       (read-record verifiedCard (verified-typed .shaped) (verified-sound (verified-reached .iv))) refl
 
-  read-old : tapPart (encodeAll (fieldsIn false verifiedCard)) f ≡ f
-  read-old =
-      reads-none (encodeAll (fieldsIn false verifiedCard)) f verifiedCard
-      (read-untapped verifiedCard (verified-typed .shaped) (verified-sound (verified-reached .iv)) refl refl) refl
+  read-each : (g : Form) → Listed g forms → tapPart (encodeAll (fieldsIn g verifiedCard)) f ≡ f
+  unfolding allOf
+  read-each g l =
+      let shaped = verified-typed .shaped in
+      reads-none (encodeAll (fieldsIn g verifiedCard)) f verifiedCard
+      (read-held g l verifiedCard shaped (verified-sound (verified-reached .iv)) (holds-each verifiedCard refl refl g l refl shaped)) refl
 
   read-own : tapPart (recordOf next) f ≡ one
   read-own =
@@ -246,7 +251,7 @@ one-taps = record {
   reads = ap (λ (x : Card). unsealedBy x oneTurn .bytes) one-before ∙ one-stored .reads;
   tapped = ap (λ (x : Card). tapBytes (answeredBy x oneTurn .card .tap)) one-before ∙ ap tapBytes next-tap;
   factory = λ f. ap (λ (x : Card). tapPart (recordOf x) f) one-before ∙ read-factory f;
-  factoryold = λ f. ap (λ (x : Card). tapPart (encodeAll (fieldsIn false x)) f) one-before ∙ read-old f;
+  factoryeach = λ g l f. ap (λ (x : Card). tapPart (encodeAll (fieldsIn g x)) f) one-before ∙ read-each f g l;
   own = λ f. ap (λ (x : Card). tapPart (recordOf (answeredBy x oneTurn .card)) f) one-before ∙ read-own f;
 }
 

@@ -24,7 +24,8 @@ use Rattle.refusals.specs.Refusals.{unsound}
 use Rattle.sound.specs.Reset.{refused, done, resetAnswer}
 use Rattle.record_rules.specs.Fields.{encodeAll, fieldsIn, recordOf}
 use Rattle.record_rules.specs.Answers.{writeRefusal}
-use Rattle.record_rules.proofs.ReadFacts.{read-record, read-write, write-read, write-of, write-renewed, read-untapped, record-untapped, one-card, read-sound, record-length}
+use Rattle.record_rules.proofs.FormFacts.{form-today, holds-each}
+use Rattle.record_rules.proofs.ReadFacts.{read-record, read-write, write-read, write-of, write-renewed, read-held, one-card, one-form, read-sound, record-length}
 use Rattle.laws_engine.proofs.Sound.{answer-sound}
 use Rattle.laws_engine.proofs.Rooms.{answer-most, ask-most}
 use Rattle.laws_walk.proofs.Walking.{counts-fields, walk-encodes}
@@ -105,14 +106,17 @@ trips = record {
   records = record {
     readwrite = λ c room w h. read-write c room w h ∙ sym (reset-is c (written-sound c room h));
     writeread = write-read;
-    renewed = write-renewed;
+    renews = write-renewed;
     current = λ c room w e r. write-of (recordOf c) room r c (read-record c w e);
-    old = λ c room w e i n r. record {
-      read = read-untapped c w e i n ∙ sym (reset-is c e);
-      written = write-of (encodeAll (fieldsIn false c)) room r c (read-untapped c w e i n) ∙ record-untapped c w e i n;
-      same = sym (record-untapped c w e i n);
+    other = λ f l c room w e h r. record {
+      read = read-held f l c w e h ∙ sym (reset-is c e);
+      written = write-of (encodeAll (fieldsIn f c)) room r c (read-held f l c w e h) ∙ form-today f c w e h;
+      same = sym (form-today f c w e h);
     };
+    four = refl;
+    held = λ f l c i z free w. holds-each c i z f l free w;
     onecard = one-card;
+    oneform = one-form;
   };
   walks = record {
     joined = joined;
@@ -139,5 +143,14 @@ trips = record {
     answer = answer-sound;
   };
   resets = record { twice = reset-twice };
-  sizes = record { ask = ask-most; answer = answer-most; write = record-length };
+  sizes = record {
+    card = refl;
+    fresh = refl;
+    least = refl;
+    most = refl;
+    room = refl;
+    ask = ask-most;
+    answer = answer-most;
+    write = record-length;
+  };
 }

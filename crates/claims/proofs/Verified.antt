@@ -69,9 +69,9 @@ opens-not : Ends 0 (openWith 0 0)
 unfolding nextAt answerOut isSound allOf someOf decide arrival step1 pastStep1 dataOf nameOf step4 step5 step6 ruleOf openChecks suits openReply tell
 opens-not = ends (openWith 0 0) 0 (λ iv. refl) (λ iv. refl)
 
-free-slot : Ends 0 (openWith 4 1)
+free-slot : Ends 0 (openWith 7 1)
 unfolding nextAt answerOut isSound allOf someOf decide arrival step1 pastStep1 dataOf nameOf step4 step5 step6 ruleOf openChecks suits tell
-free-slot = ends (openWith 4 1) 0 (λ iv. refl) (λ iv. refl)
+free-slot = ends (openWith 7 1) 0 (λ iv. refl) (λ iv. refl)
 
 selecting : Ends 0 selects
 unfolding nextAt answerOut isSound allOf someOf decide arrival step1 pastStep1 dataOf nameOf step4 step5 step6 ruleOf selectChecks suits selectReply tell

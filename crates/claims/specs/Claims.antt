@@ -11,6 +11,7 @@ use Rattle.claims.specs.TapReads.{TapReads}
 use Rattle.claims.specs.Verified.{Verified}
 use Rattle.claims.specs.Export.{Export}
 use Rattle.claims.specs.TapRecord.{TapRecord}
+use Rattle.claims.specs.Slots.{Slots}
 use Rattle.claims.specs.Rows.{Rows}
 use Rattle.claims.specs.RowsMet.{RowsMet}
 use Rattle.claims.specs.WrongEngines.{WrongEngines}
@@ -35,6 +36,8 @@ pub record Claims : Type 0 where
   pub export : Export
   -- SET NDEF alone changes the tap record (RULES 6.20)
   pub taprecord : TapRecord
+  -- there are eight pairing slots (RULES 2.2)
+  pub slots : Slots
   -- the rows to settle and that what they suppose is met (RULES 11.4); and the wrong engines that the rules shut out (RULES 11.5)
   pub rows : Rows
   pub rowsmet : RowsMet

@@ -8,6 +8,7 @@ pub mod Verified
 pub mod Export
 pub mod TapRecord
 pub mod Rows
+pub mod Slots
 pub mod RowsMet
 pub mod WrongEngines
 pub mod Secrecy

@@ -13,7 +13,9 @@ use Rattle.sound.specs.Reset.{resetAnswer}
 use Rattle.rules.specs.Commands.{isVerified}
 use Rattle.rules.specs.Channel.{withMac}
 use Rattle.rules.specs.Engine.{answerOut}
+use Rattle.record_rules.specs.declared.Form.{Form}
 use Rattle.record_rules.specs.Fields.{encodeAll, fieldsIn, recordOf}
+use Rattle.record_rules.specs.Forms.{forms, Listed}
 use Rattle.record_tap.specs.Tap.{tapPart}
 use Rattle.laws_engine.specs.Tapped.{TapAfter}
 use Rattle.laws_exchange.specs.Exchange.{Typed, Turn, answeredBy, unsealedBy}
@@ -63,9 +65,9 @@ pub record Example (data′ : List ℕ) : Type 0 where
   pub none : tapBytes (before calls .tap) ≡ []
   pub reads : unsealedBy (before calls) turn .bytes ≡ 0x90 ∷ 0x00 ∷ []
   pub tapped : tapBytes (answeredBy (before calls) turn .card .tap) ≡ data′
-  -- before it the factory record, of the old form of the record too, which has no field 34; after it the data
+  -- before it the factory record, in each form of the record, two of which have no field 34; after it the data
   pub factory : (f : List ℕ) → tapPart (recordOf (before calls)) f ≡ f
-  pub factoryold : (f : List ℕ) → tapPart (encodeAll (fieldsIn false (before calls))) f ≡ f
+  pub factoryeach : (g : Form) → Listed g forms → (f : List ℕ) → tapPart (encodeAll (fieldsIn g (before calls))) f ≡ f
   pub own : (f : List ℕ) → tapPart (recordOf (answeredBy (before calls) turn .card)) f ≡ data′
 
 pub record TapRecord : Type 0 where

@@ -5,7 +5,7 @@ use mathlib.Core.Path.{_≡_}
 use mathlib.Core.Bool.{Bool, true, false}
 use mathlib.Core.List.{List, [], _∷_, _++_}
 use mathlib.Core.Logic.{_↔_, _⊎_}
-use lib.ListN.{length, replicate}
+use lib.ListN.{length, drop, replicate}
 use Rattle.octets.specs.Bytes.{Bytes}
 use Rattle.channel_rules.specs.declared.Session.{Session}
 use Rattle.channel_rules.specs.Message.{Keyed, withIv, lr, responseHead, ciphertext, fieldMac, sealField}
@@ -13,13 +13,17 @@ use Rattle.channel_rules.specs.Terminal.{plainSuccess, sealedResponse, unsealOu
 use Rattle.template_walk.specs.Walk.{WALK}
 use Rattle.template_answers.specs.Answers.{preInitialised, applicationInfo, status, signature, exportedPublic, exportedPair}
 use Rattle.card.specs.declared.Card.{Card}
+use Rattle.card.specs.Sizes.{cardBytes}
 use Rattle.card.specs.State.{freshOf, resetOf}
+use Rattle.card.specs.Slots.{allOf, isFree}
 use Rattle.card.specs.Sound.{isSound}
 use Rattle.card.specs.Shape.{Shaped}
 use Rattle.sound.specs.Reset.{resetAnswer}
+use Rattle.record_rules.specs.declared.Form.{Form}
 use Rattle.record_rules.specs.Fields.{encodeAll, fieldsIn, recordOf}
 use Rattle.record_rules.specs.Lengths.{recordFresh, recordLeast, recordMost, writeRoom}
-use Rattle.record_rules.specs.Forms.{forms, InForm}
+use Rattle.record_rules.specs.Forms.{forms, holds, renewed, Listed, InForm}
+use Rattle.record_rules.specs.Renewal.{Renewal}
 use Rattle.record_rules.specs.Answers.{writeRefusal, writeBytes, readAnswer}
 use Rattle.rules.specs.Supplies.{suits}
 use Rattle.rules.specs.Steps.{goes, Arrived, arrival, decide}
@@ -52,30 +56,38 @@ pub record Responses : Type 0 where
   pub example : (unsealOut zeroSession (sealedResponse zeroSession (0x90 ∷ 0x00 ∷ [])) 223 .refusal ≡ 0)
       × (unsealOut zeroSession (oldResponse zeroSession (0x90 ∷ 0x00 ∷ [])) 223 .refusal ≡ 7)
 
--- ---- the stored record (RULES 10.5): READ of WRITE is RESET; what READ takes is written as it was or with an empty field 34 at its end, namely as
--- its form is renewed: in the current form byte for byte, in the old form with that field; and no bytes are, in the forms that READ takes, the
--- records of two cards that RESET leaves different
-abbrev pub emptyField34 : List ℕ
-emptyField34 = 0x34 ∷ 0 ∷ 0 ∷ []
-
--- the old form of a card's record: READ gives the card that it gives for the current form, and WRITE writes the current form, which is the old
--- one with an empty field 34 at its end
-pub record OldForm (c : Card) (room : ℕ) : Type 0 where
-  pub read : readAnswer (encodeAll (fieldsIn false c)) ≡ resetAnswer c
-  pub written : writeBytes (readAnswer (encodeAll (fieldsIn false c)) .card) room ≡ encodeAll (fieldsIn false c) ++ emptyField34
-  pub same : encodeAll (fieldsIn false c) ++ emptyField34 ≡ recordOf c
+-- ---- the stored record (RULES 10.5): READ of WRITE is RESET; what READ takes is written as it was, or with an empty field 34 at its end, or with
+-- three free slots more in field 24, or with both, namely as its form is renewed; in the form that WRITE writes, byte for byte; and no bytes are,
+-- in the forms that READ takes, records in two forms, nor of two cards that RESET leaves different
+-- the record of a card in a form that holds it: READ gives the card that it gives for the form that WRITE writes, and WRITE writes that form,
+-- which is the other one renewed
+pub record OtherForm (f : Form) (c : Card) (room : ℕ) : Type 0 where
+  pub read : readAnswer (encodeAll (fieldsIn f c)) ≡ resetAnswer c
+  pub written : writeBytes (readAnswer (encodeAll (fieldsIn f c)) .card) room ≡ renewed f (encodeAll (fieldsIn f c))
+  pub same : renewed f (encodeAll (fieldsIn f c)) ≡ recordOf c
 
 pub record Records : Type 0 where
   pub readwrite : (c : Card) (room : ℕ) → Shaped c → writeRefusal c room ≡ 0 → readAnswer (writeBytes c room) ≡ resetAnswer c
   pub writeread : (s : List ℕ) (room : ℕ) → writeRoom ≤ room → readAnswer s .refusal ≡ 0
-      → (writeRefusal (readAnswer s .card) room ≡ 0)
-      × ((writeBytes (readAnswer s .card) room ≡ s) ⊎ (writeBytes (readAnswer s .card) room ≡ s ++ emptyField34))
-  pub renewed : (s : List ℕ) (room : ℕ) → writeRoom ≤ room → (c : Card) → Shaped c → isSound c ≡ true → (r : InForm s c forms)
-      → writeBytes (readAnswer s .card) room ≡ r .form .renewed s
+      → (writeRefusal (readAnswer s .card) room ≡ 0) × Renewal s (writeBytes (readAnswer s .card) room)
+  pub renews : (s : List ℕ) (room : ℕ) → writeRoom ≤ room → (c : Card) → Shaped c → isSound c ≡ true → (r : InForm s c forms)
+      → writeBytes (readAnswer s .card) room ≡ renewed (r .form) s
   pub current : (c : Card) (room : ℕ) → Shaped c → isSound c ≡ true → writeRoom ≤ room → writeBytes (readAnswer (recordOf c) .card) room ≡ recordOf c
-  pub old : (c : Card) (room : ℕ) → Shaped c → isSound c ≡ true → c .initialised ≡ 1 → c .tap .len ≡ 0 → writeRoom ≤ room → OldForm c room
+  pub other : (f : Form) → Listed f forms → (c : Card) (room : ℕ) → Shaped c → isSound c ≡ true → holds f c ≡ true → writeRoom ≤ room
+      → OtherForm f c room
+  -- there are four forms, by the number of slots in field 24 and whether field 34 is there; each of them holds an initialised card without a tap record, whose slots 5 to 7 are free
+  pub four : forms
+      ≡ record { slots = 8; tapped = true }
+      ∷ record { slots = 8; tapped = false }
+      ∷ record { slots = 5; tapped = true }
+      ∷ record { slots = 5; tapped = false }
+      ∷ []
+  pub held : (f : Form) → Listed f forms → (c : Card) → c .initialised ≡ 1 → c .tap .len ≡ 0 → allOf isFree (drop 5 (c .pairing .slots)) ≡ true
+      → Shaped c → holds f c ≡ true
   pub onecard : (s : List ℕ) (c d : Card) → Shaped c → Shaped d → isSound c ≡ true → isSound d ≡ true → InForm s c forms → InForm s d forms
       → resetOf c ≡ resetOf d
+  pub oneform : (s : List ℕ) (c d : Card) → Shaped c → Shaped d → isSound c ≡ true → isSound d ≡ true → (r : InForm s c forms) (t : InForm s d forms)
+      → r .form ≡ t .form
 
 -- ---- WALK (RULES 11.2): fields one after the other add up, and each template that a command answers has the fields that it is made of, where
 -- each length fits its byte: its parts are at most as long as those of a card and of a supply
@@ -117,6 +129,12 @@ pub record Resets : Type 0 where
 
 -- ---- the room that is asked for is enough (RULES 11.2): ASK and ANSWER write no more, and a record has its length
 pub record Sizes : Type 0 where
+  -- the sums by their numbers: the card, the record before INIT, and the least and the greatest after it, which is the room that WRITE asks for
+  pub card : cardBytes ≡ 852
+  pub fresh : recordFresh ≡ 91
+  pub least : recordLeast ≡ 438
+  pub most : recordMost ≡ 773
+  pub room : writeRoom ≡ 773
   pub ask : (c : Card) (cmd : List ℕ) (room : ℕ) → Bytes cmd → isSound c ≡ true → 255 ≤ room → length (askOut c cmd room .bytes) ≤ 255
   pub answer : (c : Card) (cmd s : List ℕ) (room : ℕ) → Shaped c → length (answerOut c cmd s room .bytes) ≤ 242
   pub write : (c : Card) → Shaped c → isSound c ≡ true

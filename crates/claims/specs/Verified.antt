@@ -31,7 +31,7 @@ pub record Ends (stage : ℕ) (call : Call) : Type 0 where
   pub leaves : nextAt (endOf (freshOf (zeros 16) (zeros 65)) calls) call .channel .stage ≡ stage
   pub ended : nextAt (endOf (freshOf (zeros 16) (zeros 65)) calls) call .pins .verified ≡ 0
 
--- OPEN for slot 0 with a point and a supply with flag 01; the same with flag 00; OPEN for slot 4, which is free: 6A86
+-- OPEN for slot 0 with a point and a supply with flag 01; the same with flag 00; OPEN for slot 7, the last, which is free: 6A86
 abbrev pub openWith : ℕ → ℕ → Call
 openWith slot flag = answer (0x80 ∷ 0x10 ∷ slot ∷ 0 ∷ 65 ∷ 0x04 ∷ zeros 64) (flag ∷ zeros 112) (zeros 258)
 
@@ -64,7 +64,7 @@ pub record Verified : Type 0 where
   -- and it can be lost so: OPEN with success, with flag 00 and for a free slot; SELECT; RESET; a command that does not open
   pub opens : Ends 1 (openWith 0 1)
   pub opensnot : Ends 0 (openWith 0 0)
-  pub freeslot : Ends 0 (openWith 4 1)
+  pub freeslot : Ends 0 (openWith 7 1)
   pub selecting : Ends 0 selects
   pub resetting : Ends 0 reset
   pub unopened : Ends 0 bareStatus

@@ -12,9 +12,9 @@ use Rattle.channel_rules.specs.declared.Session.{Session}
 use Rattle.channel_rules.specs.declared.Opening.{Opening}
 use Rattle.channel_rules.specs.declared.Opening.the-variants as opening
 use Rattle.channel_rules.specs.Message.{openField, commandHead}
-use Rattle.channel_seal.specs.Promise.{Opens}
-use Rattle.channel_seal.proofs.Openings.{Holds, holds, held-short, field-long}
-use Rattle.channel_seal.proofs.Openings.{closed as closed-none}
+use Rattle.channel_open.specs.Promise.{Opens}
+use Rattle.channel_open.proofs.Openings.{Holds, holds, held-short, field-long}
+use Rattle.channel_open.proofs.Openings.{closed as closed-none}
 use Rattle.card.specs.declared.Card.{Card}
 use Rattle.card.specs.State.{closed}
 use Rattle.rules.specs.declared.Instruction.{Instruction}

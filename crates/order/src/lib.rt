@@ -115,11 +115,11 @@ fn step_4_opens(i: Instruction, card: Card, cmd: &[u8], field: &[u8], plain: &mu
     let p1 = cmd[2];
     let p2 = cmd[3];
     let header = [cla, ins, p1, p2];
-    let Opening::Bytes(n) = channel_seal::open_command(
+    let Opening::Bytes(n) = channel_open::open_command(
         session,
         header,
         field,
-        &mut plain[0..channel_seal::CIPHERTEXT_MAX_BYTES],
+        &mut plain[0..channel_open::CIPHERTEXT_MAX_BYTES],
     ) else {
         let closed = card.close();
         return ends(false, closed, rules::SECURITY_NOT_MET);

@@ -3,12 +3,12 @@
 // Proved: the field is at its place, nothing else changes, and the place after it is given.
 ghost use mathlib.Core.Path.{_≡_};
 ghost use mathlib.Core.List.{[], _∷_};
-ghost use Prim.Native.Nat.{_+_, _≤_, _<_};
+ghost use Prim.Native.Nat.{_+_, _*_, _≤_, _<_};
 ghost use lib.ListN.{length, take};
 ghost use Rattle.octets.specs.Bytes.{overwrite};
 ghost use Rattle.card.specs.State.{keyUid, pathBytes};
-ghost use Rattle.card.specs.Sizes.{keyBytes, pathMostBytes, tapMostBytes, slotBytes};
-ghost use Rattle.record_rules.specs.Fields.{recordField, slotsBytes, tapFields};
+ghost use Rattle.card.specs.Sizes.{keyBytes, pathMostBytes, tapMostBytes, slotBytes, slotCount};
+ghost use Rattle.record_rules.specs.Fields.{recordField, slotsBytes, slotsTag, tapFields};
 ghost use Rattle.record_rules.specs.Lengths.{headBytes, recordFieldBytes};
 ghost use Rattle.record_fields.specs.Put.{Put};
 use card::Card;
@@ -20,7 +20,9 @@ use card::Slot;
 use card::Tap;
 use record_rules::HEAD_BYTES;
 
-// The tags of the key UID and of the tap record.
+// The tags of the slots, of the key UID and of the tap record.
+const TAG_SLOTS: u8 = 0x24;
+
 const TAG_KEY_UID: u8 = 0x31;
 
 const TAG_TAP: u8 = 0x34;
@@ -53,18 +55,37 @@ fn put_slot(buf: &mut [u8], at: usize, slot: Slot)
     octets::put(buf, at + 1, &key);
 }
 
-// The slots' content: each slot's flag and key, one after the other.
-pub fn slots_bytes(slots: [Slot; Card::SLOTS]) -> [u8; SLOTS_BYTES]
-    ensures { λ r. ⌜ r ≡ slotsBytes slots ⌝ }
+// The content of the first `count` slots, each its flag and its key, at the start of an array that has room for all.
+fn first_slots(slots: [Slot; Card::SLOTS], count: usize) -> [u8; SLOTS_BYTES]
+    requires { ⌜ count ≤ slotCount ⌝ }
+    ensures { λ r. ⌜ take (slotBytes * count) r ≡ slotsBytes (take count slots) ⌝ }
 {
     let mut out = [0u8; SLOTS_BYTES];
     let mut i = 0;
-    while i < Card::SLOTS {
+    while i < count {
         let slot = slots[i];
         put_slot(&mut out, SLOT_BYTES * i, slot);
         i += 1;
     }
     out
+}
+
+// The content of all the slots.
+pub fn slots_bytes(slots: [Slot; Card::SLOTS]) -> [u8; SLOTS_BYTES]
+    ensures { λ r. ⌜ r ≡ slotsBytes slots ⌝ }
+{
+    first_slots(slots, Card::SLOTS)
+}
+
+// Writes the field of the first `count` slots.
+pub fn put_slots(buf: &mut [u8], at: usize, slots: [Slot; Card::SLOTS], count: usize) -> usize
+    requires { ⌜ (count ≤ slotCount) × (at + recordFieldBytes (slotBytes * slotCount) ≤ length (now buf)) ⌝ }
+    ensures { λ r. ⌜ (Put (recordField slotsTag (slotsBytes (take count slots)) ∷ []) at (now (buf .entry)) r (now (buf .exit)))
+        × (r ≤ at + recordFieldBytes (slotBytes * slotCount)) ⌝ }
+{
+    let content = first_slots(slots, count);
+    let content_bytes = SLOT_BYTES * count;
+    put_field(buf, at, TAG_SLOTS, &content[..content_bytes])
 }
 
 // Writes a field whose content are the bytes in use of a room.

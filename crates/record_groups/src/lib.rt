@@ -4,7 +4,7 @@
 ghost use mathlib.Core.Path.{_≡_};
 ghost use Prim.Native.Nat.{_+_, _≤_};
 ghost use lib.ListN.{length};
-ghost use Rattle.card.specs.Sizes.{pathMostBytes};
+ghost use Rattle.card.specs.Sizes.{pathMostBytes, slotCount};
 ghost use Rattle.record_rules.specs.Fields.{identityFields, secretFields, keyFields};
 ghost use Rattle.record_rules.specs.Lengths.{identityFieldsBytes, secretFieldsBytes, keyFieldsMost};
 ghost use Rattle.record_fields.specs.Put.{Put};
@@ -15,7 +15,7 @@ use card::Pins;
 use record_fields::put_field;
 use record_fields::put_key_uid;
 use record_fields::put_path;
-use record_fields::slots_bytes;
+use record_fields::put_slots;
 
 // The fields' tags.
 const TAG_INITIALISED: u8 = 0x10;
@@ -31,8 +31,6 @@ const TAG_PUK: u8 = 0x21;
 const TAG_SECRET: u8 = 0x22;
 
 const TAG_TRIES: u8 = 0x23;
-
-const TAG_SLOTS: u8 = 0x24;
 
 const TAG_KIND: u8 = 0x30;
 
@@ -52,21 +50,21 @@ pub fn put_identity(buf: &mut [u8], initialised: u8, identity: Identity) -> usiz
     put_field(buf, b, TAG_PUBLIC_KEY, &public_key)
 }
 
-pub fn put_secrets(buf: &mut [u8], at: usize, pins: Pins, pairing: Pairing) -> usize
-    requires { ⌜ at + secretFieldsBytes ≤ length (now buf) ⌝ }
-    ensures { λ r. ⌜ (Put (secretFields pins pairing) at (now (buf .entry)) r (now (buf .exit))) × (r ≡ at + secretFieldsBytes) ⌝ }
+// The secrets with the first `slots` slots.
+pub fn put_secrets(buf: &mut [u8], at: usize, pins: Pins, pairing: Pairing, slots: usize) -> usize
+    requires { ⌜ (slots ≤ slotCount) × (at + secretFieldsBytes ≤ length (now buf)) ⌝ }
+    ensures { λ r. ⌜ (Put (secretFields slots pins pairing) at (now (buf .entry)) r (now (buf .exit))) × (r ≤ at + secretFieldsBytes) ⌝ }
 {
     let pin = pins.pin;
     let puk = pins.puk;
     let secret = pairing.secret;
     let tries = [pins.pin_tries, pins.puk_tries];
-    let slots = pairing.slots;
-    let content = slots_bytes(slots);
+    let all = pairing.slots;
     let a = put_field(buf, at, TAG_PIN, &pin);
     let b = put_field(buf, a, TAG_PUK, &puk);
     let c = put_field(buf, b, TAG_SECRET, &secret);
     let d = put_field(buf, c, TAG_TRIES, &tries);
-    put_field(buf, d, TAG_SLOTS, &content)
+    put_slots(buf, d, all, slots)
 }
 
 pub fn put_keys(buf: &mut [u8], at: usize, keys: Keys) -> usize

@@ -1,47 +1,43 @@
--- What the two comparisons say of a sound card: W is the one with field 34, O the one without it. Assumes nothing.
+-- What the tests of the four forms, one after the other, say of a sound card. Assumes nothing.
 use mathlib.Core.Path.{_≡_, refl, sym, ap, _∙_}
-use mathlib.Core.Bool.{Bool, true, false, _&&_, _||_, not, false≢true}
+use mathlib.Core.Bool.{Bool, true, false, _&&_, _||_}
 use mathlib.Core.List.{List}
 use Prim.Native.Nat.{ℕ}
-use Rattle.octets.specs.Bytes.{sameBytes}
 use Rattle.card.specs.declared.Card.{Card}
-use Rattle.card.specs.Slots.{isZero}
+use Rattle.card.specs.Sizes.{slotCount}
+use Rattle.card.specs.Slots.{someOf}
 use Rattle.card.specs.Sound.{isSound}
-use Rattle.record_rules.specs.Fields.{encodeAll, fieldsIn}
+use Rattle.record_rules.specs.declared.Form.{Form}
+use Rattle.record_rules.specs.Forms.{slotCountBefore, forms, isInForm}
 use Rattle.record_rules.specs.Answers.{isRecordOf}
-use Rattle.record_rules.proofs.FormFacts.{two-forms}
 
 module _ (s : List ℕ) (c : Card) (e : isSound c ≡ true) where
-  abbrev W : Bool
-  W = sameBytes (encodeAll (fieldsIn true c)) s
+  abbrev Test : ℕ → Bool → Bool
+  Test n t = isInForm s c (record { slots = n; tapped = t })
 
-  abbrev O : Bool
-  O = sameBytes (encodeAll (fieldsIn false c)) s
+  or-false : (b : Bool) → (b || false) ≡ b
+  or-false true = refl
+  or-false false = refl
 
-  -- before INIT, or with a tap record
-  abbrev N : Bool
-  N = isZero (c .initialised) || not (isZero (c .tap .len))
+  tested : isRecordOf s c ≡ (Test slotCount true || (Test slotCount false || (Test slotCountBefore true || Test slotCountBefore false)))
+  unfolding isRecordOf someOf
+  tested =
+      ap (λ (b : Bool). b && someOf (isInForm s c) forms) e
+      ∙ ap (λ (b : Bool). Test slotCount true || (Test slotCount false || (Test slotCountBefore true || b))) (or-false (Test slotCountBefore false))
 
-  tested : isRecordOf s c ≡ (W || ((not (isZero (c .initialised)) && isZero (c .tap .len)) && O))
-  unfolding isRecordOf
-  tested = rw e (two-forms s c)
+  joined : (a b d : Bool) → Test slotCount true ≡ a → Test slotCount false ≡ b → Test slotCountBefore true ≡ d
+      → (a || (b || (d || Test slotCountBefore false))) ≡ isRecordOf s c
+  joined a b d p q r = sym (tested ∙ rw (p, q, r))
 
-  -- the form without field 34 holds what neither is
-  held : (a b : Bool) → (not a && b) ≡ not (a || not b)
-  held true b = refl
-  held false true = refl
-  held false false = refl
+  pub by-first : Test slotCount true ≡ true → true ≡ isRecordOf s c
+  by-first p = joined true _ _ p refl refl
 
-  by-test : (w n : Bool) → W ≡ w → N ≡ n → isRecordOf s c ≡ (w || (not n && O))
-  by-test w n p q =
-      tested
-      ∙ rw (p, held (isZero (c .initialised)) (isZero (c .tap .len)), q)
+  pub by-second : Test slotCount true ≡ false → Test slotCount false ≡ true → true ≡ isRecordOf s c
+  by-second p q = joined false true _ p q refl
 
-  pub by-written : W ≡ true → true ≡ isRecordOf s c
-  by-written p = sym (by-test true N p refl)
+  pub by-third : Test slotCount true ≡ false → Test slotCount false ≡ false → Test slotCountBefore true ≡ true → true ≡ isRecordOf s c
+  by-third p q r = joined false false true p q r
 
-  pub by-none : W ≡ false → N ≡ true → false ≡ isRecordOf s c
-  by-none p q = sym (by-test false true p q)
-
-  pub by-old : W ≡ false → N ≡ false → O ≡ isRecordOf s c
-  by-old p q = sym (by-test false false p q)
+  pub by-last : Test slotCount true ≡ false → Test slotCount false ≡ false → Test slotCountBefore true ≡ false
+      → Test slotCountBefore false ≡ isRecordOf s c
+  by-last p q r = joined false false false p q r

@@ -5,7 +5,7 @@ use mathlib.Core.List.{List, [], _∷_, _++_, append-assoc, append-nil}
 use Prim.Native.Nat.{ℕ, _+_, _<_}
 use native.Mathlib.Numerals.{add-one}
 use native.Mathlib.Omega.{arith}
-use lib.ListN.{length, take, getD}
+use lib.ListN.{length, take, getD, length-append}
 use lib.Seq.{take-suc}
 use Rattle.card.specs.declared.Slot.{Slot}
 use Rattle.record_rules.specs.Fields.{Field, recordField, encode, encodeAll, slotsBytes}
@@ -25,6 +25,16 @@ encode-one t x = append-nil (encode t x)
 
 pub length-encode-one : (t : ℕ) (x : List ℕ) → length (encodeAll (recordField t x ∷ [])) ≡ recordFieldBytes (length x)
 length-encode-one t x = ap length (encode-one t x) ∙ omega arith
+
+-- how many bytes they are
+abbrev pub total : List Field → ℕ
+total [] = 0
+total (f ∷ more) = recordFieldBytes (length (f .content)) + total more
+
+pub length-all : (fs : List Field) → length (encodeAll fs) ≡ total fs
+unfolding encodeAll
+length-all [] = refl
+length-all (f ∷ fs) = omega (arith, length-append (encode (f .tag) (f .content)) (encodeAll fs), length-all fs)
 
 -- ---- slotsBytes
 pub slots-append : (s t : List Slot) → slotsBytes (s ++ t) ≡ slotsBytes s ++ slotsBytes t

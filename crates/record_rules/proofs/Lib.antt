@@ -1,7 +1,10 @@
 pub mod FieldFacts
 pub mod ParseFacts
+pub mod SlotFacts
 pub mod BlankFacts
 pub mod RecordFacts
 pub mod FormFacts
+pub mod RenewFacts
+pub mod OneForm
 pub mod ReadFacts
 pub mod TapFacts

@@ -8,9 +8,10 @@ use Prim.Native.Nat.{ℕ, zero, suc, _+_, _*_, _≤_}
 use native.Mathlib.Omega.{arith}
 use lib.Dec.{ltb}
 use lib.ListN.{length, drop, length-append}
-use lib.Seq.{length-take-le}
+use lib.Seq.{length-take-le, take-all}
 use borrow.Author.Tests.{le-ltb}
 use Rattle.card.specs.declared.Card.{Card}
+use Rattle.card.specs.declared.Slot.{Slot}
 use Rattle.card.specs.declared.Path.{Path}
 use Rattle.card.specs.Sizes.{uidBytes, publicKeyBytes, keyBytes, pathMostBytes, tapMostBytes, slotBytes, slotCount}
 use Rattle.card.specs.State.{zeros, freshOf, resetOf, keyUid, pathBytes, tapBytes}
@@ -23,13 +24,18 @@ use Rattle.card.proofs.SoundFacts.{fresh-sound, reset-sound, path-lengths, tap-
 use Rattle.sound.specs.declared.Answer.{Answer}
 use Rattle.refusals.specs.Refusals.{noRefusal, unsound, noRoom, notRecord}
 use Rattle.sound.specs.Reset.{done, refused}
-use Rattle.record_rules.specs.Fields.{Field, encode, encodeAll, identityFields, tapTag, ownerFields, fieldsIn, recordOf}
+use Rattle.record_rules.specs.declared.Form.{Form}
+use Rattle.record_rules.specs.Fields.{Field, encode, encodeAll, slotsBytes, identityFields, ownerFields, fieldsIn, writtenForm, recordOf}
 use Rattle.record_rules.specs.Lengths.{recordFieldBytes, recordFresh, recordLeast, recordMost, writeRoom}
-use Rattle.record_rules.specs.Parse.{content, fit, slotsFrom, cardOf}
-use Rattle.record_rules.specs.Forms.{Form, writtenForm, untappedForm, forms, isInForm, Listed, first, later, InForm}
+use Rattle.record_rules.specs.Parse.{field24, content, fit, slotsFrom, cardOf}
+use Rattle.record_rules.specs.Forms.{forms, holds, renewed, isInForm, Listed, first, InForm}
+use Rattle.record_rules.specs.Renewal.{Renewal}
 use Rattle.record_rules.specs.Answers.{writeRefusal, writeBytes, isRecordOf, readAnswer}
+use Rattle.record_rules.proofs.FieldFacts.{length-all}
 use Rattle.record_rules.proofs.ParseFacts.{slots-long}
-use Rattle.record_rules.proofs.FormFacts.{found, passes, of-each, form-describes, reset-in-form, card-in-form}
+use Rattle.record_rules.proofs.FormFacts.{found, passes, held-reset, fields-reset, form-today, reset-in-form, card-in-form}
+use Rattle.record_rules.proofs.RenewFacts.{renewal}
+use Rattle.record_rules.proofs.OneForm.{form-slots, same-form}
 
 -- ---- cardOf
 -- however many slots are read, their keys have their length
@@ -48,7 +54,7 @@ card-of-shaped s = record {
   puk = refl;
   secret = refl;
   slots = refl;
-  keys = slots-keyed slotCount (fit (slotBytes * slotCount) (content s 7));
+  keys = slots-keyed slotCount (fit (slotBytes * slotCount) (content s field24));
   expected = refl;
   keyuid = refl;
   current = refl;
@@ -64,8 +70,8 @@ read-in-form s c w e r =
 
 -- a card's record is in the form that WRITE writes
 pub record-in-form : (c : Card) → InForm (recordOf c) c forms
-unfolding recordOf
-record-in-form c = record { form = writtenForm; listed = first (untappedForm ∷ []); held = refl; bytes = refl }
+unfolding recordOf holds
+record-in-form c = record { form = writtenForm; listed = first _; held = refl; bytes = refl }
 
 pub read-record : (c : Card) → Shaped c → isSound c ≡ true → readAnswer (recordOf c) ≡ done (resetOf c)
 read-record c w e = read-in-form (recordOf c) c w e (record-in-form c)
@@ -144,28 +150,17 @@ record-reset : (c : Card) → recordOf (resetOf c) ≡ recordOf c
 unfolding recordOf fieldsIn
 record-reset c = refl
 
-pub record-renewed : (s : List ℕ) (c : Card) (r : InForm s c forms) → recordOf c ≡ r .form .renewed s
-record-renewed s c r =
-    form-describes (r .form) (r .listed) .today c (r .held) ∙ ap (r .form .renewed) (r .bytes)
+pub record-renewed : (s : List ℕ) (c : Card) → Shaped c → isSound c ≡ true → (r : InForm s c forms) → recordOf c ≡ renewed (r .form) s
+record-renewed s c w e r =
+    form-today (r .form) c w e (r .held) ∙ ap (renewed (r .form)) (r .bytes)
 
--- the two forms by name: the record stays, or an empty field 34 ends it
-abbrev Renews : List ℕ → Form → Type 0
-Renews s f = (f .renewed s ≡ s) ⊎ (f .renewed s ≡ s ++ encode tapTag [])
-
-either-form : (f : Form) → Listed f forms → (s : List ℕ) → Renews s f
-either-form f l s = of-each (Renews s) f forms l (inl refl, (inr refl, tt))
-
-pub record-read : (s : List ℕ) → readAnswer s .refusal ≡ noRefusal
-    → (recordOf (readAnswer s .card) ≡ s) ⊎ (recordOf (readAnswer s .card) ≡ s ++ encode tapTag [])
-record-read s h =
-    let r = read-taken s h in
-    let e = record-renewed s (readAnswer s .card) r in
-    ⊎-elim (λ p. inl (e ∙ p)) (λ p. inr (e ∙ p)) (either-form (r .form) (r .listed) s)
+pub record-read : (s : List ℕ) → readAnswer s .refusal ≡ noRefusal → Renewal s (recordOf (readAnswer s .card))
+record-read s h = renewal s (readAnswer s .card) (read-shaped s h) (read-sound s) (read-taken s h)
 
 module _ (s : List ℕ) (room : ℕ) (e : writeRoom ≤ room) where
   pub write-read : readAnswer s .refusal ≡ noRefusal
       → (writeRefusal (readAnswer s .card) room ≡ noRefusal)
-      × ((writeBytes (readAnswer s .card) room ≡ s) ⊎ (writeBytes (readAnswer s .card) room ≡ s ++ encode tapTag []))
+      × Renewal s (writeBytes (readAnswer s .card) room)
   unfolding writeRefusal writeBytes
   write-read h =
       (rw (read-sound s, le-ltb room writeRoom e), rw (read-sound s, le-ltb room writeRoom e) (record-read s h))
@@ -178,24 +173,14 @@ module _ (s : List ℕ) (room : ℕ) (e : writeRoom ≤ room) where
 
   -- of the record of a sound card, in whichever form
   pub write-renewed : (c : Card) → Shaped c → isSound c ≡ true → (r : InForm s c forms)
-      → writeBytes (readAnswer s .card) room ≡ r .form .renewed s
-  write-renewed c w g r = write-of c (read-in-form s c w g r) ∙ record-renewed s c r
+      → writeBytes (readAnswer s .card) room ≡ renewed (r .form) s
+  write-renewed c w g r = write-of c (read-in-form s c w g r) ∙ record-renewed s c w g r
 
--- ---- the record without field 34, of a card that has no tap record: READ takes it, and WRITE ends it with an empty field 34
-module _ (c : Card) (w : Shaped c) (e : isSound c ≡ true) (i : c .initialised ≡ 1) (n : c .tap .len ≡ 0) where
-  abbrev untapped-in-form : InForm (encodeAll (fieldsIn false c)) c forms
-  untapped-in-form = record {
-    form = untappedForm;
-    listed = later writtenForm (untappedForm ∷ []) (first []);
-    held = rw (i, n);
-    bytes = refl;
-  }
-
-  pub read-untapped : readAnswer (encodeAll (fieldsIn false c)) ≡ done (resetOf c)
-  read-untapped = read-in-form (encodeAll (fieldsIn false c)) c w e untapped-in-form
-
-  pub record-untapped : recordOf c ≡ encodeAll (fieldsIn false c) ++ encode tapTag []
-  record-untapped = record-renewed (encodeAll (fieldsIn false c)) c untapped-in-form
+-- ---- the record of a sound card in a form that holds it: READ takes it
+pub read-held : (f : Form) → Listed f forms → (c : Card) → Shaped c → isSound c ≡ true → holds f c ≡ true
+    → readAnswer (encodeAll (fieldsIn f c)) ≡ done (resetOf c)
+read-held f l c w e h =
+    read-in-form (encodeAll (fieldsIn f c)) c w e (record { form = f; listed = l; held = h; bytes = refl })
 
 -- ---- which bytes READ refuses: those that are no sound card's record in any form
 pub read-refuses : (s : List ℕ) → readAnswer s .refusal ≡ notRecord
@@ -210,21 +195,23 @@ pub one-card : (s : List ℕ) (c d : Card) → Shaped c → Shaped d → isSound
     → InForm s c forms → InForm s d forms → resetOf c ≡ resetOf d
 one-card s c d w v e g r t = sym (card-in-form s c r w e) ∙ card-in-form s d t v g
 
+-- ---- and they are a record in one form alone
+pub one-form : (s : List ℕ) (c d : Card) → Shaped c → Shaped d → isSound c ≡ true → isSound d ≡ true
+    → (r : InForm s c forms) (t : InForm s d forms) → r .form ≡ t .form
+one-form s c d w v e g r t =
+    let k = one-card s c d w v e g r t in
+    let f = t .form in
+    let kept = sym (held-reset f c) ∙ ap (holds f) k ∙ held-reset f d ∙ t .held in
+    let fields = sym (fields-reset f d) ∙ ap (fieldsIn f) (sym k) ∙ fields-reset f c in
+    same-form c w e (r .form) f (r .held) kept (form-slots (r .form) (r .listed)) (form-slots f (t .listed))
+    (r .bytes ∙ sym (t .bytes) ∙ ap encodeAll fields)
+
 -- ---- how long a record is
-abbrev total : List Field → ℕ
-total [] = 0
-total (f ∷ more) = recordFieldBytes (length (f .content)) + total more
-
-length-all : (fs : List Field) → length (encodeAll fs) ≡ total fs
-unfolding encodeAll
-length-all [] = refl
-length-all (f ∷ fs) = omega (arith, length-append (encode (f .tag) (f .content)) (encodeAll fs), length-all fs)
-
 module _ (c : Card) (w : Shaped c) where
   pub length-before : c .initialised ≡ 0 → length (recordOf c) ≡ recordFresh
   unfolding recordOf fieldsIn
   length-before i =
-      ap (λ (n : ℕ). length (encodeAll (identityFields (c .initialised) (c .identity) ++ cond (isZero n) [] (ownerFields true c)))) i
+      ap (λ (n : ℕ). length (encodeAll (identityFields (c .initialised) (c .identity) ++ cond (isZero n) [] (ownerFields writtenForm c)))) i
       ∙ length-all (identityFields (c .initialised) (c .identity))
       ∙ omega (arith, w .uid, w .«public_key»)
 
@@ -241,8 +228,8 @@ module _ (c : Card) (w : Shaped c) where
   pub length-after : c .initialised ≡ 1 → isSound c ≡ true → (recordLeast ≤ length (recordOf c)) × (length (recordOf c) ≤ recordMost)
   unfolding recordOf fieldsIn
   length-after i e =
-      let l = ap (λ (n : ℕ). length (encodeAll (identityFields (c .initialised) (c .identity) ++ cond (isZero n) [] (ownerFields true c)))) i
-      ∙ length-all (identityFields (c .initialised) (c .identity) ++ ownerFields true c) in
+      let l = ap (λ (n : ℕ). length (encodeAll (identityFields (c .initialised) (c .identity) ++ cond (isZero n) [] (ownerFields writtenForm c)))) i
+      ∙ length-all (identityFields (c .initialised) (c .identity) ++ ownerFields writtenForm c) in
       let m = path-lengths c e in
       omega (
         arith,
@@ -254,6 +241,7 @@ module _ (c : Card) (w : Shaped c) where
         w .secret,
         w .slots,
         slots-long (c .pairing .slots) (w .keys),
+        ap (λ (t : List Slot). length (slotsBytes t)) (take-all slotCount (c .pairing .slots) (omega (arith, w .slots))),
         key-length,
         path-length (c .keys .current) (m .0) (w .current),
         path-length (c .keys .pinless) (m .1) (w .pinless),

@@ -1,9 +1,9 @@
 -- The stored record (RULES 10.1): its fields, with tag, order and content, as one table, and the bytes that they make.
 -- Every length is in bytes.
 use Prim.Native.Nat.{ℕ, _/_, _%_}
-use mathlib.Core.Bool.{Bool, true, cond}
+use mathlib.Core.Bool.{true, cond}
 use mathlib.Core.List.{List, [], _∷_, _++_}
-use lib.ListN.{length}
+use lib.ListN.{length, take}
 use Rattle.card.specs.declared.Identity.{Identity}
 use Rattle.card.specs.declared.Pins.{Pins}
 use Rattle.card.specs.declared.Slot.{Slot}
@@ -12,7 +12,9 @@ use Rattle.card.specs.declared.Keys.{Keys}
 use Rattle.card.specs.declared.Tap.{Tap}
 use Rattle.card.specs.declared.Card.{Card}
 use Rattle.card.specs.State.{keyUid, pathBytes, tapBytes}
+use Rattle.card.specs.Sizes.{slotCount}
 use Rattle.card.specs.Slots.{isZero}
+use Rattle.record_rules.specs.declared.Form.{Form}
 
 -- ---- a field: its tag and its content
 pub record Field : Type 0 where
@@ -44,13 +46,17 @@ identityFields initialised i =
     ∷ recordField 0x12 (i .«public_key»)
     ∷ []
 
-abbrev pub secretFields : Pins → Pairing → List Field
-secretFields p q =
+-- the tag of the slots, and the secrets with the first n slots
+abbrev pub slotsTag : ℕ
+slotsTag = 0x24
+
+abbrev pub secretFields : ℕ → Pins → Pairing → List Field
+secretFields n p q =
     recordField 0x20 (p .pin)
     ∷ recordField 0x21 (p .puk)
     ∷ recordField 0x22 (q .secret)
     ∷ recordField 0x23 (p .«pin_tries» ∷ p .«puk_tries» ∷ [])
-    ∷ recordField 0x24 (slotsBytes (q .slots))
+    ∷ recordField slotsTag (slotsBytes (take n (q .slots)))
     ∷ []
 
 abbrev pub keyFields : Keys → List Field
@@ -68,15 +74,20 @@ tapTag = 0x34
 abbrev pub tapFields : Tap → List Field
 tapFields t = recordField tapTag (tapBytes t) ∷ []
 
--- only the record of an initialised card has the fields past the identity; `tapped` says whether field 34 is one of them, as it is in what
--- WRITE writes
-abbrev pub ownerFields : Bool → Card → List Field
-ownerFields tapped c = secretFields (c .pins) (c .pairing) ++ (keyFields (c .keys) ++ cond tapped (tapFields (c .tap)) [])
+-- only the record of an initialised card has the fields past the identity; its form says how many slots are in field 24, and whether field 34
+-- is there
+abbrev pub ownerFields : Form → Card → List Field
+ownerFields f c =
+    secretFields (f .slots) (c .pins) (c .pairing) ++ (keyFields (c .keys) ++ cond (f .tapped) (tapFields (c .tap)) [])
 
-unfoldable pub fieldsIn : Bool → Card → List Field
-fieldsIn tapped c =
-    identityFields (c .initialised) (c .identity) ++ cond (isZero (c .initialised)) [] (ownerFields tapped c)
+unfoldable pub fieldsIn : Form → Card → List Field
+fieldsIn f c =
+    identityFields (c .initialised) (c .identity) ++ cond (isZero (c .initialised)) [] (ownerFields f c)
+
+-- the form that WRITE writes: all the slots, and field 34
+abbrev pub writtenForm : Form
+writtenForm = record { slots = slotCount; tapped = true }
 
 -- the record of a card
 unfoldable pub recordOf : Card → List ℕ
-recordOf c = encodeAll (fieldsIn true c)
+recordOf c = encodeAll (fieldsIn writtenForm c)

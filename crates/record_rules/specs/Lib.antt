@@ -3,3 +3,4 @@ pub mod Lengths
 pub mod Parse
 pub mod Forms
 pub mod Answers
+pub mod Renewal

@@ -39,7 +39,15 @@ content s k = body (behind k s)
 abbrev pub contentStart : List ℕ → ℕ → ℕ
 contentStart s k = length s - length (behind k s) + headBytes
 
--- the number of field 34, counted from 0: three fields of the identity, five of the secrets and four of the keys come before it
+-- the first k fields themselves
+abbrev pub before : ℕ → List ℕ → List ℕ
+before k s = take (length s - length (behind k s)) s
+
+-- the numbers of fields 24 and 34, counted from 0: three fields of the identity, five of the secrets, of which 24 is the last, and four of the
+-- keys come before field 34
+abbrev pub field24 : ℕ
+field24 = 7
+
 abbrev pub field34 : ℕ
 field34 = 12
 
@@ -73,7 +81,7 @@ pinsFrom f = record {
 abbrev pub pairingFrom : (ℕ → List ℕ) → Pairing
 pairingFrom f = record {
   secret = fit keyBytes (f 5);
-  slots = slotsFrom slotCount (fit (slotBytes * slotCount) (f 7));
+  slots = slotsFrom slotCount (fit (slotBytes * slotCount) (f field24));
   pending = 0;
   expected = zeros keyBytes;
 }

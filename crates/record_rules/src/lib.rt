@@ -1,6 +1,7 @@
 // The stored record: the layout that WRITE and READ share, and the lengths that follow from it, all in bytes.
 // The definitions are in specs/: the table of fields, the record of a card, its length, and the card of a record.
-// Proved: READ of WRITE of a sound card is RESET of it, and WRITE of what READ took is the record, byte for byte.
+// Proved: READ of WRITE of a sound card is RESET of it, and WRITE of what READ took is the record, byte for byte in the form that WRITE writes
+// and in an older one as that is renewed.
 use card::KEY_BYTES;
 use card::PATH_MAX_BYTES;
 use card::PIN_BYTES;
@@ -9,6 +10,15 @@ use card::PUK_BYTES;
 use card::SLOTS_BYTES;
 use card::TAP_MAX_BYTES;
 use card::UID_BYTES;
+
+// A form of the record (RULES 10.4): how many slots field 24 holds, and whether field 34 is there.
+pub struct Form {
+    pub slots: usize,
+    pub tapped: bool,
+}
+
+// How many slots field 24 holds in records of versions up to 0.5.0, which READ still takes.
+pub const SLOTS_BEFORE: usize = 5;
 
 // A field's head: a tag of one byte and a length of two.
 pub const HEAD_BYTES: usize = 1 + 2;
@@ -31,7 +41,7 @@ const KEY_FIELDS_MAX_BYTES: usize = KEY_FIELDS_MIN_BYTES
     + PATH_MAX_BYTES
     + PATH_MAX_BYTES;
 
-// The record: before INIT, and the least and the greatest after it, without a tap record and with the longest.
+// The record that WRITE writes: before INIT, and the least and the greatest after it, without a tap record and with the longest.
 pub const RECORD_FRESH_BYTES: usize = IDENTITY_FIELDS_BYTES;
 
 pub const RECORD_MIN_BYTES: usize = IDENTITY_FIELDS_BYTES

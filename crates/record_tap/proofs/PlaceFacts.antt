@@ -34,10 +34,10 @@ module _ (s : List ℕ) where
     len = readAnswer s .card .tap .len
 
     long : length (content s field34) ≡ len
-    long = tap-long s (readAnswer s .card) (read-sound s) (read-taken s h) (read-shaped s h)
+    long = tap-long s (readAnswer s .card) (read-shaped s h) (read-sound s) (read-taken s h)
 
     pub own-within : (len ≡ 0 → ⊥) → len ≤ length s
-    own-within n = tap-within s (readAnswer s .card) (read-sound s) (read-taken s h) (read-shaped s h) n
+    own-within n = tap-within s (readAnswer s .card) (read-shaped s h) (read-sound s) (read-taken s h) n
 
     -- READ takes: no tap record, and one
     pub place-factory : len ≡ 0 → place.Factory ≡ tapPlace s
@@ -47,7 +47,7 @@ module _ (s : List ℕ) where
     pub place-own : (len ≡ 0 → ⊥) → place.Own (length s - len) len ≡ tapPlace s
     unfolding tapPlace
     place-own n =
-        sym (rw (h, long, ne-eqb len 0 n, tap-start s (readAnswer s .card) (read-sound s) (read-taken s h) (read-shaped s h) n))
+        sym (rw (h, long, ne-eqb len 0 n, tap-start s (readAnswer s .card) (read-shaped s h) (read-sound s) (read-taken s h) n))
 
   -- the part is within the record
   pub place-within : endOf (tapPlace s) ≤ length s
@@ -117,7 +117,7 @@ module _ (s f : List ℕ) (h : readAnswer s .refusal ≡ 0) where
   unfolding partAt
   part-tap n =
       sym (ap (λ (p : TapPlace). partAt p s f) (place-own s h n))
-      ∙ tap-inside s (readAnswer s .card) (read-sound s) (read-taken s h) (read-shaped s h) n
+      ∙ tap-inside s (readAnswer s .card) (read-shaped s h) (read-sound s) (read-taken s h) n
 
   pub part-none : readAnswer s .card .tap .len ≡ 0 → tapPart s f ≡ f
   unfolding partAt
@@ -125,4 +125,4 @@ module _ (s f : List ℕ) (h : readAnswer s .refusal ≡ 0) where
 
   -- field 34's content
   pub field-tap : content s field34 ≡ tapBytes (readAnswer s .card .tap)
-  field-tap = tap-content s (readAnswer s .card) (read-sound s) (read-taken s h)
+  field-tap = tap-content s (readAnswer s .card) (read-shaped s h) (read-sound s) (read-taken s h)

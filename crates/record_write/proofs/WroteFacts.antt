@@ -9,7 +9,7 @@ use borrow.Author.Tests.{lt-ltb, le-ltb}
 use Rattle.octets.proofs.Lists.{overwrite-start}
 use Rattle.card.specs.declared.Card.{Card}
 use Rattle.card.specs.Sound.{isSound}
-use Rattle.record_rules.specs.Fields.{fieldsIn, recordOf}
+use Rattle.record_rules.specs.Fields.{fieldsIn, writtenForm, recordOf}
 use Rattle.refusals.specs.Refusals.{noRefusal, unsound, noRoom}
 use Rattle.record_rules.specs.Lengths.{writeRoom}
 use Rattle.record_rules.specs.Answers.{writeRefusal, writeBytes}
@@ -25,7 +25,7 @@ pub wrote-small : (c : Card) (b : List ℕ) → isSound c ≡ true → length b 
 unfolding writeRefusal writeBytes
 wrote-small c b e h = record { told = rw (e, lt-ltb _ _ h); left = rw (e, lt-ltb _ _ h) }
 
-pub wrote-record : (c : Card) (b a : List ℕ) (n : ℕ) → isSound c ≡ true → writeRoom ≤ length b → Put (fieldsIn true c) 0 b n a
+pub wrote-record : (c : Card) (b a : List ℕ) (n : ℕ) → isSound c ≡ true → writeRoom ≤ length b → Put (fieldsIn writtenForm c) 0 b n a
     → WroteRecord c (record { refusal = noRefusal; count = n }) b a
 unfolding writeRefusal writeBytes recordOf
 wrote-record c b a n e h p = record {

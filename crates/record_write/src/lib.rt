@@ -4,7 +4,7 @@
 // not sound is refused with 1, a buffer with less room than any record needs with 2, and then nothing is written.
 ghost use Prim.Native.Nat.{_≤_};
 ghost use lib.ListN.{length};
-ghost use Rattle.card.specs.Sizes.{pathMostBytes, tapMostBytes};
+ghost use Rattle.card.specs.Sizes.{pathMostBytes, tapMostBytes, slotCount};
 ghost use Rattle.record_rules.specs.Fields.{fieldsIn};
 ghost use Rattle.record_rules.specs.Lengths.{writeRoom};
 ghost use Rattle.record_fields.specs.Put.{Put};
@@ -14,6 +14,7 @@ use record_fields::put_tap;
 use record_groups::put_identity;
 use record_groups::put_keys;
 use record_groups::put_secrets;
+use record_rules::Form;
 use record_rules::WRITE_ROOM_BYTES;
 use refusals::REFUSAL_NONE;
 use refusals::REFUSAL_ROOM;
@@ -25,11 +26,11 @@ pub struct Written {
     pub count: usize,
 }
 
-// Writes the record of a card whose paths and tap record are no longer than their room, with field 34 or without it, and gives its length.
-pub fn put_record(buf: &mut [u8], card: Card, tapped: bool) -> usize
+// Writes the record, in a form, of a card whose paths and tap record are no longer than their room, and gives its length.
+pub fn put_record(buf: &mut [u8], card: Card, form: Form) -> usize
     requires { ⌜ (card .keys .current .len ≤ pathMostBytes) × ((card .keys .pinless .len ≤ pathMostBytes)
-        × ((card .tap .len ≤ tapMostBytes) × (writeRoom ≤ length (now buf)))) ⌝ }
-    ensures { λ r. ⌜ (Put (fieldsIn tapped card) 0 (now (buf .entry)) r (now (buf .exit))) × (r ≤ writeRoom) ⌝ }
+        × ((card .tap .len ≤ tapMostBytes) × ((form .slots ≤ slotCount) × (writeRoom ≤ length (now buf))))) ⌝ }
+    ensures { λ r. ⌜ (Put (fieldsIn form card) 0 (now (buf .entry)) r (now (buf .exit))) × (r ≤ writeRoom) ⌝ }
 {
     let identity = card.identity;
     let pins = card.pins;
@@ -40,9 +41,9 @@ pub fn put_record(buf: &mut [u8], card: Card, tapped: bool) -> usize
     if card.initialised == 0 {
         return a;
     }
-    let b = put_secrets(buf, a, pins, pairing);
+    let b = put_secrets(buf, a, pins, pairing, form.slots);
     let c = put_keys(buf, b, keys);
-    if tapped {
+    if form.tapped {
         return put_tap(buf, c, tap);
     }
     c
@@ -64,7 +65,11 @@ pub fn write(card: Card, buf: &mut [u8]) -> Written
             count: 0,
         };
     }
-    let count = put_record(buf, card, true);
+    let form = Form {
+        slots: Card::SLOTS,
+        tapped: true,
+    };
+    let count = put_record(buf, card, form);
     Written {
         refusal: REFUSAL_NONE,
         count,

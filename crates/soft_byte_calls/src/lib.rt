@@ -48,7 +48,7 @@ pub fn fresh(
     ensures { λ r. ⌜ r ≡ cardFlat (freshOf uid «public_key») ⌝ }
 {
     let new = Card::fresh(uid, public_key);
-    soft_card_bytes::record_of(new)
+    soft_card_put::record_of(new)
 }
 
 pub fn sound(bytes: [u8; CARD_BYTES]) -> bool
@@ -63,7 +63,7 @@ pub fn reset(bytes: [u8; CARD_BYTES]) -> CardAnswered
 {
     let found = soft_card_bytes::card_of(bytes);
     let r = sound::reset(found);
-    let card = soft_card_bytes::record_of(r.card);
+    let card = soft_card_put::record_of(r.card);
     CardAnswered {
         refusal: r.refusal,
         count: 0,
@@ -84,7 +84,7 @@ pub fn answer(bytes: [u8; CARD_BYTES], cmd: &[u8], supply: &[u8], buf: &mut [u8]
 {
     let found = soft_card_bytes::card_of(bytes);
     let r = engine::answer(found, cmd, supply, buf);
-    let next = soft_card_bytes::record_of(r.card);
+    let next = soft_card_put::record_of(r.card);
     CardAnswered {
         refusal: r.refusal,
         count: r.count,
@@ -107,7 +107,7 @@ pub fn read(stored: &[u8]) -> CardAnswered
     ensures { λ r. ⌜ r ≡ answerFlat (readAnswer (now (stored .entry))) ⌝ }
 {
     let r = record_read::read(stored);
-    let card = soft_card_bytes::record_of(r.card);
+    let card = soft_card_put::record_of(r.card);
     CardAnswered {
         refusal: r.refusal,
         count: 0,
@@ -129,7 +129,7 @@ pub fn seal(session: [u8; SESSION_BYTES], header: [u8; 4], plain: &[u8], buf: &m
         plain,
         buf,
     );
-    let next = soft_card_bytes::session_bytes(sealed.session);
+    let next = soft_card_put::session_bytes(sealed.session);
     Sealed {
         refusal: sealed.refusal,
         count: sealed.count,
@@ -142,7 +142,7 @@ pub fn unseal(session: [u8; SESSION_BYTES], response: &[u8], buf: &mut [u8]) -> 
 {
     let found = soft_card_bytes::session_of(session);
     let opened = channel_terminal::unseal(found, response, buf);
-    let next = soft_card_bytes::session_bytes(opened.session);
+    let next = soft_card_put::session_bytes(opened.session);
     Sealed {
         refusal: opened.refusal,
         count: opened.count,

@@ -1,4 +1,4 @@
--- A list that is read, or written, from its front on: from what lies before a place to what lies before the next.
+-- A list that is read from its front on: from what lies before a place to what lies before the next.
 -- Every place and length is in bytes.
 -- Assumes nothing.
 use mathlib.Core.Path.{_≡_, refl, sym, ap, ap₂, _∙_}
@@ -6,10 +6,9 @@ use mathlib.Core.List.{List, [], _∷_, _++_, append-assoc}
 use Prim.Native.Nat.{ℕ, zero, suc, _+_, _*_, _≤_, _<_}
 use native.Mathlib.Numerals.{add-one}
 use native.Mathlib.Omega.{arith}
-use lib.ListN.{length, take, drop, getD, set, length-set, length-drop, take-append-drop}
-use lib.Seq.{take-add, take-suc, take-suc-set, length-take-le}
-use Rattle.octets.specs.Bytes.{overwrite}
-use Rattle.octets.proofs.Lists.{take-overwrite, _&_}
+use lib.ListN.{length, take, drop, getD, length-drop, take-append-drop}
+use lib.Seq.{take-add, take-suc, length-take-le}
+use Rattle.octets.proofs.Lists.{_&_}
 use Rattle.card.specs.Sizes.{keyBytes, slotBytes}
 use Rattle.record_rules.specs.Fields.{slotsBytes}
 use Rattle.record_rules.specs.Parse.{fit, slotsFrom}
@@ -33,27 +32,11 @@ read-bytes s at n h e =
 pub read-byte : (s : List ℕ) (at : ℕ) → at < length s → take at s ++ (getD s at 0 ∷ []) ≡ take (at + 1) s
 read-byte s at h = sym (take-suc s at 0 h) ∙ ap (λ (n : ℕ). take n s) (sym (add-one at))
 
--- ---- writing
-pub wrote-bytes : (s : List ℕ) (at n : ℕ) (x : List ℕ) {s′ : List ℕ} → n ≡ length x → at + n ≤ length s → s′ ≡ overwrite s at x
-    → take at s ++ x ≡ take (at + n) s′
-wrote-bytes s at n x l h e =
-    sym (take-overwrite s at x (omega arith))
-    ∙ ap₂ (λ (k : ℕ) (r : List ℕ). take (at + k) r) (sym l) (sym e)
-
-pub wrote-byte : (s : List ℕ) (at b : ℕ) → at < length s → take at s ++ (b ∷ []) ≡ take (at + 1) (set s at b)
-wrote-byte s at b h = sym (take-suc-set s at b h) ∙ ap (λ (n : ℕ). take n (set s at b)) (sym (add-one at))
-
 -- ---- a byte and the n bytes after it: a length in use and its room, whatever the room's length
 pub read-room : (s : List ℕ) (at n : ℕ) → at + (1 + n) ≤ length s → take at s ++ (getD s at 0 ∷ fit n (drop (at + 1) s)) ≡ take (at + (1 + n)) s
 read-room s at n h =
     join (take at s) _ _ (read-byte s at (omega arith)) (read-bytes s (at + 1) n (omega arith) refl)
     ∙ ap (λ (k : ℕ). take k s) {x = at + 1 + n} {y = at + (1 + n)} (omega arith)
-
-pub wrote-room : (s : List ℕ) (at b n : ℕ) (x : List ℕ) {s′ : List ℕ} → n ≡ length x → at + (1 + n) ≤ length s → s′ ≡ overwrite (set s at b) (at + 1) x
-    → take at s ++ (b ∷ x) ≡ take (at + (1 + n)) s′
-wrote-room s at b n x {s′} l h e =
-    join (take at s) _ _ (wrote-byte s at b (omega arith)) (wrote-bytes (set s at b) (at + 1) n x l (omega (arith, length-set s at b)) e)
-    ∙ ap (λ (k : ℕ). take k s′) {x = at + 1 + n} {y = at + (1 + n)} (omega arith)
 
 -- ---- the slots of bytes, as bytes again
 pub slots-again : (n : ℕ) (x : List ℕ) → length x ≡ slotBytes * n → slotsBytes (slotsFrom n x) ≡ x

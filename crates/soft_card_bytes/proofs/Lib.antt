@@ -1,4 +1,2 @@
 pub mod Grown
-pub mod Placed
 pub mod Trips
-pub mod Again

@@ -1,8 +1,6 @@
-// Parts of a slice by their place, in bytes. Where the slice has ended there are zeros.
+// A part of a slice by its place, in bytes. Where the slice has ended there are zeros.
 ghost use mathlib.Core.Path.{_≡_};
-ghost use Prim.Native.Nat.{min};
-ghost use lib.ListN.{length, take, drop, getD};
-ghost use Rattle.octets.specs.Bytes.{overwrite};
+ghost use lib.ListN.{length, drop, getD};
 ghost use Rattle.record_rules.specs.Parse.{fit};
 
 // The byte number i after the place `at`.
@@ -28,20 +26,4 @@ pub fn fill(dst: &mut [u8], s: &[u8], at: usize)
         dst[i] = b;
         i += 1;
     }
-}
-
-// The lesser of two numbers.
-fn least(a: usize, b: usize) -> usize
-    ensures { λ r. ⌜ r ≡ min a b ⌝ }
-{
-    if a < b { a } else { b }
-}
-
-// Puts src into dst, from byte `at` on, as far as dst goes.
-pub fn place(dst: &mut [u8], at: usize, src: &[u8])
-    ensures { λ _. ⌜ now (dst .exit) ≡ take (length (now (dst .entry))) (overwrite (now (dst .entry)) at (now (src .entry))) ⌝ }
-{
-    let from = least(at, dst.len());
-    let n = least(src.len(), dst.len() - from);
-    octets::put(dst, from, &src[..n]);
 }

@@ -129,7 +129,7 @@ pub fn card(d: Desk) {
 
 fn with_bytes(card: [u8; CARD_BYTES], at: usize, bytes: &[u8]) -> [u8; CARD_BYTES] {
     let mut r = card;
-    soft_card_bytes::place(&mut r, at, bytes);
+    soft_card_put::place(&mut r, at, bytes);
     r
 }
 

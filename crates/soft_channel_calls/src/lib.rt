@@ -202,7 +202,7 @@ fn session_given(d: Desk, line: &[u8]) -> Desk {
     if !args::take_exact(line, 3, b"IV", d.last, &mut iv) {
         return d;
     }
-    let session = soft_card_bytes::session_bytes(channel_rules::Session {
+    let session = soft_card_put::session_bytes(channel_rules::Session {
         enc_key,
         mac_key,
         iv,

@@ -78,6 +78,7 @@ pub fn supply(kind: SupplyKind) -> Vec<u8> {
         SupplyKind::Derive => vec![yes],
         SupplyKind::Sign => vec![&POINT, &[0; 31], &[0x80], &[0; 31], &[0x01]],
         SupplyKind::Export => vec![yes, &POINT, &PRIVATE_KEY],
+        other => panic!("no supply of {other} is known here"),
     };
     parts.concat()
 }

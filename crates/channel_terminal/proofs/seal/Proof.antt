@@ -6,7 +6,7 @@ use Prim.Native.Nat.{ℕ, _+_, _≤_}
 use native.Mathlib.Omega.{arith}
 use lib.ListN.{length, length-drop}
 use Rattle.aes_padding.specs.Padding.{paddedBytes}
-use Rattle.channel_seal.proofs.Sealed.{tail-is}
+use Rattle.channel_heads.proofs.Tails.{tail-is}
 use Rattle.channel_seal.proofs.Responses.{response-fits}
 use Rattle.channel_rules.specs.Terminal.{sealOut}
 use Rattle.channel_terminal.proofs.Outcomes.{did-refuse, seal-no-room, seal-too-long}

@@ -8,7 +8,7 @@ use Rattle.channel_terminal.specs.Did.{Did}
 use mathlib.Core.Bool.{Bool}
 use Rattle.octets.specs.Bytes.{sameBytes}
 use Rattle.channel_rules.specs.Terminal.{plainSuccess}
-use Rattle.channel_seal.proofs.Sealed.{tail-is}
+use Rattle.channel_heads.proofs.Tails.{tail-is}
 use Rattle.channel_terminal.proofs.Openings.{too-short}
 use mathlib.Core.Path.{_≡_, refl, sym, ap, _∙_, subst}
 use mathlib.Core.List.{List}

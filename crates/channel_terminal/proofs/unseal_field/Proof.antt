@@ -8,7 +8,7 @@ use lib.ListN.{length, take, length-take}
 use Rattle.channel_rules.specs.Message.{responseHead, openField}
 use Rattle.channel_rules.specs.Terminal.{unsealed}
 use Rattle.channel_terminal.proofs.Outcomes.{did-refuse}
-use Rattle.channel_seal.proofs.Openings.{closed, Holds, holds, held-short, field-long}
+use Rattle.channel_open.proofs.Openings.{closed, Holds, holds, held-short, field-long}
 use Rattle.channel_terminal.proofs.Openings.{unseal-closed, unseal-short, did-unseal}
 use borrow.Author.Needs.{needs}
 use Rattle.channel_terminal.proofs.unseal_field.Statement.{statement}

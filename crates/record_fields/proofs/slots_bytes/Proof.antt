@@ -1,67 +1,26 @@
--- The slots' content. Invariant: what is written is the content of the slots passed.
+-- All the slots: the first ones, as many as there are.
 -- Assumes nothing.
-use mathlib.Core.Path.{_≡_, refl, sym, ap, _∙_}
-use Prim.Native.Nat.{_≤_, _-_, _*_}
+use mathlib.Core.Path.{_≡_, sym, ap, _∙_}
+use Prim.Native.Nat.{_*_}
 use native.Mathlib.Omega.{arith}
-use borrow.Author.Needs.{needs}
-use lib.ListN.{length, take}
+use lib.ListN.{length}
 use lib.Seq.{take-all}
 use Rattle.card.specs.Sizes.{slotBytes, slotCount}
 use Rattle.record_rules.specs.Fields.{slotsBytes}
-use Rattle.record_fields.proofs.Chain.{slots-next}
+use borrow.Author.Needs.{needs}
 use Rattle.record_fields.proofs.slots_bytes.Statement.{statement}
 use Rattle.record_fields.proofs.slots_bytes.Tie as tie
 
-abbrev Inv-loop : tie.InvT-loop
-Inv-loop slots out₀ i₀ out i = (i ≤ slotCount) × ((length slots ≡ slotCount) × ((length out ≡ slotBytes * slotCount) × (take (slotBytes * i) out ≡ slotsBytes (take i slots))))
+first-slots-requires : tie.Need-first-slots-requires
+first-slots-requires c κs = search needs
 
-abbrev μ-loop : tie.MeasureT-loop
-μ-loop slots out₀ i₀ out i = slotCount - i
-
-loop-holds : tie.Need-loop-holds Inv-loop μ-loop
-unfolding slotsBytes
-loop-holds c = (omega arith, (c .good .0 .1 .0 .1, (refl, refl)))
-
-mul-slot : tie.Need-mul-slot Inv-loop μ-loop
-mul-slot c = search needs
-
-array-copy-out-slot : tie.Need-array-copy-out-slot Inv-loop μ-loop
-array-copy-out-slot c = search needs
-
-slice-aggregate-put-slot : tie.Need-slice-aggregate-put-slot Inv-loop μ-loop
-slice-aggregate-put-slot c = search needs
-
-mul-put-slot : tie.Need-mul-put-slot Inv-loop μ-loop
-mul-put-slot c = search needs
-
-put-slot-requires : tie.Need-put-slot-requires Inv-loop μ-loop
-put-slot-requires c κs = search needs
-
-add-i : tie.Need-add-i Inv-loop μ-loop
-add-i c = search needs
-
-loop-less : tie.Need-loop-less Inv-loop μ-loop
-loop-less c = search needs
-
-loop-again : tie.Need-loop-again Inv-loop μ-loop
-loop-again c = (omega arith, (c .before .before .before .before .before .loop .inv .1 .0, (omega arith, slots-next (c .before .before .before .before .before .before .args .t1) (c .before .before .before .before .before .loop .i) _ (c .before .before .before .before .before .loop .out) (c .before .put-slot .last .0) (omega arith) (c .before .put-slot .ensures .0) (omega arith) (c .before .before .before .before .before .loop .inv .1 .1 .1) (c .before .put-slot .ensures .1))))
-
-returns : tie.Need-returns Inv-loop μ-loop
-returns c = sym (take-all (slotBytes * c .before .loop .i) (c .before .loop .out) (omega arith)) ∙ c .before .loop .inv .1 .1 .1 ∙ ap slotsBytes (take-all (c .before .loop .i) (c .before .before .args .t1) (omega arith))
+returns : tie.Need-returns
+returns c =
+    let l : length (c .first-slots .result) ≡ slotBytes * slotCount = search needs in
+    let k : length (c .before .args .slots) ≡ slotCount = search needs in
+    sym (take-all (slotBytes * slotCount) (c .first-slots .result) (omega (arith, l)))
+    ∙ c .first-slots .ensures
+    ∙ ap slotsBytes (take-all slotCount (c .before .args .slots) (omega (arith, k)))
 
 pub slots-bytes-spec : {M : Type 1} → statement M
-slots-bytes-spec =
-    tie.close
-    (tie.spec
-    Inv-loop
-    μ-loop
-    loop-holds
-    mul-slot
-    array-copy-out-slot
-    slice-aggregate-put-slot
-    mul-put-slot
-    put-slot-requires
-    add-i
-    loop-less
-    loop-again
-    returns)
+slots-bytes-spec = tie.close (tie.spec first-slots-requires returns)

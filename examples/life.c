@@ -1,0 +1,169 @@
+#include "life.h"
+
+#include "curve.h"
+#include "hash.h"
+#include "published.h"
+
+#include <stdio.h>
+#include <string.h>
+
+static const char PIN[] = "024680", WRONG_PIN[] = "024681", PUK[] = "918273645546";
+/* m/43'/60'/1581'/0', a chat key: of these paths EXPORT gives the private key too. */
+static const uint8_t CHAT_PATH[] = {0x80, 0x00, 0x00, 0x2B, 0x80, 0x00, 0x00, 0x3C, 0x80, 0x00, 0x06, 0x2D, 0x80, 0x00, 0x00, 0x00};
+enum {
+    EXPORTED_KEY_AT = 2 + 2, /* the public key in EXPORT's response, after A1 length 80 41; then the private key, after 81 20 */
+    EXPORTED_PRIVATE_AT = EXPORTED_KEY_AT + TW_PUBLIC_KEY_BYTES + 2,
+    EXPORTED_BOTH_BYTES = EXPORTED_PRIVATE_AT + TW_KEY_BYTES,
+    STATUS_BYTES = 11, /* GET STATUS's response, and where the PIN's tries are in it */
+    STATUS_TRIES_AT = 4
+};
+
+static struct terminal phone;
+static uint8_t pairing_secret[TW_KEY_BYTES];
+static unsigned checks, failed;
+
+unsigned checks_made(void)
+{
+    return checks;
+}
+
+unsigned checks_failed(void)
+{
+    return failed;
+}
+
+void check(const char *what, int holds)
+{
+    checks++;
+    failed += !holds;
+    printf("%-60s %s\n", what, holds ? "yes" : "NO");
+}
+
+static void answers(const char *what, unsigned status_word, unsigned wanted)
+{
+    checks++;
+    failed += status_word != wanted;
+    printf("%-60s %04X%s\n", what, status_word, status_word == wanted ? "" : ": WRONG");
+}
+
+/* A command over the channel, with P2 00. */
+static unsigned sealed(uint8_t ins, uint8_t p1, const void *data, size_t data_bytes)
+{
+    return terminal_sealed(&phone, ins, p1, 0x00, data, data_bytes);
+}
+
+static int tries_left(unsigned tries)
+{
+    return sealed(TW_INS_GET_STATUS, TW_P1_STATUS_TRIES, "", 0) == TW_SW_SUCCESS && phone.data_bytes == STATUS_BYTES &&
+           phone.data[STATUS_TRIES_AT] == tries;
+}
+
+/* Whether the last answer, one of EXPORT, has this public key. */
+static int exported(const uint8_t public_key[TW_PUBLIC_KEY_BYTES])
+{
+    return phone.data_bytes >= EXPORTED_KEY_AT + TW_PUBLIC_KEY_BYTES &&
+           same_bytes(phone.data + EXPORTED_KEY_AT, public_key, TW_PUBLIC_KEY_BYTES);
+}
+
+/* From a card that nobody owns to one that has a PIN and is paired with this terminal. */
+static void first_contact(void)
+{
+    static const uint8_t off_the_curve[TW_PUBLIC_KEY_BYTES] = {0x04, 0x01};
+    check("a pairing secret, random", random_bytes(pairing_secret, sizeof pairing_secret));
+    answers("SELECT, before INIT", terminal_select(&phone), TW_SW_SUCCESS);
+    answers("INIT: PIN, PUK and pairing secret", terminal_init(&phone, PIN, PUK, pairing_secret), TW_SW_SUCCESS);
+    answers("SELECT, after INIT", terminal_select(&phone), TW_SW_SUCCESS);
+    answers("PAIR, both steps", terminal_pair(&phone, pairing_secret), TW_SW_SUCCESS);
+    answers("OPEN with a point off the curve",
+            terminal_plain(&phone, TW_CLASS_CARD, TW_INS_OPEN, phone.slot, off_the_curve, sizeof off_the_curve), TW_SW_WRONG_DATA);
+    answers("OPEN and MUTUAL: the channel is there", terminal_open(&phone), TW_SW_SUCCESS);
+}
+
+/* A wrong PIN loses a try, and a power cut does not bring it back. */
+static void wrong_pin(void)
+{
+    answers("VERIFY, a wrong PIN", sealed(TW_INS_VERIFY, 0x00, WRONG_PIN, TW_PIN_BYTES), TW_SW_TRIES_LEFT + 2);
+    check("a power cut; the card is read back", power_cut());
+    answers("VERIFY over the old channel: no sealed answer", sealed(TW_INS_VERIFY, 0x00, PIN, TW_PIN_BYTES), 0);
+    answers("OPEN and MUTUAL", terminal_open(&phone), TW_SW_SUCCESS);
+    check("GET STATUS: 2 tries left", tries_left(TW_PIN_TRIES - 1));
+    answers("VERIFY, the right PIN", sealed(TW_INS_VERIFY, 0x00, PIN, TW_PIN_BYTES), TW_SW_SUCCESS);
+    check("GET STATUS: 3 tries again", tries_left(TW_PIN_TRIES));
+}
+
+/* A wallet comes to the card: as keys, in each form that LOAD takes, and at last as a seed. All are one key, and so have one key UID. */
+static void wallet(void)
+{
+    uint8_t public_key[TW_PUBLIC_KEY_BYTES] = {0}, key_uid[TW_KEY_BYTES] = {0};
+    extended_key master = {{0}, {0}};
+    check("the wallet's master key", keys_master(PUBLISHED_SEED, &master) && curve_point(master.private_key, public_key) &&
+                                         keys_uid(public_key, key_uid));
+    for (uint8_t form = 0; form < 4; form++) {
+        const uint8_t p1 = form < 2 ? TW_P1_LOAD_PLAIN : TW_P1_LOAD_EXTENDED;
+        answers(form < 2 ? "LOAD of a plain key" : "LOAD of an extended key",
+                terminal_load(&phone, p1, &master, form % 2 == 0 ? NULL : public_key), TW_SW_SUCCESS);
+        check("it answers the key's UID", phone.data_bytes == TW_KEY_BYTES && same_bytes(phone.data, key_uid, TW_KEY_BYTES));
+    }
+    answers("LOAD with another key's public key", terminal_load(&phone, TW_P1_LOAD_PLAIN, &master, PUBLISHED_PUBLIC_KEY), TW_SW_WRONG_DATA);
+    answers("LOAD of a seed", sealed(TW_INS_LOAD, TW_P1_LOAD_SEED, PUBLISHED_SEED, sizeof PUBLISHED_SEED), TW_SW_SUCCESS);
+    check("it answers the key's UID", phone.data_bytes == TW_KEY_BYTES && same_bytes(phone.data, key_uid, TW_KEY_BYTES));
+    answers("DERIVE of the path", sealed(TW_INS_DERIVE, 0x00, PUBLISHED_PATH, sizeof PUBLISHED_PATH), TW_SW_SUCCESS);
+    tw_wipe(&master, sizeof master);
+}
+
+/* SIGN of a payment's hash: the signature is that of the path's key. */
+static void payment(const char *text)
+{
+    uint8_t hash[SHA256_BYTES] = {0};
+    const uint8_t *public_key = hash, *der = hash;
+    size_t der_bytes = 0;
+    check("the payment's hash", hash_sha256((const uint8_t *)text, strlen(text), hash));
+    answers("SIGN", sealed(TW_INS_SIGN, 0x00, hash, sizeof hash), TW_SW_SUCCESS);
+    const int is_signature = terminal_signature(&phone, &public_key, &der, &der_bytes);
+    check("its public key is the published one of the path",
+          is_signature && same_bytes(public_key, PUBLISHED_PUBLIC_KEY, TW_PUBLIC_KEY_BYTES));
+    check("the signature verifies, with the lower s", is_signature && curve_verify(public_key, hash, der, der_bytes));
+    hash[0] ^= 0x01;
+    check("it is no signature of another payment", is_signature && !curve_verify(public_key, hash, der, der_bytes));
+}
+
+/* What EXPORT gives: public keys, and the private keys of chats. */
+static void exports(void)
+{
+    uint8_t public_key[TW_PUBLIC_KEY_BYTES];
+    answers("EXPORT of the current path, its public key",
+            terminal_sealed(&phone, TW_INS_EXPORT, TW_P1_EXPORT_CURRENT, TW_P2_EXPORT_PUBLIC_ONLY, "", 0), TW_SW_SUCCESS);
+    check("it is the key that signs", exported(PUBLISHED_PUBLIC_KEY));
+    answers("EXPORT of the current path, its private key", sealed(TW_INS_EXPORT, TW_P1_EXPORT_CURRENT, "", 0), TW_SW_CONDITIONS_NOT_MET);
+    answers("EXPORT of a chat key, its private key", sealed(TW_INS_EXPORT, TW_P1_EXPORT_DERIVE, CHAT_PATH, sizeof CHAT_PATH),
+            TW_SW_SUCCESS);
+    check("private and public key belong together", phone.data_bytes == EXPORTED_BOTH_BYTES &&
+                                                        curve_point(phone.data + EXPORTED_PRIVATE_AT, public_key) && exported(public_key));
+}
+
+/* The terminal goes and comes again: wallet and path are there, and PIN and channel have to be given anew. Then the wallet goes. */
+static void another_day(void)
+{
+    check("the terminal goes: RESET", terminal_goes());
+    answers("VERIFY over the old channel: no sealed answer", sealed(TW_INS_VERIFY, 0x00, PIN, TW_PIN_BYTES), 0);
+    check("the host is switched off and on: READ", power_cut());
+    answers("SELECT", terminal_select(&phone), TW_SW_SUCCESS);
+    answers("OPEN and MUTUAL, with the pairing of the first day", terminal_open(&phone), TW_SW_SUCCESS);
+    answers("SIGN without the PIN", sealed(TW_INS_SIGN, 0x00, PUBLISHED_SEED, SHA256_BYTES), TW_SW_CONDITIONS_NOT_MET);
+    answers("VERIFY", sealed(TW_INS_VERIFY, 0x00, PIN, TW_PIN_BYTES), TW_SW_SUCCESS);
+    payment("ten to the baker");
+    answers("REMOVE", sealed(TW_INS_REMOVE, 0x00, "", 0), TW_SW_SUCCESS);
+    answers("SIGN without a key", sealed(TW_INS_SIGN, 0x00, PUBLISHED_SEED, SHA256_BYTES), TW_SW_CONDITIONS_NOT_MET);
+}
+
+void life(void)
+{
+    first_contact();
+    wrong_pin();
+    wallet();
+    payment("five to the grocer");
+    exports();
+    another_day();
+    tw_wipe(pairing_secret, sizeof pairing_secret);
+    tw_wipe(&phone, sizeof phone);
+}
