@@ -1,7 +1,7 @@
 // READ: the card whose stored record a slice is.
 // Every length and place is in bytes.
-// Proved: a card is given exactly where the bytes are the record of a sound card in one of the forms, and then it is that card reset; any other
-// bytes, of any length, are refused with 8 and FRESH of zeros.
+// Proved: a card is given exactly where the bytes are the record of a sound card in one of the forms, and then it is that card
+// reset; any other bytes, of any length, are refused with 8 and FRESH of zeros.
 ghost use mathlib.Core.Path.{_≡_};
 ghost use mathlib.Core.Bool.{true};
 ghost use Rattle.record_rules.specs.Forms.{holds, isInForm};

@@ -19,7 +19,7 @@ use Rattle.card.specs.Shape.{Shaped}
 use Rattle.card.specs.Slots.{allOf, someOf, isZero, isFree}
 use Rattle.card.specs.Sound.{isSound}
 use Rattle.card.proofs.Tests.{both, all-done}
-use Rattle.card.proofs.Rules.{Before, After, parts-rules, pairing-rules, sound-cases}
+use Rattle.card.proofs.Rules.{Before, After, sound-cases}
 use Rattle.record_rules.specs.declared.Form.{Form}
 use Rattle.record_rules.specs.Fields.{Field, recordField, encode, encodeAll, slotsBytes, identityFields, keyFields, slotsTag, tapTag, tapFields, ownerFields, fieldsIn, writtenForm, recordOf}
 use Rattle.record_rules.specs.Parse.{field24, behind, before, content, fit, cardOf}
@@ -27,7 +27,7 @@ use Rattle.record_rules.specs.Forms.{slotCountBefore, forms, isWritten, 
 use Rattle.record_rules.proofs.FieldFacts.{encode-append, encode-one}
 use Rattle.record_rules.proofs.ParseFacts.{firstContent, content-all, behind-all}
 use Rattle.record_rules.proofs.SlotFacts.{slots-fit}
-use Rattle.record_rules.proofs.RecordFacts.{table, card-record}
+use Rattle.record_rules.proofs.RecordFacts.{table, slots-sound, card-record}
 
 -- ---- the test over a list of forms: some form of the list has the bytes as the card's record
 module _ (s : List ℕ) (c : Card) where
@@ -152,7 +152,7 @@ module _ (f : Form) (c : Card) (w : Shaped c) (e : isSound c ≡ true) (h : hold
   slots-all : After c → slotsBytes (take slotCount (c .pairing .slots)) ≡ fit (slotBytes * slotCount) (slotsBytes (take (f .slots) (c .pairing .slots)))
   slots-all a =
       ap slotsBytes (take-all slotCount (c .pairing .slots) (omega (arith, w .slots)))
-      ∙ sym (slots-fit 1 (f .slots) slotCount (c .pairing .slots) (w .keys) (pairing-rules (c .pairing) (parts-rules c (a .parts) .pairing) .slots) (held f c w h .free) (w .slots))
+      ∙ sym (slots-fit 1 (f .slots) slotCount (c .pairing .slots) (w .keys) (slots-sound c a) (held f c w h .free) (w .slots))
 
   widens : After c → encodeAll (fieldsIn full c) ≡ unless (eqb (f .slots) slotCount) widened (encodeAll (fieldsIn f c))
   unfolding encodeAll

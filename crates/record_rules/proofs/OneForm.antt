@@ -4,25 +4,25 @@ use mathlib.Core.Path.{_≡_, refl, sym, ap, ap₂, _∙_}
 use mathlib.Core.Bool.{Bool, true, false, cond}
 use mathlib.Core.Logic.{⊎-elim}
 use mathlib.Core.List.{List, []}
-use Prim.Native.Nat.{ℕ, _+_, _*_, _-_, _≤_}
+use Prim.Native.Nat.{ℕ, _*_, _≤_}
 use native.Mathlib.Omega.{arith}
-use lib.ListN.{length, take, drop, length-append, length-drop, length-replicate}
+use lib.ListN.{length, take}
 use Rattle.card.specs.declared.Card.{Card}
 use Rattle.card.specs.declared.Tap.{Tap}
 use Rattle.card.specs.Sizes.{slotBytes, slotCount}
-use Rattle.card.specs.State.{zeros, tapBytes}
+use Rattle.card.specs.State.{tapBytes}
 use Rattle.card.specs.Shape.{Shaped}
 use Rattle.card.specs.Slots.{isZero}
 use Rattle.card.specs.Sound.{isSound}
-use Rattle.card.proofs.Rules.{Before, After, parts-rules, pairing-rules, sound-cases}
+use Rattle.card.proofs.Rules.{Before, After, sound-cases}
 use Rattle.record_rules.specs.declared.Form.{Form}
 use Rattle.record_rules.specs.Fields.{encodeAll, slotsBytes, tapTag, tapFields, fieldsIn}
 use Rattle.record_rules.specs.Parse.{field24, field34, behind, content}
 use Rattle.record_rules.specs.Forms.{forms, holds, Listed}
 use Rattle.record_rules.proofs.FieldFacts.{length-encode-one}
-use Rattle.record_rules.proofs.ParseFacts.{content-all, behind-all, slots-long}
-use Rattle.record_rules.proofs.SlotFacts.{slots-full}
-use Rattle.record_rules.proofs.RecordFacts.{table}
+use Rattle.record_rules.proofs.ParseFacts.{content-all, behind-all}
+use Rattle.record_rules.proofs.SlotFacts.{slots-first}
+use Rattle.record_rules.proofs.RecordFacts.{table, slots-sound}
 use Rattle.record_rules.proofs.FormFacts.{held, table-after, of-each}
 
 -- no form has more slots than the card
@@ -42,16 +42,7 @@ module _ (c : Card) (w : Shaped c) (e : isSound c ≡ true) where
   slots-length : (f : Form) → After c → holds f c ≡ true → f .slots ≤ slotCount
       → length (slotsBytes (take (f .slots) (c .pairing .slots))) ≡ slotBytes * f .slots
   slots-length f a h m =
-      omega (
-        arith,
-        m,
-        ap length (slots-full 1 (f .slots) (c .pairing .slots) (w .keys) (pairing-rules (c .pairing) (parts-rules c (a .parts) .pairing) .slots) (held f c w h .free)),
-        length-append (slotsBytes (take (f .slots) (c .pairing .slots))) (zeros (slotBytes * length (drop (f .slots) (c .pairing .slots)))),
-        length-replicate {A = ℕ} (slotBytes * length (drop (f .slots) (c .pairing .slots))) 0,
-        length-drop (f .slots) (c .pairing .slots),
-        slots-long (c .pairing .slots) (w .keys),
-        w .slots,
-      )
+      slots-first 1 (f .slots) slotCount (c .pairing .slots) (w .keys) (slots-sound c a) (held f c w h .free) (w .slots) m
 
   module _ (f g : Form) (h : holds f c ≡ true) (k : holds g c ≡ true) where
     same-before : Before c → f ≡ g

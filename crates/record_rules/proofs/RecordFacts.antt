@@ -17,7 +17,7 @@ use Rattle.card.specs.declared.Card.{Card}
 use Rattle.card.specs.Sizes.{uidBytes, publicKeyBytes, pinBytes, pukBytes, keyBytes, slotBytes, slotCount}
 use Rattle.card.specs.State.{zeros, resetOf, closedOf, unverified, notPending, pathBytes}
 use Rattle.card.specs.Shape.{Shaped}
-use Rattle.card.specs.Slots.{allOf, isZero, allZero, isFree}
+use Rattle.card.specs.Slots.{allOf, isZero, allZero, isFree, slotWithin}
 use Rattle.card.specs.Sound.{isSound}
 use Rattle.card.proofs.Rules.{Before, After, KeysRules, parts-rules, pairing-rules, keys-rules, tap-rules, blank-rules, sound-cases}
 use Rattle.record_rules.specs.declared.Form.{Form}
@@ -48,6 +48,10 @@ same-card i {d} {e} {p} {r} {q} {t} {k} {m} {n} {o} f g h j l =
     ∙ ap {B = Card} (λ (x : Tap). resetCard i e r t m x) l
 
 -- ---- after INIT
+-- each slot is sound
+pub slots-sound : (c : Card) → After c → allOf (slotWithin 1) (c .pairing .slots) ≡ true
+slots-sound c a = pairing-rules (c .pairing) (parts-rules c (a .parts) .pairing) .slots
+
 module _ (f : Form) (c : Card) (w : Shaped c) where
   identity-back : _≡_ {A = Identity} (record { uid = fit uidBytes (c .identity .uid); «public_key» = fit publicKeyBytes (c .identity .«public_key») }) (c .identity)
   identity-back =
@@ -67,7 +71,7 @@ module _ (f : Form) (c : Card) (w : Shaped c) where
   slots-here : After c → Free
       → slotsFrom slotCount (fit (slotBytes * slotCount) (slotsBytes (take (f .slots) (c .pairing .slots)))) ≡ c .pairing .slots
   slots-here a h =
-      slots-again 1 (f .slots) slotCount (c .pairing .slots) (w .keys) (pairing-rules (c .pairing) (parts-rules c (a .parts) .pairing) .slots) h (w .slots)
+      slots-again 1 (f .slots) slotCount (c .pairing .slots) (w .keys) (slots-sound c a) h (w .slots)
 
   pairing-back : After c → Free → pairingFrom (λ k. firstContent (drop k (table f c))) ≡ notPending (c .pairing)
   pairing-back a h =

@@ -5,14 +5,14 @@ use mathlib.Core.Logic.{⊎-elim}
 use mathlib.Core.List.{List, [], _∷_, _++_, append-assoc}
 use Prim.Native.Nat.{ℕ, suc, _*_, _/_, _%_}
 use native.Mathlib.Omega.{arith}
-use lib.ListN.{length, take, drop, length-append, length-drop, length-replicate}
+use lib.ListN.{length, take, drop, length-append}
 use Rattle.card.specs.declared.Card.{Card}
 use Rattle.card.specs.Sizes.{slotBytes, slotCount}
 use Rattle.card.specs.State.{zeros}
 use Rattle.card.specs.Shape.{Shaped}
 use Rattle.card.specs.Slots.{isZero}
 use Rattle.card.specs.Sound.{isSound}
-use Rattle.card.proofs.Rules.{After, parts-rules, pairing-rules, sound-cases}
+use Rattle.card.proofs.Rules.{After, sound-cases}
 use Rattle.record_rules.specs.declared.Form.{Form}
 use Rattle.record_rules.specs.Fields.{Field, recordField, encode, encodeAll, slotsBytes, slotsTag, fieldsIn, recordOf}
 use Rattle.record_rules.specs.Parse.{field24, fit}
@@ -20,9 +20,9 @@ use Rattle.record_rules.specs.Forms.{slotCountBefore, forms, holds, wide
 use Rattle.record_rules.specs.Renewal as made
 use Rattle.record_rules.specs.Renewal.{Widened, Renewal}
 use Rattle.record_rules.proofs.FieldFacts.{encode-append, length-all}
-use Rattle.record_rules.proofs.ParseFacts.{fit-pad, slots-long}
-use Rattle.record_rules.proofs.SlotFacts.{slots-full}
-use Rattle.record_rules.proofs.RecordFacts.{table}
+use Rattle.record_rules.proofs.ParseFacts.{fit-pad}
+use Rattle.record_rules.proofs.SlotFacts.{slots-first}
+use Rattle.record_rules.proofs.RecordFacts.{table, slots-sound}
 use Rattle.record_rules.proofs.FormFacts.{held, widened-all, table-after, form-today, of-each}
 
 -- a card that a form with five slots holds is initialised
@@ -51,16 +51,8 @@ module _ (f : Form) (c : Card) (w : Shaped c) (e : isSound c ≡ true) (h : hold
 
   long : length slots ≡ 165
   long =
-      omega (
-        arith,
-        n,
-        ap length (slots-full 1 (f .slots) (c .pairing .slots) (w .keys) (pairing-rules (c .pairing) (parts-rules c (after .parts) .pairing) .slots) (held f c w h .free)),
-        length-append slots (zeros (slotBytes * length (drop (f .slots) (c .pairing .slots)))),
-        length-replicate {A = ℕ} (slotBytes * length (drop (f .slots) (c .pairing .slots))) 0,
-        length-drop (f .slots) (c .pairing .slots),
-        slots-long (c .pairing .slots) (w .keys),
-        w .slots,
-      )
+      slots-first 1 (f .slots) slotCount (c .pairing .slots) (w .keys) (slots-sound c after) (held f c w h .free) (w .slots) (omega (arith, n))
+      ∙ ap (λ (k : ℕ). slotBytes * k) n
 
   split : encodeAll (fieldsIn f c) ≡ front ++ (0x24 ∷ 0x00 ∷ 0xA5 ∷ slots ++ back)
   unfolding encodeAll

@@ -6,7 +6,7 @@ use mathlib.Core.List.{List, [], _∷_, _++_, append-assoc}
 use Prim.Native.Nat.{ℕ, zero, suc, _+_, _*_, _≤_}
 use native.Mathlib.Omega.{arith}
 use lib.Dec.{leb}
-use lib.ListN.{length, take, drop, length-append, length-replicate, replicate-append-replicate}
+use lib.ListN.{length, take, drop, length-append, length-drop, length-replicate, replicate-append-replicate}
 use borrow.Author.Tests.{eqb-true}
 use Rattle.octets.proofs.Lists.{_&_}
 use Rattle.card.specs.declared.Slot.{Slot}
@@ -60,6 +60,20 @@ module _ (most : ℕ) where
           length-replicate {A = ℕ} (slotBytes * length (drop n s)) 0,
         ))
         ∙ slots-full n s l w e
+
+    -- how long the first n are
+    pub slots-first : n ≤ m → length (slotsBytes (take n s)) ≡ slotBytes * n
+    slots-first h =
+        omega (
+          arith,
+          h,
+          k,
+          slots-long s l,
+          ap length (slots-full n s l w e),
+          length-append (slotsBytes (take n s)) (zeros (slotBytes * length (drop n s))),
+          length-replicate {A = ℕ} (slotBytes * length (drop n s)) 0,
+          length-drop n s,
+        )
 
     -- the slots that these bytes describe
     pub slots-again : slotsFrom m (fit (slotBytes * m) (slotsBytes (take n s))) ≡ s

@@ -1,7 +1,7 @@
 // The stored record: the layout that WRITE and READ share, and the lengths that follow from it, all in bytes.
 // The definitions are in specs/: the table of fields, the record of a card, its length, and the card of a record.
-// Proved: READ of WRITE of a sound card is RESET of it, and WRITE of what READ took is the record, byte for byte in the form that WRITE writes
-// and in an older one as that is renewed.
+// Proved: READ of WRITE of a sound card is RESET of it, and WRITE of what READ took is the record: byte for byte in the form that
+// WRITE writes, and in an older one as that is renewed.
 use card::KEY_BYTES;
 use card::PATH_MAX_BYTES;
 use card::PIN_BYTES;

@@ -1,7 +1,7 @@
 // The card of a record's bytes (docs/LAYOUT.md), and the session of a session's bytes, for the soft card.
 // Every length and place is in bytes.
-// Proved: the card of such bytes has each field from its place in the layout (`cardAt`), and its fields in the layout's order (`cardFlat`) are
-// the bytes given. A session likewise.
+// Proved: the card of such bytes has each field from its place in the layout (`cardAt`), and its fields in the layout's order
+// (`cardFlat`) are the bytes given. A session likewise.
 mod parts;
 
 ghost use mathlib.Core.Path.{_≡_};

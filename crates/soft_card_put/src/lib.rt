@@ -1,7 +1,7 @@
 // The bytes of a card's record (docs/LAYOUT.md), and of a session, for the soft card: each part is put after what lies before it.
 // Every length and place is in bytes.
-// Proved: the bytes of a card are its fields in the layout's order (`cardFlat`), those of a session likewise, and the card or session of such
-// bytes is the one that they were made of.
+// Proved: the bytes of a card are its fields in the layout's order (`cardFlat`), those of a session likewise, and the card or
+// session of such bytes is the one that they were made of.
 mod parts;
 
 ghost use mathlib.Core.Path.{_≡_};
@@ -9,7 +9,8 @@ ghost use mathlib.Core.List.{_++_};
 ghost use Prim.Native.Nat.{_+_, _≤_};
 ghost use lib.ListN.{take};
 ghost use Rattle.card.specs.Sizes.{wholePathBytes, cardBytes};
-ghost use Rattle.soft_card_bytes.specs.Flat.{identityFlat, pinsFlat, pairingFlat, pathFlat, keysFlat, channelFlat, tapFlat, cardFlat, sessionFlat};
+ghost use Rattle.soft_card_bytes.specs.Flat.{identityFlat, pinsFlat, pairingFlat, pathFlat, keysFlat, channelFlat, tapFlat};
+ghost use Rattle.soft_card_bytes.specs.Flat.{cardFlat, sessionFlat};
 ghost use Rattle.soft_card_bytes.specs.Offsets.{identityOffset, pinsOffset, pairingOffset, keysOffset, channelOffset, tapOffset};
 use card::Card;
 use card::Channel;
