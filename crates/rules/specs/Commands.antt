@@ -11,6 +11,7 @@ use Rattle.octets.specs.Bytes.{sameBytes}
 use Rattle.aes_rules.specs.Aes.{invAes256}
 use Rattle.aes_cbc.specs.Mode.{cbcDecrypt}
 use Rattle.aes_padding.specs.Padding.{unpad}
+use Rattle.sha_rules.specs.Hash.{sha256}
 use Rattle.card.specs.declared.Identity.{Identity}
 use Rattle.card.specs.declared.Pins.{Pins}
 use Rattle.card.specs.declared.Slot.{Slot}
@@ -26,6 +27,9 @@ use Rattle.card_slots.specs.declared.Free.{Free}
 use Rattle.card_slots.specs.declared.Free.the-variants as free
 use Rattle.card_slots.specs.Free.{firstFree}
 use Rattle.template_keypair.specs.Keypair.{keypair}
+use Rattle.template_walk.specs.declared.Walked.{Walked}
+use Rattle.template_walk.specs.declared.Walked.the-variants.{Fields, Refused}
+use Rattle.template_walk.specs.Walk.{walkOf}
 use Rattle.template_answers.specs.Answers as answer
 use Rattle.rules.specs.declared.StatusKind.{StatusKind}
 use Rattle.rules.specs.declared.StatusKind.the-variants as status
@@ -40,8 +44,8 @@ use Rattle.rules.specs.declared.ExportPart.the-variants as exportPart
 use Rattle.rules.specs.declared.Command.{Command}
 use Rattle.rules.specs.declared.Command.the-variants as command
 use Rattle.rules.specs.Words.{triesLeft, securityNotMet, referenceInvalid, conditionsNotMet, wrongData, notFound, noSpace, wrongParameters, Check, must, Reply, succeeds, fails}
-use Rattle.rules.specs.Supplies.{noSupply, initSupply, openSupply, mutualSupply, pairFirstSupply, pairFinalSupply, loadSupply, deriveSupply, signSupply, exportSupply, saysYes, part, initKey, openEncKey, openMacKey, openSalt, openIv, mutualRandom, pairCryptogram, pairChallenge, pairExpected, pairSalt, pairKey, loadUid, signKey, signR, signS, exportPublic, exportPrivate}
-use Rattle.rules.specs.Rules.{Secret, pin, puk, Rule, rule, comparing}
+use Rattle.rules.specs.Supplies.{noSupply, initSupply, openSupply, mutualSupply, pairFirstSupply, pairFinalSupply, loadSupply, deriveSupply, signSupply, exportSupply, saysYes, part, initKey, openEncKey, openMacKey, openSalt, openIv, mutualRandom, pairChallenge, pairSalt, loadPublic, signKey, signR, signS, exportPublic, exportPrivate}
+use Rattle.rules.specs.Rules.{Secret, pin, puk, noFault, Rule, rule, placing, comparing}
 
 -- ---- what several commands ask (RULES 6.2)
 abbrev pub isVerified : Pins → Bool
@@ -144,7 +148,12 @@ inStage2 k = record { stage = 2; «enc_key» = k .«enc_key»; «mac_key» = k .
 unfoldable pub mutualReply : Card → List ℕ → Reply
 mutualReply c s = succeeds (withChannel c (inStage2 (c .channel))) (mutualRandom s)
 
--- ---- PAIR 12, first (RULES 6.8)
+-- ---- PAIR 12 (RULES 6.8): what is computed from the pairing secret, which comes first in each: a cryptogram from the challenge of the other
+-- side, and the pairing key from the salt
+abbrev pub withSecret : Pairing → List ℕ → List ℕ
+withSecret p x = sha256 (p .secret ++ x)
+
+-- PAIR 12, first (RULES 6.8): the data are the client's challenge
 unfoldable pub pairFirstChecks : Pairing → ℕ → List ℕ → List Check
 pairFirstChecks p stage d =
     must (not (eqb stage 2)) conditionsNotMet
@@ -155,8 +164,11 @@ pairFirstChecks p stage d =
 abbrev pub pendingWith : Pairing → List ℕ → Pairing
 pendingWith p expected = record { secret = p .secret; slots = p .slots; pending = 1; expected = expected }
 
-unfoldable pub pairFirstReply : Card → List ℕ → Reply
-pairFirstReply c s = succeeds (withPairing c (pendingWith (c .pairing) (pairExpected s))) (pairCryptogram s ++ pairChallenge s)
+-- the cryptogram that the client will have to send is kept
+unfoldable pub pairFirstReply : Card → List ℕ → List ℕ → Reply
+pairFirstReply c d s =
+    succeeds (withPairing c (pendingWith (c .pairing) (withSecret (c .pairing) (pairChallenge s))))
+    (withSecret (c .pairing) d ++ pairChallenge s)
 
 -- PAIR 12, final (RULES 6.8): the data are the client cryptogram
 unfoldable pub pairFinalChecks : Pairing → ℕ → List ℕ → List Check
@@ -176,7 +188,8 @@ filledWith k = record { filled = 1; key = k }
 
 -- a pending pairing has a free slot, so that Full does not occur here (law `pending-slot`)
 unfoldable pub pairInto : Card → List ℕ → Free → Reply
-pairInto c s (free.At i) = succeeds (withPairing c (withSlot (notPending (c .pairing)) i (filledWith (pairKey s)))) (i ∷ pairSalt s)
+pairInto c s (free.At i) =
+    succeeds (withPairing c (withSlot (notPending (c .pairing)) i (filledWith (withSecret (c .pairing) (pairSalt s))))) (i ∷ pairSalt s)
 pairInto c s free.Full = fails (forgotten c) noSpace
 
 unfoldable pub pairFinalReply : Card → List ℕ → Reply
@@ -277,8 +290,22 @@ loadChecks p form d = must (isVerified p) conditionsNotMet ∷ must (isKeyData f
 abbrev pub keyWith : ℕ → List ℕ → Keys
 keyWith kind uid = record { kind = kind; uid = uid; current = emptyPath; pinless = emptyPath }
 
+-- the key UID is computed from the supplied public key; a public key in the template is not looked at
+abbrev pub uidOf : List ℕ → List ℕ
+uidOf s = sha256 (loadPublic s)
+
 unfoldable pub loadReply : Card → KeyForm → List ℕ → Reply
-loadReply c form s = cond (saysYes s) (succeeds (withKeys c (keyWith (kindOf form) (loadUid s))) (loadUid s)) (fails c wrongData)
+loadReply c form s = cond (saysYes s) (succeeds (withKeys c (keyWith (kindOf form) (uidOf s))) (uidOf s)) (fails c wrongData)
+
+-- the fault offset (RULES 5.9): where WALK refuses a template, how many bytes come before the tag of the faulty field; a seed is none
+abbrev pub placeIn : Walked → ℕ
+placeIn (Fields n) = noFault
+placeIn (Refused f at) = at
+
+unfoldable pub loadPlace : KeyForm → List ℕ → ℕ
+loadPlace key.Keypair d = placeIn (walkOf d)
+loadPlace key.Extended d = placeIn (walkOf d)
+loadPlace key.Seed d = noFault
 
 -- ---- DERIVE D1 (RULES 6.15): an extended key, and a verified PIN or a PIN-less path
 unfoldable pub deriveChecks : Pins → Keys → List ℕ → List Check
@@ -379,14 +406,15 @@ ruleOf command.Select = rule (λ c d. selectChecks d) noSupply (λ c d s. select
 ruleOf command.Init = rule (λ c d. initChecks d) initSupply initReply
 ruleOf (command.Open i) = rule (λ c d. openChecks (c .pairing .slots) i d) openSupply (λ c d s. openReply c s)
 ruleOf command.Mutual = rule (λ c d. mutualChecks (c .channel .stage) d) mutualSupply (λ c d s. mutualReply c s)
-ruleOf command.PairFirst = rule (λ c d. pairFirstChecks (c .pairing) (c .channel .stage) d) pairFirstSupply (λ c d s. pairFirstReply c s)
+ruleOf command.PairFirst = rule (λ c d. pairFirstChecks (c .pairing) (c .channel .stage) d) pairFirstSupply pairFirstReply
 ruleOf command.PairFinal = rule (λ c d. pairFinalChecks (c .pairing) (c .channel .stage) d) pairFinalSupply (λ c d s. pairFinalReply c s)
 ruleOf (command.Unpair i) = rule (λ c d. unpairChecks (c .pins)) noSupply (λ c d s. unpairReply c i)
 ruleOf (command.Status which) = rule (λ c d. []) noSupply (λ c d s. statusReply c which)
 ruleOf command.Verify = comparing pin (λ c d. verifyChecks (c .pins)) (λ right c d. verifyReply right c)
 ruleOf (command.Change which) = rule (λ c d. changeChecks (c .pins) which d) noSupply (λ c d s. changeReply c which d)
 ruleOf command.Unblock = comparing puk (λ c d. unblockChecks (c .pins) d) (λ right c d. unblockReply right c (drop 12 d))
-ruleOf (command.Load form) = rule (λ c d. loadChecks (c .pins) form d) loadSupply (λ c d s. loadReply c form s)
+ruleOf (command.Load form) =
+    placing (loadPlace form) (rule (λ c d. loadChecks (c .pins) form d) loadSupply (λ c d s. loadReply c form s))
 ruleOf command.Derive = rule (λ c d. deriveChecks (c .pins) (c .keys) d) deriveSupply deriveReply
 ruleOf command.Remove = rule (λ c d. removeChecks (c .pins)) noSupply (λ c d s. removeReply c)
 ruleOf command.SetPinless = rule (λ c d. pinlessChecks (c .pins) d) noSupply (λ c d s. pinlessReply c d)

@@ -9,6 +9,7 @@ use Rattle.card.specs.declared.Card.{Card}
 use Rattle.card.specs.Sound.{isSound}
 use Rattle.rules.specs.Supplies.{suits}
 use Rattle.rules.specs.Channel.{Outgoing}
+use Rattle.rules.specs.Rules.{noFault}
 use Rattle.rules.specs.Steps.{Decision, decide}
 
 -- ---- ASK (RULES 3.5): which supply ANSWER will read, with the command's data for it; nothing where ANSWER reads none
@@ -29,21 +30,26 @@ unfoldable pub askOut : Card → List ℕ → ℕ → AskOut
 askOut c cmd room =
     cond (isSound c) (cond (ltb room askRoom) (askRefused noRoom) (asked (decide c cmd))) (askRefused unsound)
 
--- ---- ANSWER (RULES 3.6): the next card, and the bytes of the answer; a refusal gives back the card that it was given (RULES 3.2)
+-- ---- ANSWER (RULES 3.6): the next card, the bytes of the answer, and the fault offset (RULES 5.9); a refusal gives back the card that it was given
+-- (RULES 3.2), and tells no fault
 pub record AnswerOut : Type 0 where
   pub refusal : ℕ
   pub card : Card
   pub bytes : List ℕ
+  pub fault : ℕ
 
 abbrev pub answerRefused : Card → ℕ → AnswerOut
-answerRefused c n = record { refusal = n; card = c; bytes = [] }
+answerRefused c n = record { refusal = n; card = c; bytes = []; fault = noFault }
 
--- not refused (RULES 3.6)
+-- not refused (RULES 3.6), with this fault offset; and with none
+abbrev pub answeredAt : ℕ → Outgoing → AnswerOut
+answeredAt n t = record { refusal = noRefusal; card = t .card; bytes = t .bytes; fault = n }
+
 abbrev pub answered : Outgoing → AnswerOut
-answered t = record { refusal = noRefusal; card = t .card; bytes = t .bytes }
+answered t = answeredAt noFault t
 
 abbrev pub withSupply : Card → Decision → List ℕ → AnswerOut
-withSupply c d s = cond (suits (d .supply) s) (answered (d .answer s)) (answerRefused c wrongSupply)
+withSupply c d s = cond (suits (d .supply) s) (answeredAt (d .fault) (d .answer s)) (answerRefused c wrongSupply)
 
 unfoldable pub answerOut : Card → List ℕ → List ℕ → ℕ → AnswerOut
 answerOut c cmd s room =

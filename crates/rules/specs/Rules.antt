@@ -26,18 +26,27 @@ abbrev pub outcomeOf : Option Secret → Pins → List ℕ → Bool
 outcomeOf none p d = true
 outcomeOf (some s) p d = rightBy s p d
 
--- ---- a rule (RULES 6.2): the checks, in order; the secret that is compared past them, if any; the supply that is read past them; and the
--- reply, from how the comparison came out, the card, the data and the supply
+-- ---- the fault offset (RULES 5.9), where there is none: opened data have at most 223 bytes
+abbrev pub noFault : ℕ
+noFault = 255
+
+-- ---- a rule (RULES 6.2): the checks, in order; the secret that is compared past them, if any; the supply that is read past them; the
+-- reply, from how the comparison came out, the card, the data and the supply; and the fault offset in wrong data
 pub record Rule : Type 0 where
   pub checks : Card → List ℕ → List Check
   pub compares : Option Secret
   pub supply : Supply
   pub reply : Bool → Card → List ℕ → List ℕ → Reply
+  pub place : List ℕ → ℕ
 
 -- a rule that compares nothing
 abbrev pub rule : (Card → List ℕ → List Check) → Supply → (Card → List ℕ → List ℕ → Reply) → Rule
-rule checks supply reply = record { checks = checks; compares = none; supply = supply; reply = λ _. reply }
+rule checks supply reply = record { checks = checks; compares = none; supply = supply; reply = λ _. reply; place = λ _. noFault }
+
+-- such a rule that tells where its data are at fault
+abbrev pub placing : (List ℕ → ℕ) → Rule → Rule
+placing place r = record { checks = r .checks; compares = r .compares; supply = r .supply; reply = r .reply; place = place }
 
 -- a rule that compares and reads no supply
 abbrev pub comparing : Secret → (Card → List ℕ → List Check) → (Bool → Card → List ℕ → Reply) → Rule
-comparing s checks reply = record { checks = checks; compares = some s; supply = noSupply; reply = λ right c d _. reply right c d }
+comparing s checks reply = record { checks = checks; compares = some s; supply = noSupply; reply = λ right c d _. reply right c d; place = λ _. noFault }

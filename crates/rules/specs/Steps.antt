@@ -21,9 +21,9 @@ use Rattle.rules.specs.declared.Command.{Command}
 use Rattle.rules.specs.declared.Supply.{Supply}
 use Rattle.rules.specs.declared.Verdict.{Verdict}
 use Rattle.rules.specs.declared.Verdict.the-variants.{Reads, Fails}
-use Rattle.rules.specs.Words.{wrongLength, conditionsNotMet, securityNotMet, wrongParameters, unknownInstruction, unknownClass, Check, verdict, Reply, fails}
+use Rattle.rules.specs.Words.{wrongLength, conditionsNotMet, securityNotMet, wrongParameters, unknownInstruction, unknownClass, wrongData, Check, verdict, Reply, fails}
 use Rattle.rules.specs.Supplies.{noSupply}
-use Rattle.rules.specs.Rules.{outcomeOf}
+use Rattle.rules.specs.Rules.{outcomeOf, noFault}
 use Rattle.rules.specs.Commands.{ruleOf}
 use Rattle.rules.specs.Rows.{rowOf, class80, offered, isPlain}
 use Rattle.rules.specs.Channel.{sessionOf, withMac, Outgoing, plainly, tell}
@@ -204,19 +204,33 @@ supplyOf k = ruleOf k .supply
 abbrev pub replyOf : Command → Card → List ℕ → List ℕ → Reply
 replyOf k c d s = ruleOf k .reply (outcomeOf (ruleOf k .compares) (c .pins) d) c d s
 
--- what the order of checks comes to: the supply that is read, with the data for it; and the answer, from the supply
+-- ---- the fault offset (RULES 5.9) of a command whose checks give the status word w: its rule's, where that is 6A80
+unfoldable pub faultAt : Command → List ℕ → ℕ → ℕ
+faultAt k d w = cond (eqb w wrongData) (ruleOf k .place d) noFault
+
+-- what the order of checks comes to: the supply that is read, with the data for it; the answer, from the supply; and the fault offset
 pub record Decision : Type 0 where
   pub supply : Supply
   pub data′ : List ℕ
   pub answer : List ℕ → Outgoing
+  pub fault : ℕ
 
--- an answer that reads no supply
+-- an answer that reads no supply, and its fault offset
+abbrev pub endsAt : ℕ → Outgoing → Decision
+endsAt n t = record { supply = noSupply; data′ = []; answer = λ _. t; fault = n }
+
+-- an answer before step 6
 abbrev pub ends : Outgoing → Decision
-ends t = record { supply = noSupply; data′ = []; answer = λ _. t }
+ends t = endsAt noFault t
 
 abbrev pub byVerdict : Arrived → Verdict → Decision
-byVerdict a (Reads k) = record { supply = k; data′ = a .data′; answer = λ s. tell (a .over) (replyOf (a .command) (a .card) (a .data′) s) }
-byVerdict a (Fails w) = ends (tell (a .over) (fails (a .lost) w))
+byVerdict a (Reads k) = record {
+  supply = k;
+  data′ = a .data′;
+  answer = λ s. tell (a .over) (replyOf (a .command) (a .card) (a .data′) s);
+  fault = noFault;
+}
+byVerdict a (Fails w) = endsAt (faultAt (a .command) (a .data′) w) (tell (a .over) (fails (a .lost) w))
 
 unfoldable pub step6 : Arrived → Decision
 step6 a = byVerdict a (verdict (supplyOf (a .command)) (checksOf (a .command) (a .card) (a .data′)))

@@ -24,13 +24,13 @@ abbrev pub mutualSupply : Supply
 mutualSupply = supply 3 32 false
 
 abbrev pub pairFirstSupply : Supply
-pairFirstSupply = supply 4 96 false
+pairFirstSupply = supply 4 32 false
 
 abbrev pub pairFinalSupply : Supply
-pairFinalSupply = supply 5 64 false
+pairFinalSupply = supply 5 32 false
 
 abbrev pub loadSupply : Supply
-loadSupply = supply 6 33 true
+loadSupply = supply 6 66 true
 
 abbrev pub deriveSupply : Supply
 deriveSupply = supply 7 1 true
@@ -78,26 +78,17 @@ openIv s = part 97 16 s
 abbrev pub mutualRandom : List ℕ → List ℕ
 mutualRandom s = part 0 32 s
 
--- kind 4: cryptogram 32, challenge 32, expected client cryptogram 32
-abbrev pub pairCryptogram : List ℕ → List ℕ
-pairCryptogram s = part 0 32 s
-
+-- kind 4: challenge 32
 abbrev pub pairChallenge : List ℕ → List ℕ
-pairChallenge s = part 32 32 s
+pairChallenge s = part 0 32 s
 
-abbrev pub pairExpected : List ℕ → List ℕ
-pairExpected s = part 64 32 s
-
--- kind 5: salt 32, pairing key 32
+-- kind 5: salt 32
 abbrev pub pairSalt : List ℕ → List ℕ
 pairSalt s = part 0 32 s
 
-abbrev pub pairKey : List ℕ → List ℕ
-pairKey s = part 32 32 s
-
--- kind 6: flag, key UID 32
-abbrev pub loadUid : List ℕ → List ℕ
-loadUid s = part 1 32 s
+-- kind 6: flag, public key 65
+abbrev pub loadPublic : List ℕ → List ℕ
+loadPublic s = part 1 65 s
 
 -- kind 8: public key 65, r 32, s 32
 abbrev pub signKey : List ℕ → List ℕ

@@ -69,6 +69,9 @@ pub const INS_EXPORT: u8 = 0xC2;
 
 pub const INS_SET_NDEF: u8 = 0xF3;
 
+// The fault offset where there is none: opened data have at most 223 bytes.
+pub const NO_FAULT: usize = 255;
+
 // The most data that a command's response has, in bytes: with the status word it can be sealed.
 pub const RESPONSE_MAX_BYTES: usize = 221;
 
@@ -206,10 +209,12 @@ pub struct Asked {
     pub count: usize,
 }
 
-// What ANSWER answers: the refusal's number or 0, how many bytes it wrote from the buffer's start, and the next card.
+// What ANSWER answers: the refusal's number or 0, how many bytes it wrote from the buffer's start, the fault offset in bytes or NO_FAULT, and
+// the next card.
 #[repr(C)]
 pub struct Answered {
     pub refusal: u8,
     pub count: usize,
+    pub fault_offset: usize,
     pub card: Card,
 }

@@ -67,14 +67,16 @@ abbrev pub refusalNumber : Fault → ℕ
 refusalNumber Malformed = malformed
 refusalNumber TooDeep = tooDeep
 
--- what each answer says in those terms: the number of the refusal or of none, and the count of fields
+-- what each answer says in those terms: the number of the refusal or of none, the count of fields, and the fault offset: how many bytes come
+-- before the tag of the faulty field, 0 where nothing is refused
 pub record WalkOut : Type 0 where
   pub refusal : ℕ
   pub count : ℕ
+  pub offset : ℕ
 
 abbrev pub report : Walked → WalkOut
-report (Fields n) = record { refusal = noRefusal; count = n }
-report (Refused f at) = record { refusal = refusalNumber f; count = 0 }
+report (Fields n) = record { refusal = noRefusal; count = n; offset = 0 }
+report (Refused f at) = record { refusal = refusalNumber f; count = 0; offset = at }
 
 -- WALK (RULES 9.3)
 abbrev pub WALK : List ℕ → WalkOut

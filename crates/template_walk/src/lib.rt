@@ -128,3 +128,13 @@ pub fn count(w: Walked) -> usize
         Walked::Refused { fault: _, at: _ } => 0,
     }
 }
+
+// The fault offset: how many bytes come before the tag of the faulty field, 0 where WALK did not refuse.
+pub fn fault_offset(w: Walked) -> usize
+    ensures { λ r. ⌜ r ≡ report w .offset ⌝ }
+{
+    match w {
+        Walked::Fields(_) => 0,
+        Walked::Refused { fault: _, at } => at,
+    }
+}
