@@ -2,7 +2,7 @@
 -- Assumes nothing.
 use mathlib.Core.Path.{_≡_, refl, sym, _∙_}
 use mathlib.Core.Bool.{Bool, true, false, _&&_, _||_, not, false≢true}
-use mathlib.Core.List.{List, []}
+use mathlib.Core.List.{List, [], _++_}
 use mathlib.Core.Option.{Option, none, some}
 use Prim.Native.Nat.{ℕ, _≤_}
 use native.Mathlib.Omega.{arith}
@@ -11,6 +11,7 @@ use lib.ListN.{length, length-set}
 use borrow.Author.Tests.{eqb-true, eqb-false, leb-true, not-true, eq-eqb}
 use Rattle.octets.specs.Bytes.{Bytes}
 use Rattle.template_rules.proofs.HeadFacts.{by-test, field-length, short-field, field-bytes-le}
+use Rattle.sha_rules.proofs.Blocks.{length-sha256}
 use Rattle.card.specs.declared.Card.{Card}
 use Rattle.card.specs.State.{freeSlot, closed, forgotten, withSecrets, unverified, notPending, keyUid}
 use Rattle.card.specs.Slots.{allOf, isZero}
@@ -27,8 +28,8 @@ use Rattle.template_answers.proofs.AnswerFacts.{application-length, application
 use Rattle.rules.specs.declared.Instruction.the-variants as ins
 use Rattle.rules.specs.declared.Command.the-variants as command
 use Rattle.rules.specs.Words.{success, Hold, Reply}
-use Rattle.rules.specs.Supplies.{pairFirstSupply, pairFinalSupply, suits, part, saysYes, initKey, openSalt, openIv, pairCryptogram, pairChallenge, pairExpected, pairKey}
-use Rattle.rules.specs.Commands.{freeSlots, selected, selectChecks, selectReply, isContent, initialisedWith, initChecks, initContent, initWith, initReply, openedWith, openChecks, openReply, inStage2, mutualChecks, mutualReply, pendingWith, pairFirstChecks, pairFirstReply, withSlot, filledWith, pairFinalChecks, pairInto, pairFinalReply, unpairChecks, unpairReply, ruleOf}
+use Rattle.rules.specs.Supplies.{part, saysYes, initKey, openSalt, openIv, pairChallenge, pairSalt}
+use Rattle.rules.specs.Commands.{freeSlots, selected, selectChecks, selectReply, isContent, initialisedWith, initChecks, initContent, initWith, initReply, openedWith, openChecks, openReply, inStage2, mutualChecks, mutualReply, withSecret, pendingWith, pairFirstChecks, pairFirstReply, withSlot, filledWith, pairFinalChecks, pairInto, pairFinalReply, unpairChecks, unpairReply, ruleOf}
 use Rattle.rules.specs.Rows.{rowOf}
 use Rattle.rules.specs.Steps.{isInitialised}
 use Rattle.laws_commands.proofs.Checks.{never, open-two, suited, part-length, part-most}
@@ -232,34 +233,34 @@ module _ (g c : Card) (f : Fit g c) (i : isInitialised c ≡ true) where
   zero-of n a b d = omega arith
 
   pair-first-fit : (d s : List ℕ) → (c .channel .stage ≡ 1 → ⊥) → Hold (pairFirstChecks (c .pairing) (c .channel .stage) d)
-      → suits pairFirstSupply s ≡ true → Fits (pairFirstReply c s)
+      → Fits (pairFirstReply c d s)
   unfolding pairFirstReply pairFirstChecks
-  pair-first-fit d s n h u =
+  pair-first-fit d s n h =
       let two = eqb-false (c .channel .stage) 2 (not-true _ (h .0)) in
       let most = leb-true (c .channel .stage) 2 (both (leb (c .channel .stage) 2) _ (parts′ .channel) .0) in
-      let l = suited pairFirstSupply s refl u in
-      let p = pendingWith (c .pairing) (pairExpected s) in
+      let expected = withSecret (c .pairing) (pairChallenge s) in
+      let p = pendingWith (c .pairing) expected in
       record {
         sound =
-            pairing-kept c after′ p (pending-rules (c .pairing) (parts′ .pairing) (pairExpected s) (h .1 .1 .0))
+            pairing-kept c after′ p (pending-rules (c .pairing) (parts′ .pairing) expected (h .1 .1 .0))
             (eq-eqb (c .channel .stage) 0 (zero-of (c .channel .stage) most n two));
         shaped = λ w.
             pairing-shaped c (f .shaped w) p (f .shaped w .secret) (f .shaped w .slots) (f .shaped w .keys)
-            (part-length 64 32 s (omega arith));
+            (length-sha256 (c .pairing .secret ++ pairChallenge s));
       }
 
-  pair-into-fit : (s : List ℕ) → suits pairFinalSupply s ≡ true → (o : Free) → Fits (pairInto c s o)
+  pair-into-fit : (s : List ℕ) → (o : Free) → Fits (pairInto c s o)
   unfolding pairInto
-  pair-into-fit s u (free.At k) =
-      let l = suited pairFinalSupply s refl u in
-      let p = withSlot (notPending (c .pairing)) k (filledWith (pairKey s)) in
+  pair-into-fit s (free.At k) =
+      let key = withSecret (c .pairing) (pairSalt s) in
+      let p = withSlot (notPending (c .pairing)) k (filledWith key) in
       record {
-        sound = pairing-kept c after′ p (filled-rules (c .pairing) (parts′ .pairing) k (pairKey s)) refl;
+        sound = pairing-kept c after′ p (filled-rules (c .pairing) (parts′ .pairing) k key) refl;
         shaped = λ w.
             pairing-shaped c (f .shaped w) p (f .shaped w .secret) (rw length-set (f .shaped w .slots))
-            (keys-set (c .pairing .slots) k (filledWith (pairKey s)) (f .shaped w .keys) (part-length 32 32 s (omega arith))) refl;
+            (keys-set (c .pairing .slots) k (filledWith key) (f .shaped w .keys) (length-sha256 (c .pairing .secret ++ pairSalt s))) refl;
       }
-  pair-into-fit s u free.Full = forgotten-fit g c f
+  pair-into-fit s free.Full = forgotten-fit g c f
 
   unpair-fit : (k : ℕ) → Fits (unpairReply c k)
   unfolding unpairReply
@@ -319,8 +320,9 @@ mutual-lawful = record {
 pub pair-first-lawful : Lawful ins.Pair command.PairFirst
 unfolding ruleOf pairFirstReply pairFirstChecks
 pair-first-lawful = record {
-  keeps = λ g c d s f r v u. pair-first-fit g c f (r .offer) d s (r .half (λ e. omega arith)) v u;
-  short = λ c d s h. two-parts (pairCryptogram s) (pairChallenge s) 32 32 (part-most 0 32 s) (part-most 32 32 s) (omega arith);
+  keeps = λ g c d s f r v u. pair-first-fit g c f (r .offer) d s (r .half (λ e. omega arith)) v;
+  short = λ c d s h. two-parts (withSecret (c .pairing) d) (pairChallenge s) 32 32 (omega (arith, length-sha256 (c .pairing .secret ++ d))) (part-most 0 32 s)
+      (omega arith);
   unread = λ c d s t e. absurd (omega arith);
   unflagged = λ c d s t f. absurd (false≢true f);
   checksblind = λ p q c d. refl;
@@ -349,7 +351,7 @@ into-verifies right c s free.Full t = (open-two (c .channel .stage) t, refl)
 pub pair-final-lawful : Lawful ins.Pair command.PairFinal
 unfolding ruleOf pairFinalReply pairFinalChecks
 pair-final-lawful = record {
-  keeps = λ g c d s f r v u. pair-into-fit g c f (r .offer) s u (firstFree (c .pairing .slots));
+  keeps = λ g c d s f r v u. pair-into-fit g c f (r .offer) s (firstFree (c .pairing .slots));
   short = λ c d s h. into-short c s (firstFree (c .pairing .slots));
   unread = λ c d s t e. absurd (omega arith);
   unflagged = λ c d s t f. absurd (false≢true f);

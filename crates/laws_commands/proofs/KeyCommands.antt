@@ -26,8 +26,9 @@ use Rattle.rules.specs.declared.ExportPart.{ExportPart}
 use Rattle.rules.specs.declared.ExportPart.the-variants as exportPart
 use Rattle.rules.specs.declared.Command.the-variants as command
 use Rattle.rules.specs.Words.{success, referenceInvalid, wrongData, Hold, Reply, succeeds, fails}
-use Rattle.rules.specs.Supplies.{loadSupply, suits, saysYes, loadUid, signKey, signR, signS, exportPublic, exportPrivate}
-use Rattle.rules.specs.Commands.{isVerified, isSet, isPath, kindOf, keyWith, loadChecks, loadReply, withCurrent, deriveChecks, deriveReply, removeChecks, removeReply, withPinless, pinlessChecks, pinlessReply, signChecks, signReply, isExportData, exportChecks, exportedKeys, keysAfterExport, exportReply, ndefChecks, ndefReply, ruleOf}
+use Rattle.sha_rules.proofs.Blocks.{length-sha256, bytes-sha256}
+use Rattle.rules.specs.Supplies.{saysYes, loadPublic, signKey, signR, signS, exportPublic, exportPrivate}
+use Rattle.rules.specs.Commands.{isVerified, isSet, isPath, kindOf, keyWith, loadChecks, uidOf, loadReply, withCurrent, deriveChecks, deriveReply, removeChecks, removeReply, withPinless, pinlessChecks, pinlessReply, signChecks, signReply, isExportData, exportChecks, exportedKeys, keysAfterExport, exportReply, ndefChecks, ndefReply, ruleOf}
 use Rattle.rules.specs.Rows.{rowOf}
 use Rattle.rules.specs.Steps.{isInitialised}
 use Rattle.laws_commands.proofs.Checks.{never, open-two, suited, part-length, part-most}
@@ -79,14 +80,13 @@ module _ (g c : Card) (f : Fit g c) (i : isInitialised c ≡ true) where
   abbrev Fits : Reply → Type 0
   Fits r = Fit g (r .card)
 
-  load-fit : (form : KeyForm) (s : List ℕ) → suits loadSupply s ≡ true → Fits (loadReply c form s)
+  load-fit : (form : KeyForm) (s : List ℕ) → Fits (loadReply c form s)
   unfolding loadReply
-  load-fit form s u =
-      let l = suited loadSupply s refl u in
-      flag-fit c (keyWith (kindOf form) (loadUid s)) (loadUid s) s wrongData g
+  load-fit form s =
+      flag-fit c (keyWith (kindOf form) (uidOf s)) (uidOf s) s wrongData g
       (record {
-        sound = keys-kept c after′ (keyWith (kindOf form) (loadUid s)) (loaded-rules form (loadUid s));
-        shaped = λ w. keys-shaped c (f .shaped w) (keyWith (kindOf form) (loadUid s)) (part-length 1 32 s (omega arith)) refl refl;
+        sound = keys-kept c after′ (keyWith (kindOf form) (uidOf s)) (loaded-rules form (uidOf s));
+        shaped = λ w. keys-shaped c (f .shaped w) (keyWith (kindOf form) (uidOf s)) (length-sha256 (loadPublic s)) refl refl;
       })
       f
 
@@ -142,8 +142,8 @@ module _ (g c : Card) (f : Fit g c) (i : isInitialised c ≡ true) where
 pub load-lawful : (form : KeyForm) → Lawful ins.Load (command.Load form)
 unfolding ruleOf loadReply loadChecks
 load-lawful form = record {
-  keeps = λ g c d s f r v u. load-fit g c f (r .offer) form s u;
-  short = λ c d s h. flag-short c _ _ s _ (omega (arith, part-most 1 32 s));
+  keeps = λ g c d s f r v u. load-fit g c f (r .offer) form s;
+  short = λ c d s h. flag-short c _ _ s _ (omega (arith, length-sha256 (loadPublic s)));
   unread = λ c d s t e. absurd (omega arith);
   unflagged = λ c d s t f e g. rw (e, g);
   checksblind = λ p q c d. refl;
@@ -152,7 +152,7 @@ load-lawful form = record {
   verifies = λ b c d s e o v. flag-verifies c _ _ s _ b;
   over = λ _. record {
     channel = λ c d s h v. flag-channel c _ _ s _;
-    texts = λ c d s t p h. flag-plain c _ _ s _ (part-bytes 1 32 s h) (omega arith);
+    texts = λ c d s t p h. flag-plain c _ _ s _ (bytes-sha256 (loadPublic s)) (omega arith);
     words = λ c d. (omega arith, (omega arith, tt));
     path = λ c d s h p. flag-path c _ _ s _ empty p;
   };

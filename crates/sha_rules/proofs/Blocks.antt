@@ -2,11 +2,13 @@
 -- Assumes nothing.
 use mathlib.Core.Path.{_≡_, refl, sym, ap, ap₂, _∙_}
 use mathlib.Core.List.{List, [], _∷_, _++_, append-assoc}
-use Prim.Native.Nat.{ℕ, zero, suc, _+_, _*_, _/_, _%_, _≤_}
+use Prim.Native.Nat.{ℕ, zero, suc, _+_, _-_, _*_, _/_, _%_, _^_, _≤_}
 use native.Mathlib.Nat.{zero-add, suc-add}
 use native.Mathlib.Omega.{arith}
 use lib.ListN.{length, take, drop, replicate, length-append, length-replicate, length-drop, take-append-drop}
 use lib.Seq.{take-append-le, drop-append-le, length-take-le}
+use Rattle.octets.specs.Bytes.{Bytes}
+use Rattle.octets.proofs.Lists.{bytes-tabulate, bytes-append}
 use Rattle.sha_rules.specs.Constants.{H⁰}
 use Rattle.sha_rules.specs.Padding.{zeroBytes, paddingBytes, bigEndian, lengthInBits, padding, pad}
 use Rattle.sha_rules.specs.Hash.{compress, blocks, digest, sha256}
@@ -80,3 +82,11 @@ length-blocks (suc n) h m l = length-blocks n (compress h (take 64 m)) (drop 64 
 pub length-sha256 : (m : List ℕ) → length (sha256 m) ≡ 32
 unfolding sha256 H⁰
 length-sha256 m = length-digest (blocks (length (pad m) / 64) H⁰ (pad m)) ∙ ap (λ (k : ℕ). 4 * k) (length-blocks (length (pad m) / 64) H⁰ (pad m) refl)
+
+bytes-digest : (h : List ℕ) → Bytes (digest h)
+bytes-digest [] = tt
+bytes-digest (x ∷ h) = bytes-append (bigEndian 4 x) (digest h) (bytes-tabulate 4 (λ i. x / 256 ^ (4 - 1 - i) % 256) (λ i. omega arith)) (bytes-digest h)
+
+pub bytes-sha256 : (m : List ℕ) → Bytes (sha256 m)
+unfolding sha256
+bytes-sha256 m = bytes-digest (blocks (length (pad m) / 64) H⁰ (pad m))
