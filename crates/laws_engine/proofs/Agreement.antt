@@ -18,8 +18,8 @@ use Rattle.rules.specs.Words.{fails, wrongParameters}
 use Rattle.rules.specs.Supplies.{suits}
 use Rattle.rules.specs.Rows.{rowOf, isPlain}
 use Rattle.rules.specs.Channel.{Outgoing, plainly, tell}
-use Rattle.rules.specs.Steps.{Step, goes, stops, step1, p1Of, p2Of, Opened, Arrived, arrival, checksOf, supplyOf, Decision, ends, byVerdict, step6, finish, decide}
-use Rattle.rules.specs.Engine.{asked, answered, withSupply, askOut, answerOut}
+use Rattle.rules.specs.Steps.{Step, goes, stops, step1, p1Of, p2Of, Opened, Arrived, arrival, checksOf, supplyOf, Decision, endsAt, byVerdict, step6, finish, decide}
+use Rattle.rules.specs.Engine.{asked, answeredAt, withSupply, askOut, answerOut}
 use Rattle.laws_commands.proofs.Checks.{by-verdict}
 use Rattle.laws_commands.proofs.Arrival.{At, cardAt, arrivedAt, by-step5, by-pastStep1}
 use Rattle.laws_commands.proofs.Table.{lawful}
@@ -30,7 +30,7 @@ record Regular (x : Step Arrived) (d : Decision) : Type 0 where
   unread : d .supply .kind ≡ 0 → (s t : List ℕ) → d .answer s ≡ d .answer t
   given : (d .supply .kind ≡ 0 → ⊥) → (a : Arrived) × (x ≡ goes a) × (d .data′ ≡ a .data′)
 
-ends-regular : (x : Step Arrived) (t : Outgoing) → Regular x (ends t)
+ends-regular : (x : Step Arrived) {n : ℕ} (t : Outgoing) → Regular x (endsAt n t)
 ends-regular x t = record { unread = λ e s u. refl; given = λ n. absurd (n refl) }
 
 step6-regular : (i : Instruction) (cmd : List ℕ) (o : Opened) (k : Command) → rowOf i .lists (p1Of cmd) (p2Of cmd) ≡ some k
@@ -80,7 +80,7 @@ module _ (c : Card) (cmd : List ℕ) (r1 r2 : ℕ) (e : isSound c ≡ true) (a :
   unfolding answerOut
   answer-is s = rw (e, le-ltb r2 258 b)
 
-  taken : askOut c cmd r1 .kind ≡ 0 → (s : List ℕ) → withSupply c (decide c cmd) s ≡ answered (decide c cmd .answer s)
+  taken : askOut c cmd r1 .kind ≡ 0 → (s : List ℕ) → withSupply c (decide c cmd) s ≡ answeredAt (decide c cmd .fault) (decide c cmd .answer s)
   unfolding suits
   taken z s = rw (sym (kind-is c cmd r1 e a) ∙ z)
 
@@ -91,7 +91,7 @@ module _ (c : Card) (cmd : List ℕ) (r1 r2 : ℕ) (e : isSound c ≡ true) (a :
   pub unread-same : askOut c cmd r1 .kind ≡ 0 → (s t : List ℕ) → answerOut c cmd s r2 ≡ answerOut c cmd t r2
   unread-same z s t =
       answer-is s ∙ taken z s
-      ∙ ap answered (decide-regular c cmd .unread (sym (kind-is c cmd r1 e a) ∙ z) s t)
+      ∙ ap (answeredAt (decide c cmd .fault)) (decide-regular c cmd .unread (sym (kind-is c cmd r1 e a) ∙ z) s t)
       ∙ sym (answer-is t ∙ taken z t)
 
   -- ANSWER gives refusal 3 exactly where the supply has not the form of the one that is asked for, and no refusal otherwise

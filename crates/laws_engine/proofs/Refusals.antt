@@ -14,7 +14,8 @@ use Rattle.card.specs.Sound.{isSound}
 use Rattle.rules.specs.Supplies.{suits}
 use Rattle.rules.specs.Channel.{Outgoing}
 use Rattle.rules.specs.Steps.{decide}
-use Rattle.rules.specs.Engine.{AskOut, AnswerOut, askRefused, asked, answerRefused, answered, askOut, answerOut}
+use Rattle.rules.specs.Rules.{noFault}
+use Rattle.rules.specs.Engine.{AskOut, AnswerOut, askRefused, asked, answerRefused, answeredAt, askOut, answerOut}
 
 -- ---- the number, from the three tests: sound, room too small, supply has the form
 abbrev number : Bool → Bool → Bool → ℕ
@@ -48,29 +49,32 @@ number-3 false b d e = absurd (omega arith)
 module _ (c : Card) (cmd s : List ℕ) (room : ℕ) where
   answer-number : answerOut c cmd s room .refusal ≡ number (isSound c) (ltb room answerRoom) (suits (decide c cmd .supply) s)
   unfolding answerOut
-  answer-number = by-tests (isSound c) (ltb room answerRoom) (suits (decide c cmd .supply) s) (decide c cmd .answer s)
+  answer-number =
+      by-tests (isSound c) (ltb room answerRoom) (suits (decide c cmd .supply) s) (decide c cmd .fault) (decide c cmd .answer s)
     where
-      by-tests : (a b d : Bool) (t : Outgoing)
-          → cond a (cond b (answerRefused c 2) (cond d (answered t) (answerRefused c 3))) (answerRefused c 1) .refusal ≡ number a b d
-      by-tests true true d t = refl
-      by-tests true false true t = refl
-      by-tests true false false t = refl
-      by-tests false b d t = refl
+      by-tests : (a b d : Bool) (n : ℕ) (t : Outgoing)
+          → cond a (cond b (answerRefused c 2) (cond d (answeredAt n t) (answerRefused c 3))) (answerRefused c 1) .refusal ≡ number a b d
+      by-tests true true d n t = refl
+      by-tests true false true n t = refl
+      by-tests true false false n t = refl
+      by-tests false b d n t = refl
 
-  -- a refusal gives back the card that it was given, and writes nothing
-  pub answer-refused : (answerOut c cmd s room .refusal ≡ 0 → ⊥) → (answerOut c cmd s room .card ≡ c) × (answerOut c cmd s room .bytes ≡ [])
+  -- a refusal gives back the card that it was given, writes nothing and tells no fault
+  pub answer-refused : (answerOut c cmd s room .refusal ≡ 0 → ⊥)
+      → (answerOut c cmd s room .card ≡ c) × (answerOut c cmd s room .bytes ≡ []) × (answerOut c cmd s room .fault ≡ noFault)
   unfolding answerOut
-  answer-refused = by-tests (isSound c) (ltb room answerRoom) (suits (decide c cmd .supply) s) (decide c cmd .answer s)
+  answer-refused =
+      by-tests (isSound c) (ltb room answerRoom) (suits (decide c cmd .supply) s) (decide c cmd .fault) (decide c cmd .answer s)
     where
       Kept : AnswerOut → Type 0
-      Kept o = (o .refusal ≡ 0 → ⊥) → (o .card ≡ c) × (o .bytes ≡ [])
+      Kept o = (o .refusal ≡ 0 → ⊥) → (o .card ≡ c) × (o .bytes ≡ []) × (o .fault ≡ noFault)
 
-      by-tests : (a b d : Bool) (t : Outgoing)
-          → Kept (cond a (cond b (answerRefused c 2) (cond d (answered t) (answerRefused c 3))) (answerRefused c 1))
-      by-tests true true d t n = (refl, refl)
-      by-tests true false true t n = absurd (n refl)
-      by-tests true false false t n = (refl, refl)
-      by-tests false b d t n = (refl, refl)
+      by-tests : (a b d : Bool) (n : ℕ) (t : Outgoing)
+          → Kept (cond a (cond b (answerRefused c 2) (cond d (answeredAt n t) (answerRefused c 3))) (answerRefused c 1))
+      by-tests true true d n t r = (refl, refl, refl)
+      by-tests true false true n t r = absurd (r refl)
+      by-tests true false false n t r = (refl, refl, refl)
+      by-tests false b d n t r = (refl, refl, refl)
 
   -- 1: the card is not sound
   pub answer-unsound : answerOut c cmd s room .refusal ≡ 1 ↔ isSound c ≡ false
