@@ -17,17 +17,18 @@ use Rattle.card.specs.Sound.{isSound}
 use Rattle.rules.specs.declared.Instruction.{Instruction}
 use Rattle.rules.specs.declared.Command.{Command}
 use Rattle.rules.specs.declared.Verdict.{Verdict}
+use Rattle.rules.specs.declared.Verdict.the-variants.{Fails}
 use Rattle.rules.specs.Words.{Hold, Reply, fails}
 use Rattle.rules.specs.Supplies.{suits}
 use Rattle.rules.specs.Rows.{rowOf, isPlain}
 use Rattle.rules.specs.Channel.{withMac, sealed, tell}
 use Rattle.rules.specs.Steps.{Step, goes, stops, begins, dropping, step1, dataOf, p1Of, p2Of, Opened, Arrived, arrival, checksOf, supplyOf, replyOf, byVerdict, step6, decide}
-use Rattle.rules.specs.Engine.{answered, withSupply, answerOut}
+use Rattle.rules.specs.Engine.{answeredAt, answered, withSupply, answerOut}
 use Rattle.laws_commands.specs.Lawful.{Lawful}
 use Rattle.laws_commands.proofs.Arrival.{At, cardAt, arrivedAt, by-step5, by-opened, by-pastStep1}
 use Rattle.laws_commands.proofs.Checks.{by-verdict, held}
 use Rattle.laws_commands.proofs.Table.{row-lawful, lawful}
-use Rattle.laws_exchange.specs.Opens.{Opens, outcomeBy, outcome}
+use Rattle.laws_exchange.specs.Opens.{Opens, outcomeBy, outcome, faultBy, faultOf}
 use Rattle.laws_exchange.proofs.Outcomes.{outcome-channel}
 
 -- ---- step 1: the channel stays where it is not in stage 1, and where the command is 80 11
@@ -132,12 +133,13 @@ module _ (c : Card) (cmd s : List ℕ) (room : ℕ) (sound : isSound c ≡ true)
         (ap (λ (k : Channel). k .stage) arrived-channel ∙ in2) ∙ arrived-channel
 
     pub answer-stage2 : (Hold (checksOf (at6 .command) (at6 .card) (at6 .data′)) → suits (supplyOf (at6 .command)) s ≡ true)
-        → answerOut c cmd s room ≡ answered (sealed result)
+        → answerOut c cmd s room ≡ answeredAt (faultOf (at6 .command) (at6 .card) (at6 .data′)) (sealed result)
     unfolding step6 suits
     answer-stage2 right =
         answer-decided
         ∙ by-verdict (λ (v : Verdict). withSupply c (byVerdict at6 v) s
-        ≡ answered (tell (at6 .over) (outcomeBy (at6 .command) (at6 .card) (at6 .data′) s v))) (supplyOf (at6 .command))
+        ≡ answeredAt (faultBy (at6 .command) (at6 .data′) v) (tell (at6 .over) (outcomeBy (at6 .command) (at6 .card) (at6 .data′) s v)))
+        (supplyOf (at6 .command))
         (checksOf (at6 .command) (at6 .card) (at6 .data′)) (λ h. rw (right h))
-        (λ w. ap (λ (y : Card). answered (tell (at6 .over) (fails y w))) (arrived-in2 c cmd in2 x .lost))
-        ∙ ap answered (sealed-in-2 (at6 .over) result (x .over) (ap (λ (k : Channel). k .stage) result-channel ∙ in2))
+        (λ w. ap (λ (y : Card). answeredAt (faultBy (at6 .command) (at6 .data′) (Fails w)) (tell (at6 .over) (fails y w))) (arrived-in2 c cmd in2 x .lost))
+        ∙ ap (answeredAt (faultOf (at6 .command) (at6 .card) (at6 .data′))) (sealed-in-2 (at6 .over) result (x .over) (ap (λ (k : Channel). k .stage) result-channel ∙ in2))

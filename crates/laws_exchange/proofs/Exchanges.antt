@@ -32,13 +32,14 @@ use Rattle.rules.specs.Commands.{mutualChecks, mutualReply, ruleOf}
 use Rattle.rules.specs.Rows.{rowOf, isPlain}
 use Rattle.rules.specs.Channel.{sessionOf, withMac, plainText, sealed}
 use Rattle.rules.specs.Steps.{goes, begins, step1, claOf, insOf, p1Of, p2Of, nameOf, isInitialised, inStage, openedBy, step4, Arrived, arrival, checksOf, supplyOf, replyOf}
-use Rattle.rules.specs.Engine.{AnswerOut, answered, answerOut}
+use Rattle.rules.specs.Rules.{noFault}
+use Rattle.rules.specs.Engine.{AnswerOut, answeredAt, answered, answerOut}
 use Rattle.laws_commands.specs.Lawful.{Lawful}
 use Rattle.laws_commands.proofs.Arrival.{arrivedAt, sealed-arrives}
 use Rattle.laws_commands.proofs.Table.{row-lawful, lawful}
 use Rattle.laws_engine.proofs.Sound.{mac-sound, mac-shaped, answer-shaped}
-use Rattle.laws_exchange.specs.Opens.{PastStep4, Opens, outcome, replyTo}
-use Rattle.laws_exchange.specs.Exchange.{Typed, Turn, sealedBy, answeredBy, Names, listed, opened, Exchange, InStage2, replied, Supplied, Unlisted, ToStage2, Together}
+use Rattle.laws_exchange.specs.Opens.{PastStep4, Opens, outcome, replyTo, faultOf, faultTo}
+use Rattle.laws_exchange.specs.Exchange.{Typed, Turn, sealedBy, answeredBy, Names, listed, opened, Exchange, InStage2, replied, faulted, Supplied, Unlisted, ToStage2, Together}
 use Rattle.laws_exchange.proofs.Outcomes.{outcome-channel, outcome-short, outcome-path, reply-bytes, outcome-bytes}
 use Rattle.laws_exchange.proofs.Answers.{stays-2, arrived-in2, answer-stage2, answer-right}
 use Rattle.laws_exchange.proofs.Unlisted.{stops-sealed, answer-stops}
@@ -65,7 +66,7 @@ module _ (c : Card) (t : Turn) (w : Typed c) where
   opened-shaped = mac-shaped c (sealedBy s t .session .iv) (w .shaped)
 
   -- an answer that is sealed under the session of the command's MAC comes back whole
-  module _ (r : Reply) (told : answerOut c (cmd s t (w .keyed)) (t .supply) (t .answerroom) ≡ answered (sealed r))
+  module _ (r : Reply) {fault : ℕ} (told : answerOut c (cmd s t (w .keyed)) (t .supply) (t .answerroom) ≡ answeredAt fault (sealed r))
       (session : sessionOf (r .card .channel) ≡ next) (bytes : Bytes (plainText r)) (fits : length (r .response) ≤ 221) where
     unsealed-is : unsealOut next (sealedResponse (sessionOf (r .card .channel)) (plainText r)) (t .unsealroom)
         ≡ record { refusal = 0; session = withIv next (fieldMac next responseHead (plainText r)); bytes = plainText r }
@@ -88,7 +89,7 @@ module _ (c : Card) (t : Turn) (w : Typed c) where
           (omega (arith, length-append (r .response) (word (r .status))));
     })
 
-    answered-is : answeredBy c t ≡ answered (sealed r)
+    answered-is : answeredBy c t ≡ answeredAt fault (sealed r)
     answered-is = ap (λ (o : Out). answerOut c (o .bytes) (t .supply) (t .answerroom)) (gives s t (w .keyed)) ∙ told
 
     pub typed-next : isSound c ≡ true → Bytes (r .card .keys .current .bytes) → Typed (answeredBy c t .card)
@@ -179,22 +180,23 @@ module _ (c : Card) (t : Turn) (n : Names c (t .header)) (sound : isSound c ≡ 
   stays2 = stays-2 command2 c in2
 
   -- whatever is sealed with the channel as it was opened
-  module _ (r : Reply) (told : answerOut c command2 (t .supply) (t .answerroom) ≡ answered (sealed r))
+  module _ (r : Reply) {fault : ℕ} (told : answerOut c command2 (t .supply) (t .answerroom) ≡ answeredAt fault (sealed r))
       (channel : r .card .channel ≡ opened c t .channel) (bytes : Bytes (plainText r)) (short : length (r .response) ≤ 221)
       (path : Bytes (r .card .keys .current .bytes)) where
     session2 : sessionOf (r .card .channel) ≡ next c t w
     session2 = ap sessionOf channel ∙ opened-session c t w
 
-    sealed2 : InStage2 c t r
+    sealed2 : InStage2 c t r fault
     sealed2 = record {
       turn = exchanged c t w r told session2 bytes short;
+      fault = ap (λ (a : AnswerOut). a .fault) (answered-is c t w r told session2 bytes short);
       stays = ap (λ (a : AnswerOut). a .card .channel .stage) (answered-is c t w r told session2 bytes short)
           ∙ ap (λ (k : Channel). k .stage) channel ∙ in2;
       typed = typed-next c t w r told session2 bytes short sound path;
     }
 
   -- P1 and P2 that are not listed
-  pub unlisted2 : listed c (t .header) n ≡ none → InStage2 c t (fails (opened c t) wrongParameters)
+  pub unlisted2 : listed c (t .header) n ≡ none → InStage2 c t (fails (opened c t) wrongParameters) noFault
   unlisted2 e = sealed2 (fails (opened c t) wrongParameters) told refl (omega arith, (omega arith, tt)) (omega arith) (w .path)
     where
       told : answerOut c command2 (t .supply) (t .answerroom) ≡ answered (sealed (fails (opened c t) wrongParameters))
@@ -222,13 +224,13 @@ module _ (c : Card) (t : Turn) (n : Names c (t .header)) (sound : isSound c ≡ 
           ∙ ap (λ (x : Card). withMac x (take 16 (field (s c t w) t (w .keyed)))) (itself c t w sound open2 stays2)
           ∙ mac-opened c t w sound open2 stays2
 
-      told2 : answerOut c command2 (t .supply) (t .answerroom) ≡ answered (sealed result)
+      told2 : answerOut c command2 (t .supply) (t .answerroom) ≡ answeredAt (faultOf k (opened c t) (t .data′)) (sealed result)
       told2 =
           answer-stage2 c command2 (t .supply) (t .answerroom) sound (t .answerenough) opens2 in2
           (λ h. right (subst (λ (x : Card). Hold (checksOf k x (t .data′))) here2 h))
-          ∙ ap (λ (x : Card). answered (sealed (outcome k x (t .data′) (t .supply)))) here2
+          ∙ ap (λ (x : Card). answeredAt (faultOf k x (t .data′)) (sealed (outcome k x (t .data′) (t .supply)))) here2
 
-      pub listed2 : InStage2 c t result
+      pub listed2 : InStage2 c t result (faultOf k (opened c t) (t .data′))
       listed2 =
           sealed2 result told2 (outcome-channel (n .instruction) k law (n .sealed) (opened c t) (t .data′) (t .supply) in2)
           (outcome-bytes (n .instruction) k law (n .sealed) (opened c t) (t .data′) (t .supply) (opened-sound c t w sound open2 stays2) (w .path)
@@ -237,10 +239,11 @@ module _ (c : Card) (t : Turn) (n : Names c (t .header)) (sound : isSound c ≡ 
           (outcome-path (n .instruction) k law (n .sealed) (opened c t) (t .data′) (t .supply) (t .databytes) (w .path))
 
   -- every command that opens
-  pub in-stage2 : Supplied c t n → InStage2 c t (replied c t n)
+  pub in-stage2 : Supplied c t n → InStage2 c t (replied c t n) (faulted c t n)
   in-stage2 right = go (listed c (t .header) n) refl
     where
-      go : (o : Option Command) → listed c (t .header) n ≡ o → InStage2 c t (replyTo o (opened c t) (t .data′) (t .supply))
+      go : (o : Option Command) → listed c (t .header) n ≡ o
+          → InStage2 c t (replyTo o (opened c t) (t .data′) (t .supply)) (faultTo o (opened c t) (t .data′))
       go none e = unlisted2 e
       go (some k) e = listed2 k e (right k e)
 
@@ -336,6 +339,7 @@ module _ (c : Card) (t : Turn) (sound : isSound c ≡ true) (w : Typed c) (in1 :
   to-stage2 = record {
     turn = turn1;
     random = turn1 .plain ∙ reply-random;
+    fault = ap (λ (a : AnswerOut). a .fault) (answered-is c t w replied1 told1 session1 bytes1 short1);
     stage =
         ap (λ (a : AnswerOut). a .card .channel .stage) (answered-is c t w replied1 told1 session1 bytes1 short1) ∙ reply-stage (opened c t);
     typed = typed-next c t w replied1 told1 session1 bytes1 short1 sound

@@ -20,11 +20,12 @@ use Rattle.rules.specs.declared.Command.{Command}
 use Rattle.rules.specs.declared.Command.the-variants as command
 use Rattle.rules.specs.Words.{success, word, Hold, Reply}
 use Rattle.rules.specs.Supplies.{suits}
+use Rattle.rules.specs.Rules.{noFault}
 use Rattle.rules.specs.Rows.{rowOf, isPlain}
 use Rattle.rules.specs.Channel.{sessionOf, withMac}
 use Rattle.rules.specs.Steps.{dataOf, claOf, insOf, p1Of, p2Of, nameOf, isInitialised, inStage, checksOf, supplyOf, replyOf}
 use Rattle.rules.specs.Engine.{AnswerOut, answerOut}
-use Rattle.laws_exchange.specs.Opens.{PastStep4, replyTo}
+use Rattle.laws_exchange.specs.Opens.{PastStep4, replyTo, faultTo}
 
 -- what the types say of every card that code holds
 pub record Typed (c : Card) : Type 0 where
@@ -97,9 +98,11 @@ abbrev pub Exchange : Card → Turn → Reply → Type 0
 Exchange c t r = Exchanged r (sealedBy (sessionOf (c .channel)) t) (answeredBy c t) (unsealedBy c t)
 
 -- ---- the claims
--- in stage 2 a command that opens, answered with the reply r: stage 2 stays, and the card meets the types still, so that the next turn can begin
-pub record InStage2 (c : Card) (t : Turn) (r : Reply) : Type 0 where
+-- in stage 2 a command that opens, answered with the reply r and the fault offset n: stage 2 stays, and the card meets the types still, so that
+-- the next turn can begin
+pub record InStage2 (c : Card) (t : Turn) (r : Reply) (n : ℕ) : Type 0 where
   pub turn : Exchange c t r
+  pub fault : answeredBy c t .fault ≡ n
   pub stays : answeredBy c t .card .channel .stage ≡ 2
   pub typed : Typed (answeredBy c t .card)
 
@@ -107,6 +110,10 @@ pub record InStage2 (c : Card) (t : Turn) (r : Reply) : Type 0 where
 -- first check that does not hold, or what its definition replies
 abbrev pub replied : (c : Card) (t : Turn) → Names c (t .header) → Reply
 replied c t n = replyTo (listed c (t .header) n) (opened c t) (t .data′) (t .supply)
+
+-- and the fault offset that goes with it
+abbrev pub faulted : (c : Card) (t : Turn) → Names c (t .header) → ℕ
+faulted c t n = faultTo (listed c (t .header) n) (opened c t) (t .data′)
 
 -- the supply is right, where a command is listed and its checks hold
 abbrev pub Supplied : (c : Card) (t : Turn) → Names c (t .header) → Type 0
@@ -122,6 +129,7 @@ pub record Unlisted (c : Card) (t : Turn) : Type 0 where
 pub record ToStage2 (c : Card) (t : Turn) : Type 0 where
   pub turn : Exchange c t (replyOf command.Mutual (opened c t) (t .data′) (t .supply))
   pub random : unsealedBy c t .bytes ≡ t .supply ++ word success
+  pub fault : answeredBy c t .fault ≡ noFault
   pub stage : answeredBy c t .card .channel .stage ≡ 2
   pub typed : Typed (answeredBy c t .card)
 
@@ -137,7 +145,7 @@ pub record Together : Type 0 where
   -- SEAL, ANSWER, UNSEAL: in stage 2 every command that opens, among them those whose P1 and P2 are not listed; and MUTUAL from stage 1 to its
   -- success
   pub answers : (c : Card) (t : Turn) (n : Names c (t .header)) → isSound c ≡ true → Typed c → c .channel .stage ≡ 2 → Supplied c t n
-      → InStage2 c t (replied c t n)
+      → InStage2 c t (replied c t n) (faulted c t n)
   pub unlisted : (c : Card) (t : Turn) (n : Names c (t .header)) → isSound c ≡ true → Typed c → c .channel .stage ≡ 2
       → listed c (t .header) n ≡ none → Unlisted c t
   pub authenticates : (c : Card) (t : Turn) → isSound c ≡ true → Typed c → c .channel .stage ≡ 1 → t .header ≡ 0x80 ∷ 0x11 ∷ 0 ∷ 0 ∷ []

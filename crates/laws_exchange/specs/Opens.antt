@@ -13,8 +13,9 @@ use Rattle.rules.specs.declared.Command.{Command}
 use Rattle.rules.specs.declared.Verdict.{Verdict}
 use Rattle.rules.specs.declared.Verdict.the-variants.{Reads, Fails}
 use Rattle.rules.specs.Words.{wrongParameters, verdict, Reply, fails}
+use Rattle.rules.specs.Rules.{noFault}
 use Rattle.rules.specs.Rows.{isPlain}
-use Rattle.rules.specs.Steps.{goes, step1, dataOf, claOf, insOf, nameOf, isInitialised, Opened, step4, Arrived, arrival, checksOf, supplyOf, replyOf}
+use Rattle.rules.specs.Steps.{goes, step1, dataOf, claOf, insOf, nameOf, isInitialised, Opened, step4, Arrived, arrival, checksOf, supplyOf, replyOf, faultAt}
 
 -- a command over the channel that opens (RULES 5.1 to 5.4): on the card that step 1 leaves, step 2 takes its form, step 3 names an instruction that
 -- is not plain, and step 4 goes on
@@ -47,3 +48,15 @@ outcome k c d s = outcomeBy k c d s (verdict (supplyOf k) (checksOf k c d))
 abbrev pub replyTo : Option Command → Card → List ℕ → List ℕ → Reply
 replyTo none c d s = fails c wrongParameters
 replyTo (some k) c d s = outcome k c d s
+
+-- and the fault offset beside it (RULES 5.9)
+abbrev pub faultBy : Command → List ℕ → Verdict → ℕ
+faultBy k d (Reads x) = noFault
+faultBy k d (Fails w) = faultAt k d w
+
+abbrev pub faultOf : Command → Card → List ℕ → ℕ
+faultOf k c d = faultBy k d (verdict (supplyOf k) (checksOf k c d))
+
+abbrev pub faultTo : Option Command → Card → List ℕ → ℕ
+faultTo none c d = noFault
+faultTo (some k) c d = faultOf k c d
