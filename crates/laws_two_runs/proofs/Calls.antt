@@ -1,7 +1,7 @@
 -- One call on two sound cards that agree in all but PIN and PUK: it shows the same on both, and passes on cards that agree, since the order of
 -- checks decides the same and no refusal looks at PIN and PUK but for soundness, which both cards have.
 -- Assumes nothing.
-use mathlib.Core.Path.{_≡_, refl, ap, subst}
+use mathlib.Core.Path.{_≡_, refl, ap, ap₂, subst}
 use mathlib.Core.Bool.{Bool, true, false, cond}
 use mathlib.Core.List.{List}
 use mathlib.Core.Option.{Option, none}
@@ -15,7 +15,7 @@ use Rattle.card.specs.Sound.{isSound}
 use Rattle.sound.specs.Reset.{resetAnswer, done, refused}
 use Rattle.rules.specs.Supplies.{suits}
 use Rattle.rules.specs.Steps.{decide}
-use Rattle.rules.specs.Engine.{askOut, AnswerOut, answerRefused, answered, answerOut}
+use Rattle.rules.specs.Engine.{askOut, AnswerOut, answerRefused, answeredAt, answerOut}
 use Rattle.rules.specs.Comparison.{Comparison, comparison}
 use Rattle.laws_commands.specs.Lawful.{erase}
 use Rattle.laws_engine.proofs.Refusals.{answer-refused}
@@ -25,7 +25,7 @@ use Rattle.laws_two_runs.proofs.Order.{decide-same, compared-same}
 
 -- ---- what ANSWER gives, without PIN and PUK
 abbrev eraseAnswer : AnswerOut → AnswerOut
-eraseAnswer a = record { refusal = a .refusal; card = erase (a .card); bytes = a .bytes }
+eraseAnswer a = record { refusal = a .refusal; card = erase (a .card); bytes = a .bytes; fault = a .fault }
 
 -- what a call does on two cards
 pub record StepSame (c d : Card) (k : Call) : Type 0 where
@@ -49,7 +49,7 @@ module _ (p q : List ℕ) (c : Card) (sound : isSound c ≡ true) (sound′ : is
   -- ---- ANSWER: the room decides, then the supply's form; where neither refuses, the comparison is made
   module _ (cmd s : List ℕ) where
     by : Card → Bool → Bool → AnswerOut
-    by x short fits = cond short (answerRefused x noRoom) (cond fits (answered (decide x cmd .answer s)) (answerRefused x wrongSupply))
+    by x short fits = cond short (answerRefused x noRoom) (cond fits (answeredAt (decide x cmd .fault) (decide x cmd .answer s)) (answerRefused x wrongSupply))
 
     abbrev made : Card → AnswerOut → Option Comparison
     made x a = cond (eqb (a .refusal) noRefusal) (comparison x cmd) none
@@ -60,7 +60,7 @@ module _ (p q : List ℕ) (c : Card) (sound : isSound c ≡ true) (sound′ : is
     by-both : (short fits : Bool) → Both (by c short fits) (by other short fits)
     unfolding by
     by-both true fits = (refl, λ _. refl)
-    by-both false true = (compared-same p q c cmd, λ h. ap answered (decide-same p q c cmd .answer h s))
+    by-both false true = (compared-same p q c cmd, λ h. ap₂ answeredAt (decide-same p q c cmd .fault) (decide-same p q c cmd .answer h s))
     by-both false false = (refl, λ _. refl)
 
     answer-both : (room : ℕ) → Both (answerOut c cmd s room) (answerOut other cmd s room)
@@ -76,7 +76,13 @@ module _ (p q : List ℕ) (c : Card) (sound : isSound c ≡ true) (sound′ : is
       let both = answer-both cmd s (length buf) in
       let e : eraseAnswer (answerOut c cmd s (length buf)) ≡ eraseAnswer (answerOut other cmd s (length buf)) = both .1 h in
       record {
-        seen = cc (ap (λ (o : AnswerOut). o .refusal) e, ap (λ (o : AnswerOut). o .bytes) e, ap (λ (o : AnswerOut). o .card) e, both .0);
+        seen = cc (
+          ap (λ (o : AnswerOut). o .refusal) e,
+          ap (λ (o : AnswerOut). o .bytes) e,
+          ap (λ (o : AnswerOut). o .card) e,
+          ap (λ (o : AnswerOut). o .fault) e,
+          both .0,
+        );
         next = erase-agree (answerOut c cmd s (length buf) .card) (answerOut other cmd s (length buf) .card)
             (ap (λ (o : AnswerOut). o .card) e);
       }

@@ -75,10 +75,12 @@ past-unverified p (stops t) = refl
 pub same-compared : (p p′ : Pins) (x : Step Arrived) → unverified p ≡ unverified p′ → comparedPast p x ≡ comparedPast p′ x
 same-compared p p′ x e = sym (past-unverified p x) ∙ ap (λ (q : Pins). comparedPast q x) e ∙ past-unverified p′ x
 
--- ---- two decisions: the supply and its data are the same; so are the answers, but for PIN and PUK of the next card, where L holds
+-- ---- two decisions: the supply, its data and the fault offset are the same; so are the answers, but for PIN and PUK of the next card, where L
+-- holds
 pub record Same (L : Type 0) (x y : Decision) : Type 0 where
   pub supply : x .supply ≡ y .supply
   pub data′ : x .data′ ≡ y .data′
+  pub fault : x .fault ≡ y .fault
   pub answer : L → (s : List ℕ) → eraseOut (x .answer s) ≡ eraseOut (y .answer s)
 
 -- comparisons that come out alike come out the same, and where none is made there is nothing to come out
@@ -191,6 +193,7 @@ module _ (p q : List ℕ) where
       record {
         supply = refl;
         data′ = refl;
+        fault = refl;
         answer = λ h s. told-same (a .over) (replyOf (a .command) (a .card) (a .data′) s) (replyOf (a .command) (swap (a .card)) (a .data′) s)
             (l .replyblind p q (outcomeOf (ruleOf (a .command) .compares) (a .card .pins) (a .data′)) (a .card) (a .data′) s
             ∙ ap (λ (b : Bool). eraseReply (ruleOf (a .command) .reply b (swap (a .card)) (a .data′) s))
@@ -199,7 +202,12 @@ module _ (p q : List ℕ) where
       secret-same (ruleOf (a .command) .compares) (a .card .pins) (swap (a .card) .pins) (a .data′),
     )
     verdict-both (Fails w) = (
-      record { supply = refl; data′ = refl; answer = λ _ s. told-same (a .over) (fails (a .lost) w) (fails (swap (a .lost)) w) refl },
+      record {
+        supply = refl;
+        data′ = refl;
+        fault = refl;
+        answer = λ _ s. told-same (a .over) (fails (a .lost) w) (fails (swap (a .lost)) w) refl;
+      },
       refl,
     )
 
@@ -212,7 +220,7 @@ module _ (p q : List ℕ) where
   module _ (c : Card) (cmd : List ℕ) where
     steps-both : BothPast (c .pins) (swap c .pins) (arrival c cmd)
     steps-both = by-arrival (BothPast (c .pins) (swap c .pins)) c cmd
-        (λ t. (record { supply = refl; data′ = refl; answer = λ _ _. refl }, refl))
+        (λ t. (record { supply = refl; data′ = refl; fault = refl; answer = λ _ _. refl }, refl))
         (λ x k e.
         let a : Arrived = arrivedAt (x .instruction) cmd (x .opened) k in
         rw (

@@ -12,11 +12,13 @@ use borrow.Author.Tests.{le-ltb}
 use lib.ListN.{length, take, replicate, length-append}
 use lib.Seq.{take-all}
 use Rattle.octets.specs.Bytes.{Bytes, Block}
-use Rattle.octets.proofs.Lists.{bytes-append, bytes-replicate}
+use Rattle.octets.proofs.Lists.{bytes-append, bytes-replicate, same-refl}
 use Rattle.aes_rules.specs.Aes.{invAes256}
 use Rattle.aes_cbc.specs.Mode.{cbcDecrypt}
 use Rattle.aes_padding.specs.Padding.{paddedBytes, unpad}
 use Rattle.aes_padding.proofs.Laws.{unpad-pad}
+use Rattle.sha_rules.specs.Hash.{sha256}
+use Rattle.sha_rules.proofs.Blocks.{length-sha256, bytes-sha256}
 use Rattle.refusals.specs.Refusals.{answerRoom}
 use Rattle.channel_rules.specs.declared.Session.{Session}
 use Rattle.channel_rules.specs.Message.{Keyed, lc, commandHead, responseHead, ciphertext, fieldMac, sealField}
@@ -37,7 +39,8 @@ use Rattle.rules.specs.declared.Named.the-variants as named
 use Rattle.rules.specs.declared.Command.{Command}
 use Rattle.rules.specs.declared.Command.the-variants as command
 use Rattle.rules.specs.Words.{Hold, success, word, Reply, succeeds}
-use Rattle.rules.specs.Supplies.{initSupply, suits}
+use Rattle.rules.specs.Supplies.{initSupply, pairFinalSupply, suits}
+use Rattle.rules.specs.Rules.{noFault}
 use Rattle.rules.specs.Rows.{rowOf, isPlain}
 use Rattle.rules.specs.Commands.{mutualChecks, mutualReply, verifyChecks, verifyReply, loadChecks, loadReply, keyWith, openChecks, openReply, pairFinalChecks, pairInto, pairFinalReply, pendingWith, pairFirstChecks, pairFirstReply, withSlot, filledWith, initChecks, initContent, initWith, initReply, initialisedWith, ruleOf}
 use Rattle.rules.specs.Channel.{Outgoing, plainly, tell}
@@ -50,7 +53,7 @@ use Rattle.laws_two_runs.proofs.Sealed.{data-filled, header-is, sealed-
 
 -- ---- ANSWER where the order of checks comes to this decision, and the supply suits
 pub answers : (c : Card) (cmd s : List ℕ) (room : ℕ) (u : Supply) (d : List ℕ) (f : List ℕ → Outgoing) → isSound c ≡ true → answerRoom ≤ room
-    → decide c cmd ≡ record { supply = u; data′ = d; answer = f } → suits u s ≡ true → answerOut c cmd s room ≡ answered (f s)
+    → decide c cmd ≡ record { supply = u; data′ = d; answer = f; fault = noFault } → suits u s ≡ true → answerOut c cmd s room ≡ answered (f s)
 unfolding answerOut
 answers c cmd s room u d f e l m z = rw (e, le-ltb room answerRoom l, m, z)
 
@@ -113,7 +116,8 @@ init-replies : initReply fresh initData (1 ∷ zeros 32) ≡ record { status = s
 unfolding initReply initWith allOf
 init-replies = ap (λ (o : Option (List ℕ)). initWith fresh o) init-opens
 
-init-decides : decide fresh initCommand ≡ record { supply = initSupply; data′ = initData; answer = λ s. plainly (initReply fresh initData s) }
+init-decides : decide fresh initCommand
+    ≡ record { supply = initSupply; data′ = initData; answer = λ s. plainly (initReply fresh initData s); fault = noFault }
 unfolding decide arrival step1 pastStep1 nameOf step4 step5 step6 ruleOf initChecks tell
 init-decides = rw (init-form, init-long)
 
@@ -156,21 +160,28 @@ fresh-reached = record { calls = []; ends = refl }
 pub initialised-reached : Reachable initialisedCard
 initialised-reached = step fresh fresh-reached initCall init-reaches
 
--- ---- PAIR and OPEN, by computation
+-- ---- PAIR and OPEN. The pairing secret, both challenges and the salt are zeros, so that both cryptograms and the pairing key are one hash; the
+-- client sends it
+abbrev pub pairHash : List ℕ
+pairHash = sha256 (zeros 32 ++ zeros 32)
+
 abbrev pairFirstCall : Call
-pairFirstCall = answer (0x80 ∷ 0x12 ∷ 0 ∷ 0 ∷ 32 ∷ zeros 32) (zeros 96) (zeros 258)
+pairFirstCall = answer (0x80 ∷ 0x12 ∷ 0 ∷ 0 ∷ 32 ∷ zeros 32) (zeros 32) (zeros 258)
+
+abbrev pairFinalCommand : List ℕ
+pairFinalCommand = 0x80 ∷ 0x12 ∷ 1 ∷ 0 ∷ 32 ∷ pairHash
 
 abbrev pairFinalCall : Call
-pairFinalCall = answer (0x80 ∷ 0x12 ∷ 1 ∷ 0 ∷ 32 ∷ zeros 32) (zeros 64) (zeros 258)
+pairFinalCall = answer pairFinalCommand (zeros 32) (zeros 258)
 
 abbrev openCall : Call
 openCall = answer (0x80 ∷ 0x10 ∷ 0 ∷ 0 ∷ 65 ∷ 0x04 ∷ zeros 64) (1 ∷ zeros 112) (zeros 258)
 
 abbrev pendingCard : Card
-pendingCard = withPairing initialisedCard (pendingWith (initialisedCard .pairing) (zeros 32))
+pendingCard = withPairing initialisedCard (pendingWith (initialisedCard .pairing) pairHash)
 
 abbrev pairedCard : Card
-pairedCard = withPairing initialisedCard (withSlot (initialisedCard .pairing) 0 (filledWith (zeros 32)))
+pairedCard = withPairing initialisedCard (withSlot (initialisedCard .pairing) 0 (filledWith pairHash))
 
 abbrev stage1Card : Card
 stage1Card = withChannel pairedCard (record { stage = 1; «enc_key» = zeros 32; «mac_key» = zeros 32; iv = zeros 16 })
@@ -179,9 +190,31 @@ pair-first-next : nextAt initialisedCard pairFirstCall ≡ pendingCard
 unfolding nextAt answerOut isSound allOf someOf decide arrival step1 pastStep1 dataOf nameOf step4 step5 step6 ruleOf pairFirstChecks suits pairFirstReply tell
 pair-first-next = refl
 
+final-form : dataOf pairFinalCommand ≡ some pairHash
+final-form =
+    ap (λ (n : ℕ). dataOf (0x80 ∷ 0x12 ∷ 1 ∷ 0 ∷ n ∷ pairHash)) (sym (length-sha256 (zeros 32 ++ zeros 32)))
+    ∙ data-filled 0x80 0x12 1 0 pairHash (omega (arith, length-sha256 (zeros 32 ++ zeros 32)))
+
+final-decides : decide pendingCard pairFinalCommand
+    ≡ record { supply = pairFinalSupply; data′ = pairHash; answer = λ s. plainly (pairFinalReply pendingCard s); fault = noFault }
+unfolding decide arrival step1 pastStep1 nameOf step4 step5 step6 ruleOf pairFinalChecks tell
+final-decides = rw (final-form, length-sha256 (zeros 32 ++ zeros 32), same-refl pairHash)
+
+pending-is-sound : isSound pendingCard ≡ true
+unfolding isSound allOf someOf
+pending-is-sound = refl
+
+final-replies : pairFinalReply pendingCard (zeros 32) .card ≡ pairedCard
+unfolding pairFinalReply pairInto firstFree
+final-replies = refl
+
 pair-final-next : nextAt pendingCard pairFinalCall ≡ pairedCard
-unfolding nextAt answerOut isSound allOf someOf decide arrival step1 pastStep1 dataOf nameOf step4 step5 step6 ruleOf pairFinalChecks suits pairFinalReply pairInto firstFree tell
-pair-final-next = refl
+unfolding nextAt suits
+pair-final-next =
+    ap (λ (a : AnswerOut). a .card)
+    (answers pendingCard pairFinalCommand (zeros 32) 258 pairFinalSupply pairHash (λ s. plainly (pairFinalReply pendingCard s)) pending-is-sound
+    (omega arith) final-decides refl)
+    ∙ final-replies
 
 open-next : nextAt pairedCard openCall ≡ stage1Card
 unfolding nextAt answerOut isSound allOf someOf decide arrival step1 pastStep1 dataOf nameOf step4 step5 step6 ruleOf openChecks suits openReply tell
@@ -254,7 +287,7 @@ module _ (n verified : ℕ) (keys : Keys) (b p1 : ℕ) (b-byte : b < 256) (p1-by
     abbrev arrived : Arrived
     arrived = record { command = k; data′ = d; card = opened; lost = failed (rowOf i .loss) p1 opened; over = true }
 
-    decides : decide c cmd ≡ record { supply = supplyOf k; data′ = d; answer = λ y. tell true (replyOf k opened d y) }
+    decides : decide c cmd ≡ record { supply = supplyOf k; data′ = d; answer = λ y. tell true (replyOf k opened d y); fault = noFault }
     unfolding decide
     decides =
         ap finish (sealed-arrives c c cmd field d i k (first iv (p1 ∷ 0 ∷ lc (length (ciphertext s d)) ∷ field))
@@ -315,31 +348,34 @@ verified-reached =
     sealed-step 2 0 noKeys 0x20 0 (omega arith) (omega arith) (replicate 6 0x30) [] (bytes-replicate 6 0x30 (omega arith)) (omega arith) ins.Verify
     command.Verify refl refl refl refl refl (λ iv. refl) (λ iv more. refl) (λ iv. (refl, tt)) 1 noKeys [] tt (omega arith) (λ iv. refl) stage2-reached
 
--- ---- LOAD: a keypair template with a private key of zeros, kind 1; a seed of zeros, kind 2
+-- ---- LOAD: a keypair template with a private key of zeros, kind 1; a seed of zeros, kind 2. The supplied public key is zeros, and this its hash
+abbrev pub keyHash : List ℕ
+keyHash = sha256 (zeros 65)
+
 abbrev keypairData : List ℕ
 keypairData = 0xA1 ∷ 0x22 ∷ 0x81 ∷ 0x20 ∷ zeros 32
 
 keypair-bytes : Bytes keypairData
 keypair-bytes = (omega arith, (omega arith, (omega arith, (omega arith, bytes-replicate 32 0 (omega arith)))))
 
-pub kind1-reached : Reaching 2 1 (keyWith 1 (zeros 32))
+pub kind1-reached : Reaching 2 1 (keyWith 1 keyHash)
 unfolding nameOf ruleOf suits isSound allOf someOf step1 loadChecks loadReply
 kind1-reached =
-    sealed-step 2 1 noKeys 0xD0 1 (omega arith) (omega arith) keypairData (1 ∷ zeros 32) keypair-bytes (omega arith) ins.Load
-    (command.Load key.Keypair) refl refl refl refl refl (λ iv. refl) (λ iv more. refl) (λ iv. (refl, (refl, tt))) 1 (keyWith 1 (zeros 32)) (zeros 32)
-    (bytes-replicate 32 0 (omega arith)) (omega arith) (λ iv. refl) verified-reached
+    sealed-step 2 1 noKeys 0xD0 1 (omega arith) (omega arith) keypairData (1 ∷ zeros 65) keypair-bytes (omega arith) ins.Load
+    (command.Load key.Keypair) refl refl refl refl refl (λ iv. refl) (λ iv more. refl) (λ iv. (refl, (refl, tt))) 1 (keyWith 1 keyHash) keyHash
+    (bytes-sha256 (zeros 65)) (omega (arith, length-sha256 (zeros 65))) (λ iv. refl) verified-reached
 
-pub kind2-reached : Reaching 2 1 (keyWith 2 (zeros 32))
+pub kind2-reached : Reaching 2 1 (keyWith 2 keyHash)
 unfolding nameOf ruleOf suits isSound allOf someOf step1 loadChecks loadReply
 kind2-reached =
-    sealed-step 2 1 noKeys 0xD0 3 (omega arith) (omega arith) (zeros 64) (1 ∷ zeros 32) (bytes-replicate 64 0 (omega arith)) (omega arith) ins.Load
-    (command.Load key.Seed) refl refl refl refl refl (λ iv. refl) (λ iv more. refl) (λ iv. (refl, (refl, tt))) 1 (keyWith 2 (zeros 32)) (zeros 32)
-    (bytes-replicate 32 0 (omega arith)) (omega arith) (λ iv. refl) verified-reached
+    sealed-step 2 1 noKeys 0xD0 3 (omega arith) (omega arith) (zeros 64) (1 ∷ zeros 65) (bytes-replicate 64 0 (omega arith)) (omega arith) ins.Load
+    (command.Load key.Seed) refl refl refl refl refl (λ iv. refl) (λ iv more. refl) (λ iv. (refl, (refl, tt))) 1 (keyWith 2 keyHash) keyHash
+    (bytes-sha256 (zeros 65)) (omega (arith, length-sha256 (zeros 65))) (λ iv. refl) verified-reached
 
 -- each of these cards is sound, whatever its IV
 pub reached-sound : (iv : List ℕ)
     → (isSound (inChannel 2 iv 0 noKeys) ≡ true)
-    × (isSound (inChannel 2 iv 1 (keyWith 1 (zeros 32))) ≡ true)
-    × (isSound (inChannel 2 iv 1 (keyWith 2 (zeros 32))) ≡ true)
+    × (isSound (inChannel 2 iv 1 (keyWith 1 keyHash)) ≡ true)
+    × (isSound (inChannel 2 iv 1 (keyWith 2 keyHash)) ≡ true)
 unfolding isSound allOf someOf
 reached-sound iv = (refl, refl, refl)

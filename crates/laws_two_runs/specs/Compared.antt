@@ -9,7 +9,7 @@ use lib.ListN.{take, drop}
 use Rattle.card.specs.declared.Card.{Card}
 use Rattle.rules.specs.Words.{Reply}
 use Rattle.rules.specs.Supplies.{noSupply}
-use Rattle.rules.specs.Rules.{Secret, pin, puk, rightBy}
+use Rattle.rules.specs.Rules.{Secret, pin, puk, rightBy, noFault}
 use Rattle.rules.specs.Commands.{verifyReply, unblockReply}
 use Rattle.rules.specs.Channel.{withMac, Outgoing, tell}
 use Rattle.rules.specs.Steps.{step1, dataOf, openedBy, decide}
@@ -30,4 +30,4 @@ pub record Compared (c : Card) (cmd : List ℕ) (x : Comparison) : Type 0 where
   pub right : x .right ≡ rightBy (x .of) (c .pins) data′
   pub told : Outgoing
   pub tells : told ≡ tell true (replyBy (x .of) (x .right) (withMac (step1 cmd c) (take 16 field)) data′)
-  pub decides : decide c cmd ≡ record { supply = noSupply; data′ = data′; answer = λ _. told }
+  pub decides : decide c cmd ≡ record { supply = noSupply; data′ = data′; answer = λ _. told; fault = noFault }

@@ -60,7 +60,7 @@ bufferAt c reset = []
 -- ---- a report as it is shown: all of it, but PIN and PUK of its card are put away. A number that the code's struct gains has to be written here
 -- too, and what is shown is then what is reported (Shown.antt, `alike`)
 abbrev pub answeredWith : Card → Answered → Answered
-answeredWith c r = record { refusal = r .refusal; count = r .count; card = c }
+answeredWith c r = record { refusal = r .refusal; count = r .count; «fault_offset» = r .«fault_offset»; card = c }
 
 abbrev pub resetWith : Card → Answer → Answer
 resetWith c r = record { refusal = r .refusal; card = c }
