@@ -28,6 +28,7 @@ use Rattle.rules.specs.Commands.{isVerified, verifyChecks, verifyReply, unblock
 use Rattle.rules.specs.Rows.{rowOf, isPlain}
 use Rattle.rules.specs.Steps.{begun, arrival, checksOf, supplyOf, replyOf}
 use Rattle.laws_exchange.specs.Opens.{outcome}
+use Rattle.laws_two_runs.proofs.Reached.{keyHash}
 use Rattle.laws_two_runs.specs.Runs.{Call, answer}
 use Rattle.laws_allowance.specs.Events.{succeededAt, eventAt}
 use Rattle.laws_allowance.specs.History.{History, cardAfter}
@@ -127,7 +128,7 @@ unblock-short =
 
 -- ---- SIGN, and EXPORT of the private key of EIP-1581's node, with an extended key and a verified PIN
 abbrev extended : Keys
-extended = keyWith 2 (zeros 32)
+extended = keyWith 2 keyHash
 
 -- a call after a history with these pins and keys that gives 9000
 record Gives (p : Pins) (keys : Keys) (k : Command) : Type 0 where

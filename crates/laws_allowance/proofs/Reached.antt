@@ -2,7 +2,7 @@
 -- Assumes nothing.
 use mathlib.Core.Path.{_≡_, refl, ap, _∙_, subst}
 use mathlib.Core.Bool.{true, false}
-use mathlib.Core.List.{List, [], _∷_}
+use mathlib.Core.List.{List, [], _∷_, _++_}
 use mathlib.Core.Option.{some}
 use Prim.Native.Nat.{ℕ, _≤_}
 use native.Mathlib.Omega.{arith}
@@ -29,7 +29,8 @@ use Rattle.laws_commands.proofs.Changed.{keys-set}
 use Rattle.laws_exchange.specs.Opens.{outcome}
 use Rattle.laws_exchange.specs.Exchange.{Typed}
 use Rattle.laws_two_runs.specs.Runs.{nextAt}
-use Rattle.laws_two_runs.proofs.Reached.{fresh, Reachable, inChannel, session-keyed, stage2-reached, kind2-reached, reached-sound}
+use Rattle.sha_rules.proofs.Blocks.{length-sha256}
+use Rattle.laws_two_runs.proofs.Reached.{fresh, Reachable, pairHash, inChannel, session-keyed, stage2-reached, keyHash, kind2-reached, reached-sound}
 use Rattle.laws_allowance.specs.History.{Historic}
 use Rattle.laws_allowance.proofs.Init.{in-history}
 use Rattle.laws_allowance.proofs.Turns.{Live, historic-then, call, live-next, card-next}
@@ -57,8 +58,8 @@ reachable-historic : (c : Card) → isInitialised c ≡ true → Reachable c →
 reachable-historic c i r = subst Historic (r .ends)
     (in-history (r .calls) fresh (fresh-sound (zeros 16) (zeros 65)) refl (ap isInitialised (r .ends) ∙ i))
 
-typed : (iv : List ℕ) → Block iv → (verified kind : ℕ) → Typed (inChannel 2 iv verified (keyWith kind (zeros 32)))
-typed iv block verified kind = record {
+typed : (iv : List ℕ) → Block iv → (verified kind : ℕ) (uid : List ℕ) → length uid ≡ 32 → Typed (inChannel 2 iv verified (keyWith kind uid))
+typed iv block verified kind uid long = record {
   shaped = record {
     uid = refl;
     «public_key» = refl;
@@ -66,9 +67,10 @@ typed iv block verified kind = record {
     puk = refl;
     secret = refl;
     slots = refl;
-    keys = keys-set (replicate slotCount freeSlot) 0 (filledWith (zeros 32)) (keys-long-replicate slotCount freeSlot refl) refl;
+    keys = keys-set (replicate slotCount freeSlot) 0 (filledWith pairHash) (keys-long-replicate slotCount freeSlot refl)
+        (length-sha256 (zeros 32 ++ zeros 32));
     expected = refl;
-    keyuid = refl;
+    keyuid = long;
     current = refl;
     pinless = refl;
     tap = refl;
@@ -83,21 +85,21 @@ opened-reached = record {
   iv = stage2-reached .iv;
   live = record {
     sound = reached-sound (stage2-reached .iv) .0;
-    typed = typed (stage2-reached .iv) (stage2-reached .block) 0 0;
+    typed = typed (stage2-reached .iv) (stage2-reached .block) 0 0 (zeros 32) refl;
     stage = refl;
   };
   historic = reachable-historic (inChannel 2 (stage2-reached .iv) 0 noKeys) refl (stage2-reached .reached);
 }
 
-pub loaded-reached : Reached (pinsWith 3 5 1) (keyWith 2 (zeros 32))
+pub loaded-reached : Reached (pinsWith 3 5 1) (keyWith 2 keyHash)
 loaded-reached = record {
   iv = kind2-reached .iv;
   live = record {
     sound = reached-sound (kind2-reached .iv) .2;
-    typed = typed (kind2-reached .iv) (kind2-reached .block) 1 2;
+    typed = typed (kind2-reached .iv) (kind2-reached .block) 1 2 keyHash (length-sha256 (zeros 65));
     stage = refl;
   };
-  historic = reachable-historic (inChannel 2 (kind2-reached .iv) 1 (keyWith 2 (zeros 32))) refl (kind2-reached .reached);
+  historic = reachable-historic (inChannel 2 (kind2-reached .iv) 1 (keyWith 2 keyHash)) refl (kind2-reached .reached);
 }
 
 -- ---- one sealed command: 80 b p1 00 with these data and this supply

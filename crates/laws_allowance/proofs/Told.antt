@@ -24,7 +24,7 @@ use Rattle.rules.specs.Supplies.{suits}
 use Rattle.rules.specs.Rows.{rowOf, isPlain}
 use Rattle.rules.specs.Channel.{withMac, Outgoing, tell}
 use Rattle.rules.specs.Steps.{Step, goes, stops, then, stopsWith, step1, dataOf, byForm, claOf, insOf, p1Of, p2Of, nameOf, isInitialised, byName, Opened, byOpening, inStage, openedBy, step4, Arrived, byChoice, step5, pastStep1, arrival, checksOf, supplyOf, replyOf, byVerdict, step6, finish, decide}
-use Rattle.rules.specs.Engine.{AnswerOut, answered, answerOut}
+use Rattle.rules.specs.Engine.{AnswerOut, answeredAt, answerOut}
 use Rattle.laws_commands.proofs.Checks.{never}
 use Rattle.laws_allowance.specs.Events.{givenBy, wordBy, givenPast, given}
 use Rattle.laws_allowance.specs.Told.{isGiven, Came, Told}
@@ -113,7 +113,7 @@ given-came c cmd s k = go (arrival c cmd) refl
     go (stops t) e g = never k g
 
 -- ---- ANSWER
-taken : (c : Card) (cmd s : List ℕ) (room : ℕ) → answerOut c cmd s room .refusal ≡ 0 → answerOut c cmd s room ≡ answered (decide c cmd .answer s)
+taken : (c : Card) (cmd s : List ℕ) (room : ℕ) → answerOut c cmd s room .refusal ≡ 0 → answerOut c cmd s room ≡ answeredAt (decide c cmd .fault) (decide c cmd .answer s)
 unfolding answerOut
 taken c cmd s room = by-test Taken (isSound c)
     (λ _. by-test Taken (ltb room answerRoom) (λ _ z. absurd (omega (arith, z)))
@@ -121,7 +121,7 @@ taken c cmd s room = by-test Taken (isSound c)
     (λ _ z. absurd (omega (arith, z)))
   where
     Taken : AnswerOut → Type 0
-    Taken o = o .refusal ≡ 0 → o ≡ answered (decide c cmd .answer s)
+    Taken o = o .refusal ≡ 0 → o ≡ answeredAt (decide c cmd .fault) (decide c cmd .answer s)
 
 pub told : (c : Card) (cmd s : List ℕ) (room : ℕ) → answerOut c cmd s room .refusal ≡ 0 → Told c cmd s room
 told c cmd s room z =
@@ -129,7 +129,8 @@ told c cmd s room z =
     record {
       over = h .over;
       reply = h .reply;
-      answer = taken c cmd s room z ∙ ap answered (h .tells);
+      fault = decide c cmd .fault;
+      answer = taken c cmd s room z ∙ ap (answeredAt (decide c cmd .fault)) (h .tells);
       word = h .word;
       came = given-came c cmd s;
     }

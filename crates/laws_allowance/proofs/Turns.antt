@@ -24,7 +24,7 @@ use Rattle.rules.specs.Channel.{sessionOf, withMac}
 use Rattle.rules.specs.Steps.{goes, Arrived, arrival, checksOf, supplyOf, replyOf}
 use Rattle.rules.specs.Engine.{answerOut}
 use Rattle.laws_commands.proofs.Checks.{held}
-use Rattle.laws_exchange.specs.Opens.{outcome}
+use Rattle.laws_exchange.specs.Opens.{outcome, faultOf}
 use Rattle.laws_exchange.specs.Exchange.{Typed, Turn, answeredBy, Names, opened, InStage2}
 use Rattle.laws_exchange.proofs.Seals.{gives}
 use Rattle.laws_exchange.proofs.Exchanges.{names, opens2, listed2}
@@ -97,7 +97,7 @@ module _ (c : Card) (r : Live c) (i : Instruction) (over : isPlain i ≡ false) 
   arrives = opens2 c turn named (r .sound) (r .typed) (r .stage) k listed .there
 
   module _ (right : Hold (checksOf k (opened c turn) d) → suits (supplyOf k) u ≡ true) where
-    done : InStage2 c turn (outcome k (opened c turn) d u)
+    done : InStage2 c turn (outcome k (opened c turn) d u) (faultOf k (opened c turn) d)
     done = listed2 c turn named (r .sound) (r .typed) (r .stage) k listed right
 
     same : answerOut c cmd u 258 ≡ answeredBy c turn

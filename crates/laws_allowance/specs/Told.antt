@@ -11,7 +11,7 @@ use Rattle.rules.specs.declared.Command.{Command}
 use Rattle.rules.specs.Words.{success, Reply}
 use Rattle.rules.specs.Channel.{tell}
 use Rattle.rules.specs.Steps.{goes, Arrived, arrival}
-use Rattle.rules.specs.Engine.{answered, answerOut}
+use Rattle.rules.specs.Engine.{answeredAt, answerOut}
 use Rattle.laws_allowance.specs.Events.{given}
 
 abbrev pub isGiven : Option Command → Bool
@@ -27,6 +27,7 @@ pub record Came (c : Card) (cmd : List ℕ) (k : Command) : Type 0 where
 pub record Told (c : Card) (cmd s : List ℕ) (room : ℕ) : Type 0 where
   pub over : Bool
   pub reply : Reply
-  pub answer : answerOut c cmd s room ≡ answered (tell over reply)
+  pub fault : ℕ
+  pub answer : answerOut c cmd s room ≡ answeredAt fault (tell over reply)
   pub word : isGiven (given c cmd s) ≡ eqb (reply .status) success
   pub came : (k : Command) → given c cmd s ≡ some k → Came c cmd k
