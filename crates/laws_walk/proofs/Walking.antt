@@ -1,5 +1,5 @@
--- WALK by what it reads: it counts n exactly for the encodings of trees with n leaves, and refuses exactly where there is a first fault, with that fault;
--- every input is the one or has the other, and a fault has one place, which is that of a tag.
+-- WALK by what it reads: it counts n exactly for the encodings of trees with n leaves, and refuses exactly where there is a first fault, with that fault
+-- and its offset in bytes; every input is the one or has the other, and a fault has one place, which is that of a tag.
 -- Assumes nothing.
 use mathlib.Core.Path.{_≡_, refl, sym, ap, _∙_, subst}
 use mathlib.Core.Bool.{true}
@@ -14,7 +14,7 @@ use Rattle.template_walk.specs.declared.Fault.{Fault}
 use Rattle.template_walk.specs.declared.Fault.the-variants.{Malformed, TooDeep}
 use Rattle.template_walk.specs.declared.Walked.{Walked}
 use Rattle.template_walk.specs.declared.Walked.the-variants.{Fields, Refused}
-use Rattle.template_walk.specs.Walk.{walkOf, WalkOut, report, WALK}
+use Rattle.template_walk.specs.Walk.{walkOf, refusalNumber, WalkOut, report, WALK}
 use Rattle.laws_walk.specs.Trees.{Trees, encode, leaves, Lawful, deepest, Shallow, Encodes, Holds}
 use Rattle.laws_walk.specs.Faults.{FaultAt, head, over, deep, inside, after, FirstFault}
 use Rattle.laws_walk.proofs.Finding.{found, found-walks}
@@ -98,30 +98,56 @@ fault-tag (inside {k = k} tag v rest b t g x) e =
     ) (fault-tag x e)
 fault-tag (after {k = k} ts rest l sh x) e = rw (getD-append-add (encode ts) rest k 0) (fault-tag x e)
 
--- ---- WALK, by the numbers of its refusals
-pub counts-fields : (w : Walked) (n : ℕ) → report w ≡ record { refusal = 0; count = n } → w ≡ Fields n
+-- ---- WALK, by the numbers that it tells: the refusal's, the count of fields, and the fault offset
+pub counts-fields : (w : Walked) (n : ℕ) → report w ≡ record { refusal = 0; count = n; offset = 0 } → w ≡ Fields n
 counts-fields (Fields m) n e = ap (λ (r : WalkOut). Fields (r .count)) e
 counts-fields (Refused Malformed k) n e = absurd (omega (arith, ap (λ (r : WalkOut). r .refusal) e))
 counts-fields (Refused TooDeep k) n e = absurd (omega (arith, ap (λ (r : WalkOut). r .refusal) e))
 
-pub walk-encodes : {ts : Trees} {s : List ℕ} {n : ℕ} → Encodes ts s n → WALK s ≡ record { refusal = 0; count = n }
+pub walk-encodes : {ts : Trees} {s : List ℕ} {n : ℕ} → Encodes ts s n → WALK s ≡ record { refusal = 0; count = n; offset = 0 }
 walk-encodes {ts} {s} {n} x = ap report (walk-trees ts s n x)
 
-pub taken : (s : List ℕ) (n : ℕ) → WALK s ≡ record { refusal = 0; count = n } ↔ Holds s n
+pub taken : (s : List ℕ) (n : ℕ) → WALK s ≡ record { refusal = 0; count = n; offset = 0 } ↔ Holds s n
 taken s n = (λ e. holds-of s n (counts-fields (walkOf s) n e), λ h. walk-encodes (h .1))
 
+-- the numbers of a refusal say all of it
+tells-fault : (w : Walked) (f : Fault) → report w .refusal ≡ refusalNumber f → w ≡ Refused f (report w .offset)
+tells-fault (Fields m) Malformed e = absurd (omega arith)
+tells-fault (Fields m) TooDeep e = absurd (omega arith)
+tells-fault (Refused Malformed k) Malformed e = refl
+tells-fault (Refused Malformed k) TooDeep e = absurd (omega arith)
+tells-fault (Refused TooDeep k) Malformed e = absurd (omega arith)
+tells-fault (Refused TooDeep k) TooDeep e = refl
+
+-- WALK refuses with the number of f and tells the offset k exactly if the first fault is f, and its field's tag is at k
+pub told-fault : (s : List ℕ) (f : Fault) (k : ℕ) → ((WALK s .refusal ≡ refusalNumber f) × (WALK s .offset ≡ k)) ↔ FirstFault s f k
+told-fault s f k = (
+  λ e. fault-of s f k (tells-fault (walkOf s) f (e .0) ∙ ap (Refused f) (e .1)),
+  λ x. let e = ap report (walk-fault s f k x) in (ap (λ (r : WalkOut). r .refusal) e, ap (λ (r : WalkOut). r .offset) e),
+)
+
+-- with the number alone: there is such a k
+refuses : (s : List ℕ) (f : Fault) → WALK s .refusal ≡ refusalNumber f ↔ ((k : ℕ) × FirstFault s f k)
+refuses s f = (λ e. (WALK s .offset, told-fault s f (WALK s .offset) .0 (e, refl)), λ x. told-fault s f (x .0) .1 (x .1) .0)
+
 pub malformed : (s : List ℕ) → WALK s .refusal ≡ 4 ↔ ((k : ℕ) × FirstFault s Malformed k)
-malformed s = (go (walkOf s) refl, λ x. ap (λ (w : Walked). report w .refusal) (walk-fault s Malformed (x .0) (x .1)))
-  where
-    go : (w : Walked) → walkOf s ≡ w → report w .refusal ≡ 4 → (k : ℕ) × FirstFault s Malformed k
-    go (Fields m) e g = absurd (omega arith)
-    go (Refused Malformed k) e g = (k, fault-of s Malformed k e)
-    go (Refused TooDeep k) e g = absurd (omega arith)
+malformed s = refuses s Malformed
 
 pub too-deep : (s : List ℕ) → WALK s .refusal ≡ 5 ↔ ((k : ℕ) × FirstFault s TooDeep k)
-too-deep s = (go (walkOf s) refl, λ x. ap (λ (w : Walked). report w .refusal) (walk-fault s TooDeep (x .0) (x .1)))
+too-deep s = refuses s TooDeep
+
+-- ---- the offset is 0 where nothing is refused, and that of a byte of the input where something is
+pub offset-none : (s : List ℕ) → WALK s .refusal ≡ 0 → WALK s .offset ≡ 0
+offset-none s = go (walkOf s)
   where
-    go : (w : Walked) → walkOf s ≡ w → report w .refusal ≡ 5 → (k : ℕ) × FirstFault s TooDeep k
-    go (Fields m) e g = absurd (omega arith)
-    go (Refused Malformed k) e g = absurd (omega arith)
-    go (Refused TooDeep k) e g = (k, fault-of s TooDeep k e)
+    go : (w : Walked) → report w .refusal ≡ 0 → report w .offset ≡ 0
+    go (Fields n) e = refl
+    go (Refused Malformed k) e = absurd (omega arith)
+    go (Refused TooDeep k) e = absurd (omega arith)
+
+pub offset-place : (s : List ℕ) → (WALK s .refusal ≡ 0 → ⊥) → WALK s .offset < length s
+offset-place s = go (walkOf s) refl
+  where
+    go : (w : Walked) → walkOf s ≡ w → (report w .refusal ≡ 0 → ⊥) → report w .offset < length s
+    go (Fields n) e h = absurd (h refl)
+    go (Refused f k) e h = fault-place (fault-of s f k e)

@@ -1,5 +1,5 @@
-// The operations by value as the C boundary takes and gives them: arrays by reference, one struct of refusal and count.
-// Every length, room and count is in bytes; a refusal 0 means that there was none.
+// The operations by value as the C boundary takes and gives them: arrays by reference, and structs of numbers for what is told.
+// Every length, room, count and offset is in bytes (WALK counts fields); a refusal 0 means that there was none.
 // Proved: the promises of the operations by value.
 ghost use mathlib.Core.Path.{_≡_};
 ghost use mathlib.Core.Bool.{cond};
@@ -26,11 +26,29 @@ pub const TAP_RECORD: u8 = 1;
 
 pub const TAP_FACTORY: u8 = 2;
 
-// What an operation reports: the refusal's number, or 0 for none, and how many bytes it wrote from the buffer's start (WALK: fields).
+// What SEAL, UNSEAL and WRITE report: the refusal's number, or 0 for none, and how many bytes they wrote from the buffer's start.
 #[repr(C)]
 pub struct Counted {
     pub refusal: u8,
     pub count: usize,
+}
+
+// What ANSWER reports: the refusal's number, or 0 for none; how many bytes it wrote from the buffer's start; and the fault offset in bytes
+// from the start of the opened data, or rules::NO_FAULT.
+#[repr(C)]
+pub struct AnswerTold {
+    pub refusal: u8,
+    pub count: usize,
+    pub fault_offset: usize,
+}
+
+// What WALK reports: the refusal's number, or 0 for none; how many fields that are not templates it counted; and, where it refuses, the fault
+// offset in bytes from the input's start, else 0.
+#[repr(C)]
+pub struct WalkTold {
+    pub refusal: u8,
+    pub count: usize,
+    pub fault_offset: usize,
 }
 
 // What the tap read reports: the refusal's number, or 0 for none; which slice, as TAP_..; and where the part begins in it and how long it is,

@@ -1,5 +1,5 @@
 // SEAL, UNSEAL and WALK for callers in C and Rust (RULES 3.8; include/treadlewisp.h). The session is lent, and changed where it lies.
-// Every length, room and count is in bytes (WALK counts fields); a refusal 0 means that there was none.
+// Every length, room, count and offset is in bytes (WALK counts fields); a refusal 0 means that there was none.
 // Proved: the promises of the operations by value, over the session at entry and at exit; refused, it is as it was.
 ghost use mathlib.Core.Path.{_≡_};
 ghost use lib.ListN.{length};
@@ -9,6 +9,7 @@ ghost use Rattle.template_walk.specs.Walk.{WALK};
 ghost use Rattle.library_calls.specs.Left.{sessionOutcome, walkOutOf};
 use channel_rules::Session;
 use library_calls::Counted;
+use library_calls::WalkTold;
 
 // SEAL, the terminal's end of the channel.
 #[no_mangle]
@@ -45,13 +46,18 @@ pub extern "C" fn tw_unseal(session: &mut Session, response: &[u8], buf: &mut [u
     }
 }
 
-// WALK: the count is of fields that are not templates.
+// WALK: the count is of fields that are not templates, and the fault offset that of the faulty field's tag.
 #[no_mangle]
-pub extern "C" fn tw_walk(input: &[u8]) -> Counted
+pub extern "C" fn tw_walk(input: &[u8]) -> WalkTold
     ensures { λ r. ⌜ walkOutOf r ≡ WALK (now (input .entry)) ⌝ }
 {
     let w = template_walk::walk(input);
     let refusal = template_walk::refusal(w);
     let count = template_walk::count(w);
-    Counted { refusal, count }
+    let fault_offset = template_walk::fault_offset(w);
+    WalkTold {
+        refusal,
+        count,
+        fault_offset,
+    }
 }
