@@ -4,3 +4,4 @@ pub mod Agreement
 pub mod Lengths
 pub mod Rooms
 pub mod Tapped
+pub mod Faults

@@ -1,1 +1,2 @@
 pub mod Tapped
+pub mod Faults
