@@ -14,13 +14,17 @@ use Rattle.channel_seal.specs.declared.Response.{Response}
 use Rattle.channel_seal.specs.Promise.{ResponseSealed}
 use Rattle.card.specs.declared.Card.{Card}
 use Rattle.rules.specs.Words.{Reply}
+use Rattle.rules.specs.Rules.{noFault}
 use Rattle.rules.specs.Channel.{sessionOf, withMac, plainText, plainly, sealed, tell}
 use Rattle.rules.specs.declared.Answered.{Answered}
 use Rattle.rules.specs.Code.{replyWith}
 use Rattle.rules.specs.Engine.{AnswerOut, answered}
 use Rattle.rules.specs.Reports.{AnswerDid}
 
--- ---- another name for what is answered
+-- ---- what is told of an answer, and another name for what is answered
+abbrev pub toldOf : ℕ → Card → Answered
+toldOf n c = record { refusal = 0; count = n; «fault_offset» = noFault; card = c }
+
 pub answer-as : (o o′ : AnswerOut) (r : Answered) (b a : List ℕ) → o′ ≡ o → AnswerDid o r b a → AnswerDid o′ r b a
 answer-as o o′ r b a e h = subst (λ (x : AnswerOut). AnswerDid x r b a) (sym e) h
 
@@ -46,15 +50,15 @@ module _ (w : ℕ) (x : List ℕ) (c : Card) (sw1 sw2 : ℕ) (high : sw1 ≡ w /
   text = rw (high, low)
 
   pub did-plainly : (b m a : List ℕ) → m ≡ overwrite b 0 x → a ≡ overwrite m (length x) (sw1 ∷ sw2 ∷ [])
-      → AnswerDid (answered (plainly (replyWith w x c))) (record { refusal = 0; count = length x + 2; card = c }) b a
+      → AnswerDid (answered (plainly (replyWith w x c))) (toldOf (length x + 2) c) b a
   did-plainly b m a e f = record {
-    told = ap (λ (n : ℕ). record { refusal = 0; count = n; card = c }) (sym (length-append x (sw1 ∷ sw2 ∷ [])) ∙ ap length text);
+    told = ap (λ (n : ℕ). toldOf n c) (sym (length-append x (sw1 ∷ sw2 ∷ [])) ∙ ap length text);
     left = f ∙ ap (λ (y : List ℕ). overwrite y (length x) (sw1 ∷ sw2 ∷ [])) e ∙ put-behind b x (sw1 ∷ sw2 ∷ []) ∙ ap (λ (y : List ℕ). written y b) text;
   }
 
   pub did-sealed : (s : Session) → s ≡ sessionOf (c .channel) → (t : Response) (b a : List ℕ) → ResponseSealed s (x ++ (sw1 ∷ sw2 ∷ [])) b t a
       → (next : Card) → next ≡ withMac c (t .session .iv)
-      → AnswerDid (answered (sealed (replyWith w x c))) (record { refusal = 0; count = t .count; card = next }) b a
+      → AnswerDid (answered (sealed (replyWith w x c))) (toldOf (t .count) next) b a
   did-sealed s e t b a p next f = record {
     told = told-as (q .count) (f ∙ ap (λ (y : Session). withMac c (y .iv)) (q .session));
     left = q .left;
@@ -64,5 +68,5 @@ module _ (w : ℕ) (x : List ℕ) (c : Card) (sw1 sw2 : ℕ) (high : sw1 ≡ w /
       q = subst (λ (y : List ℕ). ResponseSealed (sessionOf (c .channel)) y b t a) text
           (subst (λ (y : Session). ResponseSealed y (x ++ (sw1 ∷ sw2 ∷ [])) b t a) e p)
 
-      told-as : {n m : ℕ} {u v : Card} → n ≡ m → u ≡ v → _≡_ {A = Answered} (record { refusal = 0; count = n; card = u }) (record { refusal = 0; count = m; card = v })
+      told-as : {n m : ℕ} {u v : Card} → n ≡ m → u ≡ v → toldOf n u ≡ toldOf m v
       told-as g h = cc

@@ -1,4 +1,4 @@
-// Writing a response: the response data and the status word, in the clear or sealed together, and the card that is left.
+// Writing a response: the response data and the status word, in the clear or sealed together, and the card that is left; no fault offset is told.
 // Every length, room and count is in bytes.
 // Proved: the count, the next card and every byte of the buffer are the rulebook's, for any reply that fits and any buffer with room.
 ghost use mathlib.Core.Path.{_≡_};
@@ -10,6 +10,7 @@ ghost use Rattle.rules.specs.Code.{replyWith};
 ghost use Rattle.rules.specs.Reports.{AnswerDid};
 use card::Card;
 use rules::Answered;
+use rules::NO_FAULT;
 
 // An answer in the clear: the response data, then the status word.
 fn tell_plainly(card: Card, status: u16, response: &[u8], buf: &mut [u8]) -> Answered
@@ -25,6 +26,7 @@ fn tell_plainly(card: Card, status: u16, response: &[u8], buf: &mut [u8]) -> Ans
     Answered {
         refusal: refusals::REFUSAL_NONE,
         count: n + 2,
+        fault_offset: NO_FAULT,
         card,
     }
 }
@@ -44,6 +46,7 @@ fn tell_sealed(card: Card, status: u16, response: &[u8], buf: &mut [u8]) -> Answ
     Answered {
         refusal: refusals::REFUSAL_NONE,
         count,
+        fault_offset: NO_FAULT,
         card: channel_card::with_mac(card, mac),
     }
 }
