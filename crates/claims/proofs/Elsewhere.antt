@@ -29,7 +29,7 @@ use Rattle.rules.specs.Supplies.{suits}
 use Rattle.rules.specs.Commands.{isVerified, exportedPath, inEip1581, exportChecks, ruleOf}
 use Rattle.rules.specs.Rows.{rowOf}
 use Rattle.rules.specs.Channel.{Outgoing, tell}
-use Rattle.rules.specs.Steps.{Step, goes, stops, begins, dropping, step1, begun, Arrived, arrival, checksOf, supplyOf, Decision, ends, byVerdict, step6, finish, decide}
+use Rattle.rules.specs.Steps.{Step, goes, stops, begins, dropping, step1, begun, Arrived, arrival, checksOf, supplyOf, Decision, endsAt, byVerdict, step6, finish, decide}
 use Rattle.rules.specs.Engine.{AnswerOut, answered, answerRefused, withSupply, answerOut}
 use Rattle.laws_commands.proofs.Checks.{by-verdict}
 use Rattle.laws_commands.proofs.Arrival.{At, by-opened, by-step5, by-pastStep1}
@@ -113,9 +113,9 @@ module _ (c : Card) (cmd s t : List ℕ) (l : length s ≡ 98) (m : length t ≡
   abbrev Same : Decision → Type 0
   Same d = withSupply c d s ≡ withSupply c d t
 
-  ends-same : (x : Outgoing) → Same (ends x)
+  ends-same : (n : ℕ) (x : Outgoing) → Same (endsAt n x)
   unfolding suits
-  ends-same x = refl
+  ends-same n x = refl
 
   step6-same : (a : Arrived) → arrival c cmd ≡ goes a → Same (step6 a)
   unfolding step6
@@ -124,11 +124,11 @@ module _ (c : Card) (cmd s t : List ℕ) (l : length s ≡ 98) (m : length t ≡
       let k = unless-private (a .card) (a .data′) s t l m e (a .command) (λ which asks. not′ (lets c cmd a there which asks h)) in
       cond-alike (suits (supplyOf (a .command)) s) (suits (supplyOf (a .command)) t) _ _ (answerRefused c wrongSupply) (k .0)
       (λ h. ap (λ r. answered (tell (a .over) r)) (k .1 h)))
-      (λ w. ends-same (tell (a .over) (fails (a .lost) w)))
+      (λ w. ends-same _ (tell (a .over) (fails (a .lost) w)))
 
   decided : (x : Step Arrived) → arrival c cmd ≡ x → Same (finish x)
   decided (goes a) there = step6-same a there
-  decided (stops x) there = ends-same x
+  decided (stops x) there = ends-same _ x
 
   pub elsewhere : (room : ℕ) → answerOut c cmd s room ≡ answerOut c cmd t room
   unfolding answerOut decide

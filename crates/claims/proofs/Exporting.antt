@@ -37,10 +37,11 @@ use Rattle.rules.specs.Rows.{rowOf, isPlain}
 use Rattle.rules.specs.Channel.{withMac, plainText}
 use Rattle.rules.specs.Steps.{claOf, insOf, p1Of, p2Of, nameOf, isInitialised, checksOf}
 use Rattle.laws_commands.proofs.Checks.{by-verdict-below, held}
-use Rattle.laws_exchange.specs.Opens.{outcomeBy, outcome}
+use Rattle.sha_rules.proofs.Blocks.{length-sha256}
+use Rattle.laws_exchange.specs.Opens.{outcomeBy, outcome, faultOf}
 use Rattle.laws_exchange.specs.Exchange.{Typed, Turn, answeredBy, unsealedBy, Names, listed, opened, Exchange, InStage2}
 use Rattle.laws_exchange.proofs.Exchanges.{known, staged, listed2}
-use Rattle.laws_two_runs.proofs.Reached.{inChannel, kind2-reached, reached-sound}
+use Rattle.laws_two_runs.proofs.Reached.{inChannel, keyHash, kind2-reached, reached-sound}
 use Rattle.claims.specs.Export.{chatNode, askedPath, p1Byte, p2Byte, exportHeader, Supposed, cardAfter, Ended, exported, failed, Reads, besideNode}
 use Rattle.claims.proofs.RowsMet.{channel-typed}
 use Rattle.claims.proofs.Elsewhere.{asked-is, begun-so}
@@ -85,7 +86,7 @@ module _ (c : Card) (t : Turn) (which : ExportPath) (what : ExportPart) (sound :
 
   -- the turn, whatever the checks come to
   module _ (right : Hold (exportChecks (c .pins) (c .keys) which what (t .data′)) → suits exportSupply (t .supply) ≡ true) where
-    turn : InStage2 c t (outcome (Asked which what) (opened c t) (t .data′) (t .supply))
+    turn : InStage2 c t (outcome (Asked which what) (opened c t) (t .data′) (t .supply)) (faultOf (Asked which what) (opened c t) (t .data′))
     unfolding ruleOf
     turn = listed2 c t names sound w in2 (Asked which what) listed-there right
 
@@ -184,7 +185,7 @@ module _ (which : ExportPath) (what : ExportPart) (d : List ℕ) (h : Bytes (exp
   example = exportTurn which what d h bytes fits
 
   abbrev card2 : Card
-  card2 = inChannel 2 (kind2-reached .iv) 1 (keyWith 2 (zeros 32))
+  card2 = inChannel 2 (kind2-reached .iv) 1 (keyWith 2 keyHash)
 
   supplied : Hold (exportChecks (card2 .pins) (card2 .keys) which what d) → suits exportSupply (0x01 ∷ zeros 97) ≡ true
   unfolding suits
@@ -201,7 +202,7 @@ module _ (which : ExportPath) (what : ExportPart) (d : List ℕ) (h : Bytes (exp
     answers =
         ap (λ (x : Card). unsealedBy x example .bytes) (kind2-reached .reached .ends)
         ∙ turn card2 example which what (reached-sound (kind2-reached .iv) .2)
-        (channel-typed (kind2-reached .iv) (kind2-reached .block) 1 2) refl refl supplied .turn .plain
+        (channel-typed (kind2-reached .iv) (kind2-reached .block) 1 2 keyHash (length-sha256 (zeros 65))) refl refl supplied .turn .plain
         ∙ e;
   }
 

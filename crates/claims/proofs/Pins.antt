@@ -25,9 +25,9 @@ use Rattle.rules.specs.Supplies.{suits}
 use Rattle.rules.specs.Commands.{pinWrong, verifyChecks, verifyReply, ruleOf}
 use Rattle.rules.specs.Channel.{sessionOf, withMac, plainText, sealed}
 use Rattle.rules.specs.Steps.{begins, step1, Arrived, checksOf, supplyOf}
-use Rattle.rules.specs.Engine.{AnswerOut, answered, answerOut}
+use Rattle.rules.specs.Engine.{AnswerOut, answeredAt, answerOut}
 use Rattle.laws_engine.proofs.Sound.{answer-sound}
-use Rattle.laws_exchange.specs.Opens.{outcome}
+use Rattle.laws_exchange.specs.Opens.{outcome, faultOf}
 use Rattle.laws_exchange.proofs.Answers.{arrived-in2, result-channel, answer-stage2}
 use Rattle.laws_two_runs.proofs.Sealed.{step1-stage2}
 use Rattle.claims.specs.Rows.{Sent, Gives, Entry, entered, after, OneWrong, ThreeWrong, spent, RightThen}
@@ -52,7 +52,7 @@ module _ (c : Card) (sound : isSound c ≡ true) (in2 : c .channel .stage ≡ 2)
   said-channel = result-channel c (v .bytes) (v .supply) (v .room) sound (v .enough) (v .opens) in2
 
   module _ (right : Hold (checksOf (x .command) (x .card) (x .data′)) → suits (supplyOf (x .command)) (v .supply) ≡ true) where
-    pub answer-is : answerOut c (v .bytes) (v .supply) (v .room) ≡ answered (sealed said)
+    pub answer-is : answerOut c (v .bytes) (v .supply) (v .room) ≡ answeredAt (faultOf (x .command) (x .card) (x .data′)) (sealed said)
     answer-is = answer-stage2 c (v .bytes) (v .supply) (v .room) sound (v .enough) (v .opens) in2 right
 
     pub gives : (plain : List ℕ) → plainText said ≡ plain → Gives c v plain

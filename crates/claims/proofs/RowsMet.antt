@@ -2,7 +2,7 @@
 -- Assumes nothing.
 use mathlib.Core.Path.{_≡_, refl, sym, ap, _∙_, subst}
 use mathlib.Core.Bool.{true, false}
-use mathlib.Core.List.{List, [], _∷_}
+use mathlib.Core.List.{List, [], _∷_, _++_}
 use mathlib.Core.Option.{some}
 use Prim.Native.Nat.{ℕ, _≤_}
 use native.Mathlib.Omega.{arith}
@@ -31,12 +31,13 @@ use Rattle.rules.specs.Steps.{isInitialised}
 use Rattle.rules.specs.Engine.{answerOut}
 use Rattle.laws_commands.proofs.Changed.{keys-set}
 use Rattle.laws_engine.proofs.Sound.{answer-sound}
-use Rattle.laws_exchange.specs.Opens.{outcome}
+use Rattle.sha_rules.proofs.Blocks.{length-sha256}
+use Rattle.laws_exchange.specs.Opens.{outcome, faultOf}
 use Rattle.laws_exchange.specs.Exchange.{Typed, Turn, answeredBy, unsealedBy, Names, opened, InStage2}
 use Rattle.laws_exchange.proofs.Seals.{gives, is-after}
 use Rattle.laws_exchange.proofs.Exchanges.{opens2, listed2, names}
 use Rattle.laws_two_runs.specs.Runs.{nextAt}
-use Rattle.laws_two_runs.proofs.Reached.{fresh, initCommand, initialisedCard, init-reaches, inChannel, session-keyed, stage2-reached, reached-sound}
+use Rattle.laws_two_runs.proofs.Reached.{fresh, initCommand, initialisedCard, init-reaches, pairHash, inChannel, session-keyed, stage2-reached, reached-sound}
 use Rattle.claims.specs.Rows.{Entry, after, RightThen, Initialises}
 use Rattle.claims.specs.RowsMet.{RowsMet}
 use Rattle.claims.proofs.InitSays.{init-initialises}
@@ -101,7 +102,7 @@ module _ (c : Card) (r : Ready c) (e : List ℕ) (bytes : Bytes e) (fits : lengt
   answered-same =
       sym (ap (λ (o : Out). answerOut c (o .bytes) [] 258 .card) (gives (sessionOf (c .channel)) turn (r .typed .keyed)))
 
-  done : InStage2 c turn (outcome command.Verify (opened c turn) e [])
+  done : InStage2 c turn (outcome command.Verify (opened c turn) e []) (faultOf command.Verify (opened c turn) e)
   unfolding ruleOf suits
   done = listed2 c turn verifies (r .sound) (r .typed) (r .stage) command.Verify verify-listed (λ v. refl)
 
@@ -164,8 +165,9 @@ initialises = record {
 }
 
 -- the cards in stage 2 that lists of calls reach have what the types say
-pub channel-typed : (iv : List ℕ) → Block iv → (verified kind : ℕ) → Typed (inChannel 2 iv verified (keyWith kind (zeros 32)))
-channel-typed iv block verified kind = record {
+pub channel-typed : (iv : List ℕ) → Block iv → (verified kind : ℕ) (uid : List ℕ) → length uid ≡ 32
+    → Typed (inChannel 2 iv verified (keyWith kind uid))
+channel-typed iv block verified kind uid long = record {
   shaped = record {
     uid = refl;
     «public_key» = refl;
@@ -173,9 +175,10 @@ channel-typed iv block verified kind = record {
     puk = refl;
     secret = refl;
     slots = refl;
-    keys = keys-set (replicate slotCount freeSlot) 0 (filledWith (zeros 32)) (keys-long-replicate slotCount freeSlot refl) refl;
+    keys = keys-set (replicate slotCount freeSlot) 0 (filledWith pairHash) (keys-long-replicate slotCount freeSlot refl)
+        (length-sha256 (zeros 32 ++ zeros 32));
     expected = refl;
-    keyuid = refl;
+    keyuid = long;
     current = refl;
     pinless = refl;
     tap = refl;
@@ -195,7 +198,7 @@ reads : unsealedBy statusCard statusTurn .bytes
 unfolding ruleOf suits statusReply
 reads =
     listed2 statusCard statusTurn (names statusCard ins.Status 0 0 (reached-sound (stage2-reached .iv) .0) refl refl)
-    (reached-sound (stage2-reached .iv) .0) (channel-typed (stage2-reached .iv) (stage2-reached .block) 0 0) refl (command.Status status.Application) refl (λ v. refl) .turn .plain
+    (reached-sound (stage2-reached .iv) .0) (channel-typed (stage2-reached .iv) (stage2-reached .block) 0 0 (zeros 32) refl) refl (command.Status status.Application) refl (λ v. refl) .turn .plain
 
 pub rows-met : RowsMet
 rows-met = record {

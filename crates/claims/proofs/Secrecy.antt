@@ -28,7 +28,7 @@ use Rattle.laws_two_runs.proofs.TwoRuns.{two-runs}
 use Rattle.laws_two_runs.proofs.Sealed.{InStage2}
 use Rattle.laws_two_runs.proofs.Meets.{secrets-meet, Met, by, unblock-meets}
 use Rattle.laws_two_runs.proofs.WrongEntries.{verifyCall, verifyCalls, AllCompare}
-use Rattle.laws_two_runs.proofs.Reached.{Reachable, initialisedCard, initialised-sound, initialised-reached, stage1-reached, inChannel, session-keyed, stage2-reached, kind1-reached, kind2-reached, reached-sound}
+use Rattle.laws_two_runs.proofs.Reached.{Reachable, initialisedCard, initialised-sound, initialised-reached, stage1-reached, inChannel, session-keyed, stage2-reached, keyHash, kind1-reached, kind2-reached, reached-sound}
 use Rattle.laws_two_runs.proofs.Examples.{digits, card000000, card111111, cardOtherPuk, wrong-entry, right-entry, threeTimes, three-wrong}
 use Rattle.claims.specs.Secrecy.{secretIn, SameReply, Reaches, comparisonsOf, Meets, Secrecy}
 
@@ -139,10 +139,10 @@ secrecy = record {
   stage2 = reaches (inChannel 2 (stage2-reached .iv) 0 noKeys) 2 0 (stage2-reached .reached)
       (reached-sound (stage2-reached .iv) .0) refl refl refl;
   kind1 =
-      reaches (inChannel 2 (kind1-reached .iv) 1 (keyWith 1 (zeros 32))) 2 1 (kind1-reached .reached) (reached-sound (kind1-reached .iv) .1)
+      reaches (inChannel 2 (kind1-reached .iv) 1 (keyWith 1 keyHash)) 2 1 (kind1-reached .reached) (reached-sound (kind1-reached .iv) .1)
       refl refl refl;
   kind2 =
-      reaches (inChannel 2 (kind2-reached .iv) 1 (keyWith 2 (zeros 32))) 2 2 (kind2-reached .reached) (reached-sound (kind2-reached .iv) .2)
+      reaches (inChannel 2 (kind2-reached .iv) 1 (keyWith 2 keyHash)) 2 2 (kind2-reached .reached) (reached-sound (kind2-reached .iv) .2)
       refl refl refl;
   wrongpin = one-call pin card000000 card111111 (verifyCall card000000 (digits 6 0x32)) (by pin false) wrong-entry
       (other (card000000 .pins .pin) (card111111 .pins .pin) refl refl);

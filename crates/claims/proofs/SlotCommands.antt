@@ -13,6 +13,8 @@ use lib.Dec.{eqb}
 use lib.ListN.{length, take, drop, getD, length-append}
 use lib.Seq.{take-at, drop-at, take-all}
 use Rattle.octets.proofs.Lists.{same-refl}
+use Rattle.sha_rules.specs.Hash.{sha256}
+use Rattle.sha_rules.proofs.Blocks.{length-sha256}
 use Rattle.template_rules.proofs.HeadFacts.{by-test}
 use Rattle.template_answers.specs.Answers.{applicationInfo}
 use Rattle.refusals.specs.Refusals.{wrongSupply}
@@ -35,13 +37,13 @@ use Rattle.rules.specs.declared.Command.{Command}
 use Rattle.rules.specs.declared.Command.the-variants as command
 use Rattle.rules.specs.declared.Verdict.the-variants.{Fails}
 use Rattle.rules.specs.Words.{success, wrongParameters, noSpace, word, verdict, Hold, Reply, succeeds, fails}
-use Rattle.rules.specs.Supplies.{pairFirstSupply, suits, pairCryptogram, pairChallenge}
-use Rattle.rules.specs.Commands.{applicationId, freeSlots, selectChecks, selectReply, openChecks, openReply, pairFirstChecks, pairFirstReply, pairFinalChecks, pairFinalReply, pairInto, withSlot, filledWith, ruleOf}
+use Rattle.rules.specs.Supplies.{suits, pairChallenge}
+use Rattle.rules.specs.Commands.{applicationId, freeSlots, selectChecks, selectReply, openChecks, openReply, withSecret, pairFirstChecks, pairFirstReply, pairFinalChecks, pairFinalReply, pairInto, withSlot, filledWith, ruleOf}
 use Rattle.rules.specs.Rows.{slot, rowOf, isPlain}
 use Rattle.rules.specs.Channel.{plainly, plainText, tell}
-use Rattle.rules.specs.Steps.{goes, stops, begins, step1, claOf, insOf, p1Of, p2Of, nameOf, isInitialised, step4, step5, pastStep1, arrival, Arrived, checksOf, supplyOf, replyOf, step6, decide}
-use Rattle.rules.specs.Engine.{AnswerOut, answerRefused, answered, withSupply, answerOut}
-use Rattle.laws_commands.proofs.Checks.{held, suited, part-length}
+use Rattle.rules.specs.Steps.{goes, stops, begins, step1, claOf, insOf, p1Of, p2Of, nameOf, isInitialised, step4, step5, pastStep1, arrival, Arrived, checksOf, supplyOf, replyOf, faultAt, step6, decide}
+use Rattle.rules.specs.Engine.{AnswerOut, answerRefused, answeredAt, answered, withSupply, answerOut}
+use Rattle.laws_commands.proofs.Checks.{held}
 use Rattle.laws_commands.proofs.Arrival.{lostAt, arrivedAt}
 use Rattle.laws_commands.proofs.PendingSlot.{pending-slot}
 use Rattle.laws_engine.proofs.Sound.{step1-keeps}
@@ -93,7 +95,7 @@ module _ (c : Card) (cmd d s : List ℕ) (room : ℕ) (i : Instruction) (p : Sup
     decided = rw (p .sound, le-ltb room 258 (p .enough), goes-there)
 
     fails-with : (w : ℕ) → verdict (supplyOf k) (checksOf k (at6 .card) d) ≡ Fails w
-        → answerOut c cmd s room ≡ answered (plainly (fails (at6 .lost) w))
+        → answerOut c cmd s room ≡ answeredAt (faultAt k d w) (plainly (fails (at6 .lost) w))
     unfolding step6 suits tell
     fails-with w v = decided ∙ rw (v, plain)
 
@@ -108,7 +110,7 @@ module _ (c : Card) (cmd d s : List ℕ) (room : ℕ) (i : Instruction) (p : Sup
     replies h u = reads-it h ∙ rw u
 
 -- what the answer says, from the reply that goes out
-says-plain : (a : AnswerOut) (r : Reply) (bytes : List ℕ) → a ≡ answered (plainly r) → plainText r ≡ bytes → Says a bytes
+says-plain : (a : AnswerOut) (r : Reply) (bytes : List ℕ) {n : ℕ} → a ≡ answeredAt n (plainly r) → plainText r ≡ bytes → Says a bytes
 says-plain a r bytes e t = record { taken = ap (λ (y : AnswerOut). y .refusal) e; reads = ap (λ (y : AnswerOut). y .bytes) e ∙ t }
 
 -- step 1 keeps the slots
@@ -287,13 +289,12 @@ module _ (c : Card) (rest s d : List ℕ) (room : ℕ) (p : Supposed c (pairComm
     pair-long : suits (supplyOf command.PairFirst) s ≡ true → Other (answered (plainly (replyOf command.PairFirst there d s)))
     unfolding ruleOf pairFirstReply
     pair-long u z =
-        let l = suited pairFirstSupply s refl u in
         omega (
           arith,
           ap length z,
-          length-append (pairCryptogram s ++ pairChallenge s) (word success),
-          length-append (pairCryptogram s) (pairChallenge s),
-          part-length 0 32 s (omega (arith, l)),
+          length-append (withSecret (there .pairing) d ++ pairChallenge s) (word success),
+          length-append (withSecret (there .pairing) d) (pairChallenge s),
+          length-sha256 (there .pairing .secret ++ d),
         )
 
     room-out : Other out
@@ -310,8 +311,8 @@ module _ (c : Card) (rest s d : List ℕ) (room : ℕ) (p : Supposed c (pairComm
       by free.Full e l = ((λ z k h. l k (omega (arith, h, w .slots))), λ g. full-out e)
 
 -- its final step
-module _ (c : Card) (rest salt key : List ℕ) (room : ℕ) (p : Supposed c (pairCommand 1 rest) (c .pairing .expected) room) (w : Shaped c)
-    (n : c .pairing .pending ≡ 0 → ⊥) (salt32 : length salt ≡ 32) (key32 : length key ≡ 32) where
+module _ (c : Card) (rest salt : List ℕ) (room : ℕ) (p : Supposed c (pairCommand 1 rest) (c .pairing .expected) room) (w : Shaped c)
+    (n : c .pairing .pending ≡ 0 → ⊥) (salt32 : length salt ≡ 32) where
   abbrev final : List ℕ
   final = pairCommand 1 rest
 
@@ -330,31 +331,33 @@ module _ (c : Card) (rest salt key : List ℕ) (room : ℕ) (p : Supposed c (pai
   unfolding ruleOf pairFinalChecks
   final-holds = (rw (ne-eqb (c .pairing .pending) 0 n), (rw stage0, (rw (w .expected), (same-refl (c .pairing .expected), tt))))
 
-  final-suits : suits (supplyOf command.PairFinal) (salt ++ key) ≡ true
+  final-suits : suits (supplyOf command.PairFinal) salt ≡ true
   unfolding ruleOf suits
-  final-suits = rw (length-append salt key, salt32, key32)
+  final-suits = rw salt32
+
+  abbrev key : List ℕ
+  key = sha256 (c .pairing .secret ++ salt)
 
   abbrev filled : ℕ → Reply
   filled i = succeeds (withPairing c (withSlot (notPending (c .pairing)) i (filledWith key))) (i ∷ salt)
 
   final-replies : (i : ℕ) → firstFree (c .pairing .slots) ≡ free.At i
-      → replyOf command.PairFinal c (c .pairing .expected) (salt ++ key) ≡ filled i
+      → replyOf command.PairFinal c (c .pairing .expected) salt ≡ filled i
   unfolding ruleOf pairFinalReply pairInto
-  final-replies i e =
-      rw (e, take-at salt key 32 salt32, drop-at salt key 32 salt32, take-all 32 key (omega (arith, key32)))
+  final-replies i e = rw (e, take-all 32 salt (omega (arith, salt32)))
 
-  final-out : (i : ℕ) → firstFree (c .pairing .slots) ≡ free.At i → answerOut c final (salt ++ key) room ≡ answered (plainly (filled i))
+  final-out : (i : ℕ) → firstFree (c .pairing .slots) ≡ free.At i → answerOut c final salt room ≡ answered (plainly (filled i))
   final-out i e =
-      replies c final (c .pairing .expected) (salt ++ key) room ins.Pair p refl pair-named command.PairFinal refl
+      replies c final (c .pairing .expected) salt room ins.Pair p refl pair-named command.PairFinal refl
       (subst (λ (y : Card). Hold (checksOf command.PairFinal y (c .pairing .expected))) (sym itself) final-holds) final-suits
-      ∙ ap (λ (y : Card). answered (plainly (replyOf command.PairFinal y (c .pairing .expected) (salt ++ key)))) itself
+      ∙ ap (λ (y : Card). answered (plainly (replyOf command.PairFinal y (c .pairing .expected) salt))) itself
       ∙ ap (λ (r : Reply). answered (plainly r)) (final-replies i e)
 
-  pub pair-final : Paired c salt key (answerOut c (pairCommand 1 rest) (salt ++ key) room)
+  pub pair-final : Paired c salt key (answerOut c (pairCommand 1 rest) salt room)
   pair-final = by (firstFree (c .pairing .slots)) refl (first-free-says (c .pairing .slots) _ refl .1)
     where
       by : (f : Free) → firstFree (c .pairing .slots) ≡ f → first-free.Says (c .pairing .slots) f
-          → Paired c salt key (answerOut c (pairCommand 1 rest) (salt ++ key) room)
+          → Paired c salt key (answerOut c (pairCommand 1 rest) salt room)
       by (free.At i) e l = record {
         index = i;
         under = omega (arith, l .within, w .slots);

@@ -4,7 +4,7 @@
 use mathlib.Core.Path.{_≡_, refl, sym, ap, _∙_, subst}
 use mathlib.Core.Bool.{true, false}
 use mathlib.Core.List.{List, [], _∷_, _++_}
-use Prim.Native.Nat.{ℕ, _-_, _≤_, _<_}
+use Prim.Native.Nat.{ℕ, zero, suc, _-_, _≤_, _<_}
 use native.Mathlib.Omega.{arith}
 use borrow.Author.Tests.{eqb-true, not-true}
 use lib.Dec.{eqb}
@@ -32,7 +32,7 @@ use Rattle.laws_exchange.specs.Opens.{outcome}
 use Rattle.laws_exchange.specs.Exchange.{Typed, Turn, answeredBy, unsealedBy, Names, listed, opened, Exchange}
 use Rattle.laws_exchange.proofs.Exchanges.{known, staged, listed2, unlisted2}
 use Rattle.laws_two_runs.specs.Runs.{Call, answer, nextAt, endOf}
-use Rattle.laws_two_runs.proofs.Reached.{initCall, initialisedCard, init-reaches, inChannel, verified-reached}
+use Rattle.laws_two_runs.proofs.Reached.{initCall, initialisedCard, init-reaches, pairHash, pairFirstCall, pairFinalCall, pendingOn, final-next, inChannel, verified-reached}
 use Rattle.claims.specs.TapRecord.{Fails}
 use Rattle.claims.specs.Slots.{flagAt, pairCommand, unpairWith, Freed, at, Selects, Opens, Pairs, AllFilled, OneFilled, Slots}
 use Rattle.claims.proofs.RowsMet.{channel-typed}
@@ -95,29 +95,39 @@ module _ (c : Card) (t : Turn) (p1 : ℕ) (sound : isSound c ≡ true) (w : Type
         ∙ ap (λ (y : Slot). y .filled) (getD-set-same (c .pairing .slots) p1 freeSlot freeSlot (omega (arith, h, w .shaped .slots)));
   }
 
--- ---- the card whose eight slots are filled: INIT and eight PAIRs, all supplies of zeros
-abbrev pairCalls : List Call → List Call
-pairCalls more =
-    answer (pairCommand 0 (32 ∷ zeros 32)) (zeros 96) (zeros 258) ∷ answer (pairCommand 1 (32 ∷ zeros 32)) (zeros 64) (zeros 258) ∷ more
+-- ---- the card whose eight slots are filled: INIT and eight PAIRs, all supplies of zeros. The client's cryptogram is a hash that is not computed
+-- here, so each PAIR's final step goes by its law
+abbrev pairCalls : ℕ → List Call
+pairCalls zero = []
+pairCalls (suc n) = pairFirstCall ∷ pairFinalCall ∷ pairCalls n
 
-abbrev eightPairs : List Call
-eightPairs = pairCalls (pairCalls (pairCalls (pairCalls (pairCalls (pairCalls (pairCalls (pairCalls [])))))))
+-- the card that INIT has made, with the first k slots filled
+abbrev firstFilled : ℕ → List Slot
+firstFilled k = replicate k (filledWith pairHash) ++ replicate (8 - k) freeSlot
+
+abbrev filledTo : ℕ → Card
+filledTo k = withPairing initialisedCard (record { secret = zeros 32; slots = firstFilled k; pending = 0; expected = zeros 32 })
 
 abbrev filledCard : Card
-filledCard = withPairing initialisedCard (record {
-  secret = zeros 32;
-  slots = replicate 8 (filledWith (zeros 32));
-  pending = 0;
-  expected = zeros 32;
-})
+filledCard = filledTo 8
 
-pairs-next : endOf initialisedCard eightPairs ≡ filledCard
-unfolding endOf nextAt answerOut isSound allOf someOf decide arrival step1 pastStep1 dataOf nameOf step4 step5 step6 ruleOf suits tell pairFirstChecks pairFirstReply pairFinalChecks pairFinalReply pairInto firstFree
-pairs-next = refl
-
-filled-ends : at (initCall ∷ eightPairs) ≡ filledCard
+one-more : (k n : ℕ) → nextAt (filledTo k) pairFirstCall ≡ pendingOn (firstFilled k) → isSound (pendingOn (firstFilled k)) ≡ true
+    → pairFinalReply (pendingOn (firstFilled k)) (zeros 32) .card ≡ filledTo (suc k)
+    → endOf (filledTo k) (pairCalls (suc n)) ≡ endOf (filledTo (suc k)) (pairCalls n)
 unfolding endOf
-filled-ends = ap (λ (x : Card). endOf x eightPairs) init-reaches ∙ pairs-next
+one-more k n first sound reply =
+    ap (λ (x : Card). endOf (nextAt x pairFinalCall) (pairCalls n)) first
+    ∙ ap (λ (x : Card). endOf x (pairCalls n)) (final-next (firstFilled k) sound ∙ reply)
+
+pairs-next : endOf initialisedCard (pairCalls 8) ≡ filledCard
+unfolding endOf nextAt answerOut isSound allOf someOf decide arrival step1 pastStep1 dataOf nameOf step4 step5 step6 ruleOf suits tell pairFirstChecks pairFirstReply pairFinalReply pairInto firstFree
+pairs-next =
+    one-more 0 7 refl refl refl ∙ one-more 1 6 refl refl refl ∙ one-more 2 5 refl refl refl ∙ one-more 3 4 refl refl refl
+    ∙ one-more 4 3 refl refl refl ∙ one-more 5 2 refl refl refl ∙ one-more 6 1 refl refl refl ∙ one-more 7 0 refl refl refl
+
+filled-ends : at (initCall ∷ pairCalls 8) ≡ filledCard
+unfolding endOf
+filled-ends = ap (λ (x : Card). endOf x (pairCalls 8)) init-reaches ∙ pairs-next
 
 filled-select : Selects filledCard (applicationInfo (zeros 16) (zeros 65) 0 [] ++ (0x90 ∷ 0x00 ∷ []))
 unfolding answerOut isSound allOf someOf decide arrival step1 pastStep1 dataOf nameOf step4 step5 step6 ruleOf suits tell selectChecks selectReply freeSlots
@@ -137,8 +147,8 @@ filled-open8 = record { taken = refl; reads = refl }
 
 all-filled : AllFilled
 all-filled = record {
-  calls = initCall ∷ eightPairs;
-  filled = λ k h. ap (λ (x : Card). flagAt x k) filled-ends ∙ ap (λ (y : Slot). y .filled) (getD-replicate 8 k (filledWith (zeros 32)) freeSlot h);
+  calls = initCall ∷ pairCalls 8;
+  filled = λ k h. ap (λ (x : Card). flagAt x k) filled-ends ∙ ap (λ (y : Slot). y .filled) (getD-replicate 8 k (filledWith pairHash) freeSlot h);
   select = subst (λ (x : Card). Selects x (applicationInfo (zeros 16) (zeros 65) 0 [] ++ (0x90 ∷ 0x00 ∷ []))) (sym filled-ends) filled-select;
   ninth = subst (λ (x : Card). Pairs x (0x6A ∷ 0x84 ∷ [])) (sym filled-ends) filled-ninth;
   open7 = subst (λ (x : Card). Opens x 7 (zeros 48 ++ (0x90 ∷ 0x00 ∷ []))) (sym filled-ends) filled-open7;
@@ -183,7 +193,7 @@ one-filled : OneFilled
 one-filled =
     let r = verified-reached .reached in
     let iv = verified-reached .iv in
-    let w : Typed (oneCard iv) = channel-typed iv (verified-reached .block) 1 0 in
+    let w : Typed (oneCard iv) = channel-typed iv (verified-reached .block) 1 0 (zeros 32) refl in
     let back : at (r .calls) ≡ oneCard iv = r .ends in
     record {
       calls = r .calls;

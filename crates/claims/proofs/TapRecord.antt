@@ -13,7 +13,7 @@ use lib.ListN.{length}
 use Rattle.template_rules.proofs.HeadFacts.{by-test}
 use Rattle.card.specs.declared.Card.{Card}
 use Rattle.card.specs.declared.Tap.{Tap}
-use Rattle.card.specs.State.{noKeys, resetOf, withTap, tapBytes, tapOf}
+use Rattle.card.specs.State.{zeros, noKeys, resetOf, withTap, tapBytes, tapOf}
 use Rattle.card.specs.Slots.{allOf, someOf, isZero}
 use Rattle.card.specs.Sound.{isSound, isNdef}
 use Rattle.card.proofs.Tests.{the-second}
@@ -202,7 +202,7 @@ unfolding isSound allOf someOf
 verified-sound iv = refl
 
 verified-typed : Typed verifiedCard
-verified-typed = channel-typed (verified-reached .iv) (verified-reached .block) 1 0
+verified-typed = channel-typed (verified-reached .iv) (verified-reached .block) 1 0 (zeros 32) refl
 
 one-stored : Stored verifiedCard oneTurn
 one-stored = stored verifiedCard oneTurn (verified-sound (verified-reached .iv)) verified-typed refl refl one-counted

@@ -87,8 +87,8 @@ written-sound c room h = go (isSound c) refl
     go false e = absurd (omega (arith, refusals .write c room .unsound .1 e))
 
 -- ---- WALK
-joined : (s t : List ℕ) (m n : ℕ) → WALK s ≡ record { refusal = 0; count = m } → WALK t ≡ record { refusal = 0; count = n }
-    → WALK (s ++ t) ≡ record { refusal = 0; count = m + n }
+joined : (s t : List ℕ) (m n : ℕ) → WALK s ≡ record { refusal = 0; count = m; offset = 0 } → WALK t ≡ record { refusal = 0; count = n; offset = 0 }
+    → WALK (s ++ t) ≡ record { refusal = 0; count = m + n; offset = 0 }
 joined s t m n e f = ap report (walk-sum s t m n (counts-fields (walkOf s) m e) (counts-fields (walkOf t) n f))
 
 pub trips : Trips

@@ -42,10 +42,14 @@ ask-nothing c cmd before after r d n =
 -- ---- ANSWER
 pub answer-nothing : (c : Card) (cmd supply before after : List ℕ) (r : Answered)
     → AnswerDid (answerOut c cmd supply (length before)) r before after → (r .refusal ≡ 0 → ⊥)
-    → (r .card ≡ c) × (r .count ≡ 0) × (after ≡ before)
+    → (r .card ≡ c) × (r .count ≡ 0) × (r .«fault_offset» ≡ 255) × (after ≡ before)
 answer-nothing c cmd supply before after r d n =
-    let h = answer-refused c cmd supply (length before) (λ z. n (ap (λ (x : Answered). x .refusal) (d .told) ∙ z)) in
-    (ap (λ (x : Answered). x .card) (d .told) ∙ h .0, ap (λ (x : Answered). x .count) (d .told) ∙ ap length (h .1), as-it-was (h .1) (d .left))
+    let h = answer-refused c cmd supply (length before) (λ z. n (ap (λ (x : Answered). x .refusal) (d .told) ∙ z)) in (
+      ap (λ (x : Answered). x .card) (d .told) ∙ h .0,
+      ap (λ (x : Answered). x .count) (d .told) ∙ ap length (h .1),
+      ap (λ (x : Answered). x .«fault_offset») (d .told) ∙ h .2,
+      as-it-was (h .1) (d .left),
+    )
 
 -- ---- WRITE
 write-empty : (c : Card) (room : ℕ) → (writeRefusal c room ≡ 0 → ⊥) → writeBytes c room ≡ []

@@ -1,6 +1,6 @@
 -- Demand 1 (RULES 11.1): which refusal each operation gives and exactly when (of WALK: which; when is in WalkReads); and what a refusal
 -- leaves (RULES 3.2), `nothing`: for every report, and every buffer before and after, that the contract of the code allows, the card or the session
--- after is the one before, of READ FRESH of zeros, the buffer after is the buffer before, and the count and the kind are 0. What an operation
+-- after is the one before, of READ FRESH of zeros, the buffer after is the buffer before, the count and the kind are 0, and no fault is told. What an operation
 -- gives beside refusals is its definition. Every length and room is in bytes.
 use Prim.Native.Nat.{ℕ, _≤_, _<_}
 use mathlib.Core.Path.{_≡_}
@@ -48,7 +48,7 @@ pub record AnswerRefuses (c : Card) (cmd supply : List ℕ) (room : ℕ) : Type 
       ↔ (isSound c ≡ true) × (258 ≤ room) × (suits (decide c cmd .supply) supply ≡ false)
   pub others : answerOut c cmd supply room .refusal ≤ 3
   pub nothing : (before after : List ℕ) (r : Answered) → AnswerDid (answerOut c cmd supply (length before)) r before after
-      → (r .refusal ≡ 0 → ⊥) → (r .card ≡ c) × (r .count ≡ 0) × (after ≡ before)
+      → (r .refusal ≡ 0 → ⊥) → (r .card ≡ c) × (r .count ≡ 0) × (r .«fault_offset» ≡ 255) × (after ≡ before)
 
 -- ---- RESET: 1
 pub record ResetRefuses (c : Card) : Type 0 where

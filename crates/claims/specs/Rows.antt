@@ -127,5 +127,5 @@ pub record Rows : Type 0 where
       → replyOf command.Sign c d (key ++ number32 128 ++ number32 1) .response
       ≡ field 0xA0 (field 0x80 key ++ (0x30 ∷ 0x07 ∷ 0x02 ∷ 0x02 ∷ 0x00 ∷ 0x80 ∷ 0x02 ∷ 0x01 ∷ 0x01 ∷ []))
   -- WALK of A1 00, and of 80 81 05
-  pub walkempty : WALK (0xA1 ∷ 0x00 ∷ []) ≡ record { refusal = 0; count = 0 }
-  pub walkmalformed : WALK (0x80 ∷ 0x81 ∷ 0x05 ∷ []) ≡ record { refusal = 4; count = 0 }
+  pub walkempty : WALK (0xA1 ∷ 0x00 ∷ []) ≡ record { refusal = 0; count = 0; offset = 0 }
+  pub walkmalformed : WALK (0x80 ∷ 0x81 ∷ 0x05 ∷ []) ≡ record { refusal = 4; count = 0; offset = 0 }

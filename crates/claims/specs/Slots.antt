@@ -7,6 +7,7 @@ use mathlib.Core.Logic.{_↔_}
 use mathlib.Core.Option.{some}
 use lib.Dec.{eqb}
 use lib.ListN.{length, getD}
+use Rattle.sha_rules.specs.Hash.{sha256}
 use Rattle.template_answers.specs.Answers.{applicationInfo}
 use Rattle.card.specs.declared.Channel.{Channel}
 use Rattle.card.specs.declared.Card.{Card}
@@ -98,7 +99,7 @@ abbrev pub Opens : Card → ℕ → List ℕ → Type 0
 Opens c p1 bytes = Says (answerOut c (openCommand p1 0 (65 ∷ 0x04 ∷ zeros 64)) (0x01 ∷ zeros 112) 258) bytes
 
 abbrev pub Pairs : Card → List ℕ → Type 0
-Pairs c bytes = Says (answerOut c (pairCommand 0 (32 ∷ zeros 32)) (zeros 96) 258) bytes
+Pairs c bytes = Says (answerOut c (pairCommand 0 (32 ∷ zeros 32)) (zeros 32) 258) bytes
 
 -- calls that fill all eight: SELECT tells 0, one more PAIR finds no slot, OPEN of slot 7 succeeds, and there is no slot 8
 pub record AllFilled : Type 0 where
@@ -144,13 +145,13 @@ pub record Slots : Type 0 where
       → Says (answerOut c (openCommand p1 0 rest) s room) (salt ++ (iv ++ (0x90 ∷ 0x00 ∷ [])))
       × (answerOut c (openCommand p1 0 rest) s room .card .channel ≡ stage1 enc mac iv)
   -- PAIR's first step, with 32 bytes outside stage 2, says 6A84 exactly where none of the eight is free; its final step, where a pairing is pending
-  -- and the data are the cryptogram expected, fills the first free one
+  -- and the data are the cryptogram expected, fills the first free one with the hash of pairing secret and salt
   pub pairfull : (c : Card) (rest s d : List ℕ) (room : ℕ) → Supposed c (pairCommand 0 rest) d room → Shaped c
       → (c .channel .stage ≡ 2 → ⊥) → length d ≡ 32
       → (answerOut c (pairCommand 0 rest) s room .bytes ≡ 0x6A ∷ 0x84 ∷ []) ↔ ((k : ℕ) → k < 8 → flagAt c k ≡ 0 → ⊥)
-  pub pairs : (c : Card) (rest salt key : List ℕ) (room : ℕ) → Supposed c (pairCommand 1 rest) (c .pairing .expected) room → Shaped c
-      → (c .pairing .pending ≡ 0 → ⊥) → length salt ≡ 32 → length key ≡ 32
-      → Paired c salt key (answerOut c (pairCommand 1 rest) (salt ++ key) room)
+  pub pairs : (c : Card) (rest salt : List ℕ) (room : ℕ) → Supposed c (pairCommand 1 rest) (c .pairing .expected) room → Shaped c
+      → (c .pairing .pending ≡ 0 → ⊥) → length salt ≡ 32
+      → Paired c salt (sha256 (c .pairing .secret ++ salt)) (answerOut c (pairCommand 1 rest) salt room)
   -- UNPAIR in stage 2 fails with 6A86 where P1 is 8 or more, whatever P2, the PIN and the data; with P1 of 7 or less and a verified PIN it frees
   -- that slot
   pub unpairover : (c : Card) (t : Turn) (p1 p2 : ℕ) → isSound c ≡ true → Typed c → t .header ≡ unpairWith p1 p2 → 8 ≤ p1

@@ -92,17 +92,17 @@ pub record Records : Type 0 where
 -- ---- WALK (RULES 11.2): fields one after the other add up, and each template that a command answers has the fields that it is made of, where
 -- each length fits its byte: its parts are at most as long as those of a card and of a supply
 pub record Walks : Type 0 where
-  pub joined : (s t : List ℕ) (m n : ℕ) → WALK s ≡ record { refusal = 0; count = m } → WALK t ≡ record { refusal = 0; count = n }
-      → WALK (s ++ t) ≡ record { refusal = 0; count = m + n }
-  pub preinitialised : (key : List ℕ) → length key < 256 → WALK (preInitialised key) ≡ record { refusal = 0; count = 1 }
+  pub joined : (s t : List ℕ) (m n : ℕ) → WALK s ≡ record { refusal = 0; count = m; offset = 0 } → WALK t ≡ record { refusal = 0; count = n; offset = 0 }
+      → WALK (s ++ t) ≡ record { refusal = 0; count = m + n; offset = 0 }
+  pub preinitialised : (key : List ℕ) → length key < 256 → WALK (preInitialised key) ≡ record { refusal = 0; count = 1; offset = 0 }
   pub application : (uid key : List ℕ) (free : ℕ) (keyUid : List ℕ) → length uid ≤ 16 → length key ≤ 65 → length keyUid ≤ 32
-      → WALK (applicationInfo uid key free keyUid) ≡ record { refusal = 0; count = 5 }
-  pub status : (pin puk : ℕ) (key : Bool) → WALK (status pin puk key) ≡ record { refusal = 0; count = 3 }
+      → WALK (applicationInfo uid key free keyUid) ≡ record { refusal = 0; count = 5; offset = 0 }
+  pub status : (pin puk : ℕ) (key : Bool) → WALK (status pin puk key) ≡ record { refusal = 0; count = 3; offset = 0 }
   pub signature : (key r s : List ℕ) → length key ≤ 65 → length r ≤ 32 → length s ≤ 32
-      → WALK (signature key r s) ≡ record { refusal = 0; count = 3 }
-  pub exportedpublic : (key : List ℕ) → length key ≤ 65 → WALK (exportedPublic key) ≡ record { refusal = 0; count = 1 }
+      → WALK (signature key r s) ≡ record { refusal = 0; count = 3; offset = 0 }
+  pub exportedpublic : (key : List ℕ) → length key ≤ 65 → WALK (exportedPublic key) ≡ record { refusal = 0; count = 1; offset = 0 }
   pub exportedpair : (key private : List ℕ) → length key ≤ 65 → length private ≤ 32
-      → WALK (exportedPair key private) ≡ record { refusal = 0; count = 2 }
+      → WALK (exportedPair key private) ≡ record { refusal = 0; count = 2; offset = 0 }
 
 -- ---- ASK and ANSWER (RULES 11.2), for a sound card and room for both. ASK gives the kind of the supply that the order of checks asks for,
 -- and exactly the supplies of that one's form are taken. Kind 0: no supply is read, and ASK writes nothing. Another kind: ASK writes the data,

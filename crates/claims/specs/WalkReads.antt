@@ -19,7 +19,7 @@ use Rattle.laws_walk.specs.Answers.{preInitialisedTrees, applicationTrees, stat
 
 -- ---- what is taken: the encodings of trees with no template deeper than 4, and no other bytes; each is the encoding of one list of trees
 pub record WalkTakes : Type 0 where
-  pub taken : (s : List ℕ) (n : ℕ) → WALK s ≡ record { refusal = 0; count = n } ↔ Holds s n
+  pub taken : (s : List ℕ) (n : ℕ) → WALK s ≡ record { refusal = 0; count = n; offset = 0 } ↔ Holds s n
   pub onelist : (ts us : Trees) → Lawful ts → Lawful us → encode ts ≡ encode us → ts ≡ us
   pub bytes : (ts : Trees) → Lawful ts → Bytes (encode ts) ↔ Octets ts
 

@@ -26,6 +26,7 @@ use Rattle.channel_rules.specs.Terminal.{sealedCommand}
 use Rattle.channel_rules.proofs.Fields.{length-ciphertext, decrypted}
 use Rattle.channel_rules.proofs.Trips.{command-opens, command-sessions, command-keyed, response-keyed}
 use Rattle.card.specs.declared.Keys.{Keys}
+use Rattle.card.specs.declared.Slot.{Slot}
 use Rattle.card.specs.declared.Card.{Card}
 use Rattle.card.specs.State.{zeros, freshOf, noKeys, noTap, withPairing, withChannel}
 use Rattle.card.specs.Slots.{allOf, someOf}
@@ -165,20 +166,24 @@ initialised-reached = step fresh fresh-reached initCall init-reaches
 abbrev pub pairHash : List ℕ
 pairHash = sha256 (zeros 32 ++ zeros 32)
 
-abbrev pairFirstCall : Call
+abbrev pub pairFirstCall : Call
 pairFirstCall = answer (0x80 ∷ 0x12 ∷ 0 ∷ 0 ∷ 32 ∷ zeros 32) (zeros 32) (zeros 258)
 
-abbrev pairFinalCommand : List ℕ
+abbrev pub pairFinalCommand : List ℕ
 pairFinalCommand = 0x80 ∷ 0x12 ∷ 1 ∷ 0 ∷ 32 ∷ pairHash
 
-abbrev pairFinalCall : Call
+abbrev pub pairFinalCall : Call
 pairFinalCall = answer pairFinalCommand (zeros 32) (zeros 258)
 
 abbrev openCall : Call
 openCall = answer (0x80 ∷ 0x10 ∷ 0 ∷ 0 ∷ 65 ∷ 0x04 ∷ zeros 64) (1 ∷ zeros 112) (zeros 258)
 
+-- the card that INIT has made, with these slots and a pending pairing
+abbrev pub pendingOn : List Slot → Card
+pendingOn slots = withPairing initialisedCard (record { secret = zeros 32; slots = slots; pending = 1; expected = pairHash })
+
 abbrev pendingCard : Card
-pendingCard = withPairing initialisedCard (pendingWith (initialisedCard .pairing) pairHash)
+pendingCard = pendingOn (initialisedCard .pairing .slots)
 
 abbrev pairedCard : Card
 pairedCard = withPairing initialisedCard (withSlot (initialisedCard .pairing) 0 (filledWith pairHash))
@@ -190,31 +195,31 @@ pair-first-next : nextAt initialisedCard pairFirstCall ≡ pendingCard
 unfolding nextAt answerOut isSound allOf someOf decide arrival step1 pastStep1 dataOf nameOf step4 step5 step6 ruleOf pairFirstChecks suits pairFirstReply tell
 pair-first-next = refl
 
-final-form : dataOf pairFinalCommand ≡ some pairHash
+pub final-form : dataOf pairFinalCommand ≡ some pairHash
 final-form =
     ap (λ (n : ℕ). dataOf (0x80 ∷ 0x12 ∷ 1 ∷ 0 ∷ n ∷ pairHash)) (sym (length-sha256 (zeros 32 ++ zeros 32)))
     ∙ data-filled 0x80 0x12 1 0 pairHash (omega (arith, length-sha256 (zeros 32 ++ zeros 32)))
 
-final-decides : decide pendingCard pairFinalCommand
-    ≡ record { supply = pairFinalSupply; data′ = pairHash; answer = λ s. plainly (pairFinalReply pendingCard s); fault = noFault }
-unfolding decide arrival step1 pastStep1 nameOf step4 step5 step6 ruleOf pairFinalChecks tell
-final-decides = rw (final-form, length-sha256 (zeros 32 ++ zeros 32), same-refl pairHash)
+module _ (slots : List Slot) where
+  final-decides : decide (pendingOn slots) pairFinalCommand
+      ≡ record { supply = pairFinalSupply; data′ = pairHash; answer = λ s. plainly (pairFinalReply (pendingOn slots) s); fault = noFault }
+  unfolding decide arrival step1 pastStep1 nameOf step4 step5 step6 ruleOf pairFinalChecks tell
+  final-decides = rw (final-form, length-sha256 (zeros 32 ++ zeros 32), same-refl pairHash)
 
-pending-is-sound : isSound pendingCard ≡ true
-unfolding isSound allOf someOf
-pending-is-sound = refl
+  pub final-answers : isSound (pendingOn slots) ≡ true
+      → answerOut (pendingOn slots) pairFinalCommand (zeros 32) 258 ≡ answered (plainly (pairFinalReply (pendingOn slots) (zeros 32)))
+  unfolding suits
+  final-answers sound =
+      answers (pendingOn slots) pairFinalCommand (zeros 32) 258 pairFinalSupply pairHash (λ s. plainly (pairFinalReply (pendingOn slots) s)) sound
+      (omega arith) final-decides refl
 
-final-replies : pairFinalReply pendingCard (zeros 32) .card ≡ pairedCard
-unfolding pairFinalReply pairInto firstFree
-final-replies = refl
+  pub final-next : isSound (pendingOn slots) ≡ true → nextAt (pendingOn slots) pairFinalCall ≡ pairFinalReply (pendingOn slots) (zeros 32) .card
+  unfolding nextAt
+  final-next sound = ap (λ (a : AnswerOut). a .card) (final-answers sound)
 
 pair-final-next : nextAt pendingCard pairFinalCall ≡ pairedCard
-unfolding nextAt suits
-pair-final-next =
-    ap (λ (a : AnswerOut). a .card)
-    (answers pendingCard pairFinalCommand (zeros 32) 258 pairFinalSupply pairHash (λ s. plainly (pairFinalReply pendingCard s)) pending-is-sound
-    (omega arith) final-decides refl)
-    ∙ final-replies
+unfolding isSound allOf someOf pairFinalReply pairInto firstFree
+pair-final-next = final-next (initialisedCard .pairing .slots) refl
 
 open-next : nextAt pairedCard openCall ≡ stage1Card
 unfolding nextAt answerOut isSound allOf someOf decide arrival step1 pastStep1 dataOf nameOf step4 step5 step6 ruleOf openChecks suits openReply tell
