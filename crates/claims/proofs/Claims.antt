@@ -12,6 +12,8 @@ use Rattle.claims.proofs.Verified.{verified}
 use Rattle.claims.proofs.Export.{export}
 use Rattle.claims.proofs.TapRecord.{tap-record}
 use Rattle.claims.proofs.Slots.{slots}
+use Rattle.claims.proofs.Hashing.{hashing}
+use Rattle.claims.proofs.Faults.{faults}
 use Rattle.claims.proofs.Rows.{rows}
 use Rattle.claims.proofs.RowsMet.{rows-met}
 use Rattle.claims.proofs.WrongEngines.{wrong-engines}
@@ -30,6 +32,8 @@ claims = record {
   export = export;
   taprecord = tap-record;
   slots = slots;
+  hashing = hashing;
+  faults = faults;
   rows = rows;
   rowsmet = rows-met;
   wrongengines = wrong-engines;

@@ -20,5 +20,9 @@ pub mod TapRecord
 pub mod SlotCounts
 pub mod SlotCommands
 pub mod Slots
+pub mod Pairing
+pub mod LoadTurns
+pub mod Hashing
+pub mod Faults
 pub mod Secrecy
 pub mod Claims

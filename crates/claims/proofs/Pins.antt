@@ -72,7 +72,7 @@ module _ (x : Card) (d s : List ℕ) where
   unfolding ruleOf verifyChecks
   verify-spent e = rw e
 
-unlike : (s t : List ℕ) → (s ≡ t → ⊥) → sameBytes s t ≡ false
+pub unlike : (s t : List ℕ) → (s ≡ t → ⊥) → sameBytes s t ≡ false
 unlike s t n = go (sameBytes s t) refl
   where
     go : (b : Bool) → sameBytes s t ≡ b → b ≡ false

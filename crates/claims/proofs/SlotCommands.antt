@@ -94,7 +94,7 @@ module _ (c : Card) (cmd d s : List ℕ) (room : ℕ) (i : Instruction) (p : Sup
     unfolding answerOut decide
     decided = rw (p .sound, le-ltb room 258 (p .enough), goes-there)
 
-    fails-with : (w : ℕ) → verdict (supplyOf k) (checksOf k (at6 .card) d) ≡ Fails w
+    pub fails-with : (w : ℕ) → verdict (supplyOf k) (checksOf k (at6 .card) d) ≡ Fails w
         → answerOut c cmd s room ≡ answeredAt (faultAt k d w) (plainly (fails (at6 .lost) w))
     unfolding step6 suits tell
     fails-with w v = decided ∙ rw (v, plain)
@@ -105,12 +105,12 @@ module _ (c : Card) (cmd d s : List ℕ) (room : ℕ) (i : Instruction) (p : Sup
     unfolding step6 tell
     reads-it h = decided ∙ rw (held (supplyOf k) (checksOf k (at6 .card) d) h, plain)
 
-    replies : Hold (checksOf k (at6 .card) d) → suits (supplyOf k) s ≡ true
+    pub replies : Hold (checksOf k (at6 .card) d) → suits (supplyOf k) s ≡ true
         → answerOut c cmd s room ≡ answered (plainly (replyOf k (at6 .card) d s))
     replies h u = reads-it h ∙ rw u
 
 -- what the answer says, from the reply that goes out
-says-plain : (a : AnswerOut) (r : Reply) (bytes : List ℕ) {n : ℕ} → a ≡ answeredAt n (plainly r) → plainText r ≡ bytes → Says a bytes
+pub says-plain : (a : AnswerOut) (r : Reply) (bytes : List ℕ) {n : ℕ} → a ≡ answeredAt n (plainly r) → plainText r ≡ bytes → Says a bytes
 says-plain a r bytes e t = record { taken = ap (λ (y : AnswerOut). y .refusal) e; reads = ap (λ (y : AnswerOut). y .bytes) e ∙ t }
 
 -- step 1 keeps the slots
@@ -246,7 +246,7 @@ module _ (c : Card) (p1 : ℕ) (rest s d : List ℕ) (room : ℕ) (p : Supposed 
     )
 
 -- ---- PAIR
-pair-named : nameOf true 0x80 0x12 ≡ named.Known ins.Pair
+pub pair-named : nameOf true 0x80 0x12 ≡ named.Known ins.Pair
 unfolding nameOf
 pair-named = refl
 

@@ -9,6 +9,8 @@ pub mod Export
 pub mod TapRecord
 pub mod Rows
 pub mod Slots
+pub mod Hashing
+pub mod Faults
 pub mod RowsMet
 pub mod WrongEngines
 pub mod Secrecy

@@ -57,24 +57,24 @@ unless-load command.SetNdef = inr (λ d. refl)
 accepted : (w : Walked) (n : ℕ) → w ≡ Fields n → report w .refusal ≡ 0
 accepted w n e = ap (λ (x : Walked). report x .refusal) e
 
-not-keypair : (chain : Bool) (d : List ℕ) → (WALK d .refusal ≡ 0 → ⊥) → keypair chain d ≡ false
+pub not-keypair : (chain : Bool) (d : List ℕ) → (WALK d .refusal ≡ 0 → ⊥) → keypair chain d ≡ false
 not-keypair chain d n = go (keypair chain d) refl
   where
     go : (b : Bool) → keypair chain d ≡ b → b ≡ false
     go true e = absurd (⊎-elim (λ f. n (accepted (walkOf d) _ f)) (λ f. n (accepted (walkOf d) _ f)) (keypair-walks chain d e))
     go false e = refl
 
-numbered : (f : Fault) → refusalNumber f ≡ 0 → ⊥
+pub numbered : (f : Fault) → refusalNumber f ≡ 0 → ⊥
 numbered Malformed e = omega arith
 numbered TooDeep e = omega arith
 
-distinct : key.Keypair ≡ key.Seed → ⊥
+pub distinct : key.Keypair ≡ key.Seed → ⊥
 distinct e = let z : _≡_ {A = ℕ} 0 1 = cc in omega arith
 
-distinct′ : key.Extended ≡ key.Seed → ⊥
+pub distinct′ : key.Extended ≡ key.Seed → ⊥
 distinct′ e = let z : _≡_ {A = ℕ} 0 1 = cc in omega arith
 
-place-told : (w : Walked) → (report w .refusal ≡ 0 → ⊥) → placeIn w ≡ report w .offset
+pub place-told : (w : Walked) → (report w .refusal ≡ 0 → ⊥) → placeIn w ≡ report w .offset
 place-told (Fields m) n = absurd (n refl)
 place-told (Refused f at) n = refl
 

@@ -111,7 +111,7 @@ data-within cmd b = by-test Within (ltb (length cmd) 4) (λ e. tt)
     small = simp length-take (omega (arith, bytes-at cmd b 4))
 
 -- the data of a command that arrives
-abbrev Few : Step Arrived → Type 0
+abbrev pub Few : Step Arrived → Type 0
 Few (goes a) = length (a .data′) ≤ 255
 Few (stops t) = Unit {0}
 
@@ -120,7 +120,7 @@ at-within cmd c b x = by-opened (λ (o : Opened). length (o .data′) ≤ 255) (
     (λ p. subst Within (x .form) (data-within cmd b))
     (λ p t d e. omega (arith, opened-most (sessionOf (c .channel)) (commandHead (headerOf cmd)) (x .field) d e)) (x .opened) (x .opens)
 
-arrival-few : (c : Card) (cmd : List ℕ) → Bytes cmd → Few (arrival c cmd)
+pub arrival-few : (c : Card) (cmd : List ℕ) → Bytes cmd → Few (arrival c cmd)
 unfolding arrival
 arrival-few c cmd b = by-pastStep1 Few cmd (step1 cmd c) (λ w. tt) tt
     (λ x. by-step5 Few (x .instruction) cmd (x .opened) tt (λ k e. at-within cmd (step1 cmd c) b x))
