@@ -3,10 +3,11 @@
 use mathlib.Core.Path.{refl}
 use mathlib.Core.List.{[], _∷_}
 use native.Mathlib.Omega.{arith}
+use Rattle.template_walk.specs.declared.Fault.the-variants.{Malformed, TooDeep}
 use Rattle.laws_walk.specs.Trees.{none, leaf, template}
 use Rattle.laws_walk.specs.Faults.{over, deep, inside, after}
 use Rattle.laws_walk.proofs.TreeFacts.{encode-one, octets-encode, encode-octets}
-use Rattle.laws_walk.proofs.Walking.{taken, malformed, too-deep, one-case, not-both, one-fault, fault-place, fault-tag, fault-of, walk-fault}
+use Rattle.laws_walk.proofs.Walking.{taken, malformed, too-deep, one-case, not-both, one-fault, fault-place, fault-tag, fault-of, walk-fault, told-fault, offset-none}
 use Rattle.laws_walk.proofs.Answers.{encodes-pre-initialised, encodes-application-info, encodes-status, encodes-signature, encodes-exported-public, encodes-exported-pair}
 use Rattle.claims.specs.WalkReads.{WalkTakes, WalkFaults, WalkAnswers, WalkExamples, WalkReads}
 
@@ -24,6 +25,9 @@ refuses = record {
   onecase = one-case;
   apart = not-both;
   oneplace = one-fault;
+  malformedat = λ s k. told-fault s Malformed k;
+  toodeepat = λ s k. told-fault s TooDeep k;
+  nooffset = offset-none;
   place = λ s f k. (fault-of s f k, walk-fault s f k);
   atbyte = λ s f k x. fault-place x;
   attemplate = λ s k x. fault-tag x refl;

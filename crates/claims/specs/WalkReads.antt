@@ -31,7 +31,11 @@ pub record WalkFaults : Type 0 where
   pub onecase : (s : List ℕ) → ((n : ℕ) × Holds s n) ⊎ (((k : ℕ) × FirstFault s Malformed k) ⊎ ((k : ℕ) × FirstFault s TooDeep k))
   pub apart : (s : List ℕ) (n : ℕ) (f : Fault) (k : ℕ) → Holds s n → FirstFault s f k → ⊥
   pub oneplace : (s : List ℕ) (f g : Fault) (j k : ℕ) → FirstFault s f j → FirstFault s g k → (f ≡ g) × (j ≡ k)
-  -- WALK's answer has that fault and its place
+  -- what WALK reports: the number of the fault's kind, and as fault offset the place of its field's tag; 0 where nothing is refused
+  pub malformedat : (s : List ℕ) (k : ℕ) → ((WALK s .refusal ≡ 4) × (WALK s .offset ≡ k)) ↔ FirstFault s Malformed k
+  pub toodeepat : (s : List ℕ) (k : ℕ) → ((WALK s .refusal ≡ 5) × (WALK s .offset ≡ k)) ↔ FirstFault s TooDeep k
+  pub nooffset : (s : List ℕ) → WALK s .refusal ≡ 0 → WALK s .offset ≡ 0
+  -- and its answer, an enum, has that fault and its place
   pub place : (s : List ℕ) (f : Fault) (k : ℕ) → walkOf s ≡ Refused f k ↔ FirstFault s f k
   -- the place is that of a byte of the input; of a template that is too deep it is that of a template's tag
   pub atbyte : (s : List ℕ) (f : Fault) (k : ℕ) → FirstFault s f k → k < length s
