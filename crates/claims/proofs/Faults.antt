@@ -1,7 +1,7 @@
 -- The fault offset, proved: by the law of crate `laws_engine` for every ANSWER, and by LOAD's turns.
 -- Assumes nothing.
 use mathlib.Core.Path.{_≡_, refl, sym, ap, _∙_, subst}
-use mathlib.Core.Bool.{Bool, true}
+use mathlib.Core.Bool.{true}
 use mathlib.Core.List.{List, [], _∷_}
 use mathlib.Core.Logic.{_↔_, ⊎-elim}
 use Prim.Native.Nat.{ℕ, _≤_, _<_}
@@ -28,7 +28,7 @@ use Rattle.rules.specs.Engine.{AnswerOut, answeredAt, answerOut}
 use Rattle.laws_engine.specs.Faults.{LoadFault, offsetOf}
 use Rattle.laws_engine.proofs.Faults.{distinct, distinct′, fault-decides, fault-alone}
 use Rattle.laws_engine.proofs.Rooms.{Few, arrival-few}
-use Rattle.laws_exchange.specs.Exchange.{Typed, Turn}
+use Rattle.laws_exchange.specs.Exchange.{Turn}
 use Rattle.laws_two_runs.proofs.Reached.{inChannel, verified-reached}
 use Rattle.laws_walk.proofs.Walking.{offset-place}
 use Rattle.claims.specs.Hashing.{p1Byte, loadHeader}

@@ -1,8 +1,8 @@
 -- Turns of SEAL, ANSWER and UNSEAL with LOAD in stage 2, by the law of sealed turns: the reply, and the fault offset beside it.
 -- Assumes nothing.
-use mathlib.Core.Path.{_≡_, refl, sym, ap, _∙_, subst}
-use mathlib.Core.Bool.{Bool, true, false}
-use mathlib.Core.List.{List, [], _∷_, _++_}
+use mathlib.Core.Path.{_≡_, refl, sym, ap, _∙_}
+use mathlib.Core.Bool.{true, false, false≢true}
+use mathlib.Core.List.{List, [], _∷_}
 use mathlib.Core.Option.{some}
 use Prim.Native.Nat.{ℕ, _<_}
 use native.Mathlib.Omega.{arith}
@@ -23,21 +23,19 @@ use Rattle.card.proofs.SoundFacts.{verified-stage}
 use Rattle.rules.specs.declared.KeyForm.{KeyForm}
 use Rattle.rules.specs.declared.KeyForm.the-variants as key
 use Rattle.rules.specs.declared.Instruction.the-variants as ins
-use Rattle.rules.specs.declared.Command.{Command}
 use Rattle.rules.specs.declared.Command.the-variants as command
-use Rattle.rules.specs.Words.{wrongData, word, Hold, Reply, succeeds, fails}
+use Rattle.rules.specs.Words.{word, Hold, Reply, succeeds, fails}
 use Rattle.rules.specs.Supplies.{loadSupply, suits}
-use Rattle.rules.specs.Rules.{noFault}
 use Rattle.rules.specs.Commands.{isVerified, isKeyData, kindOf, keyWith, loadChecks, loadReply, placeIn, loadPlace, ruleOf}
 use Rattle.rules.specs.Rows.{rowOf, isPlain}
 use Rattle.rules.specs.Channel.{withMac, plainText}
-use Rattle.rules.specs.Steps.{claOf, insOf, p1Of, p2Of, nameOf, isInitialised, checksOf, faultAt}
+use Rattle.rules.specs.Steps.{claOf, insOf, p1Of, p2Of, nameOf, isInitialised, faultAt}
 use Rattle.laws_engine.proofs.Faults.{not-keypair, numbered, place-told}
 use Rattle.laws_exchange.specs.Opens.{outcome, faultOf}
-use Rattle.laws_exchange.specs.Exchange.{Typed, Turn, answeredBy, unsealedBy, Names, listed, opened, InStage2}
+use Rattle.laws_exchange.specs.Exchange.{Turn, unsealedBy, Names, listed, opened, InStage2}
 use Rattle.laws_exchange.proofs.Exchanges.{known, staged, listed2}
 use Rattle.laws_walk.proofs.Walking.{offset-place}
-use Rattle.claims.specs.Hashing.{p1Byte, loadHeader, keyKind, Loaded}
+use Rattle.claims.specs.Hashing.{p1Byte, keyKind, Loaded}
 use Rattle.claims.specs.Faults.{LoadFails, Supposed}
 
 load-sealed : isPlain ins.Load ≡ false
@@ -87,19 +85,13 @@ module _ (c : Card) (t : Turn) (form : KeyForm) (p : Supposed c t form) where
 
   pub unverified : isVerified (c .pins) ≡ false → LoadFails c t (0x69 ∷ 0x85 ∷ []) 255
   unfolding ruleOf loadChecks faultAt
-  unverified v = failed (λ h. absurd (differ (sym v ∙ h .0))) 255 0x6985 (rw v) (rw v)
-    where
-      differ : false ≡ true → ⊥
-      differ e = let z : _≡_ {A = ℕ} 0 1 = cc in omega arith
+  unverified v = failed (λ h. absurd (false≢true (sym v ∙ h .0))) 255 0x6985 (rw v) (rw v)
 
   -- 6A80 of the data, with the place that the form has for them
   module _ (v : isVerified (c .pins) ≡ true) (k : isKeyData form (t .data′) ≡ false) where
     wrong : (n : ℕ) → loadPlace form (t .data′) ≡ n → LoadFails c t (0x6A ∷ 0x80 ∷ []) n
     unfolding ruleOf loadChecks faultAt
-    wrong n e = failed (λ h. absurd (differ (sym k ∙ h .1 .0))) n 0x6A80 (rw (v, k)) (rw (v, k) e)
-      where
-        differ : false ≡ true → ⊥
-        differ e = let z : _≡_ {A = ℕ} 0 1 = cc in omega arith
+    wrong n e = failed (λ h. absurd (false≢true (sym k ∙ h .1 .0))) n 0x6A80 (rw (v, k)) (rw (v, k) e)
 
   -- data that LOAD takes
   module _ (v : isVerified (c .pins) ≡ true) (k : isKeyData form (t .data′) ≡ true) (flag : ℕ) (rest : List ℕ)

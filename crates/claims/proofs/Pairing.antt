@@ -1,12 +1,11 @@
 -- A pairing from both ends: PAIR's first step by its rule, its final step by the law of slots, and a cryptogram that is not the expected one.
 -- Assumes nothing.
 use mathlib.Core.Path.{_≡_, refl, sym, ap, _∙_, subst}
-use mathlib.Core.Bool.{Bool, true, _&&_, not, cond}
-use mathlib.Core.List.{List, [], _∷_, _++_, append-assoc}
+use mathlib.Core.Bool.{true, _&&_, not, cond}
+use mathlib.Core.List.{List, _∷_, _++_, append-assoc}
 use mathlib.Core.Option.{some}
-use Prim.Native.Nat.{ℕ, _<_}
+use Prim.Native.Nat.{ℕ}
 use native.Mathlib.Omega.{arith}
-use borrow.Author.Tests.{le-ltb}
 use lib.Dec.{eqb}
 use lib.ListN.{length}
 use lib.Seq.{take-all}
@@ -28,13 +27,13 @@ use Rattle.rules.specs.Words.{success, securityNotMet, word, verdict, Hold, Rep
 use Rattle.rules.specs.Supplies.{suits}
 use Rattle.rules.specs.Commands.{pairFirstChecks, pairFirstReply, pairFinalChecks, ruleOf}
 use Rattle.rules.specs.Channel.{plainly}
-use Rattle.rules.specs.Steps.{begins, step1, dataOf, isInitialised, checksOf, supplyOf, replyOf, faultAt}
+use Rattle.rules.specs.Steps.{begins, step1, dataOf, checksOf, supplyOf, replyOf, faultAt}
 use Rattle.rules.specs.Engine.{AnswerOut, answeredAt, answered, answerOut}
 use Rattle.laws_engine.proofs.Sound.{answer-sound, answer-shaped}
 use Rattle.laws_two_runs.proofs.Sealed.{data-filled}
 use Rattle.laws_two_runs.proofs.Reached.{initialisedCard, initialised-sound, initialised-reached}
-use Rattle.claims.specs.Slots.{flagAt, pairCommand, Supposed, Says, Paired}
-use Rattle.claims.specs.Hashing.{firstStep, finalStep, hashed, CanPair, waiting, Pairing, at, Example}
+use Rattle.claims.specs.Slots.{pairCommand, Supposed, Says}
+use Rattle.claims.specs.Hashing.{firstStep, finalStep, hashed, CanPair, waiting, Pairing, Example}
 use Rattle.claims.proofs.Pins.{unlike}
 use Rattle.claims.proofs.SlotCommands.{replies, fails-with, says-plain, pair-named, pair-final}
 

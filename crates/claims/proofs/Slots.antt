@@ -23,7 +23,7 @@ use Rattle.rules.specs.declared.Instruction.the-variants as ins
 use Rattle.rules.specs.declared.Command.the-variants as command
 use Rattle.rules.specs.Words.{Reply, succeeds}
 use Rattle.rules.specs.Supplies.{suits}
-use Rattle.rules.specs.Commands.{isVerified, selectChecks, freeSlots, selectReply, openChecks, openReply, pairFirstChecks, pairFirstReply, pairFinalChecks, pairInto, pairFinalReply, withSlot, filledWith, unpairChecks, unpairReply, ruleOf}
+use Rattle.rules.specs.Commands.{isVerified, selectChecks, freeSlots, selectReply, openChecks, openReply, pairFirstChecks, pairFirstReply, pairInto, pairFinalReply, withSlot, filledWith, unpairChecks, unpairReply, ruleOf}
 use Rattle.rules.specs.Rows.{rowOf, isPlain}
 use Rattle.rules.specs.Channel.{withMac, plainText, tell}
 use Rattle.rules.specs.Steps.{step1, dataOf, claOf, insOf, p1Of, p2Of, nameOf, isInitialised, step4, step5, pastStep1, arrival, step6, decide}
@@ -31,10 +31,10 @@ use Rattle.rules.specs.Engine.{answerOut}
 use Rattle.laws_exchange.specs.Opens.{outcome}
 use Rattle.laws_exchange.specs.Exchange.{Typed, Turn, answeredBy, unsealedBy, Names, listed, opened, Exchange}
 use Rattle.laws_exchange.proofs.Exchanges.{known, staged, listed2, unlisted2}
-use Rattle.laws_two_runs.specs.Runs.{Call, answer, nextAt, endOf}
+use Rattle.laws_two_runs.specs.Runs.{Call, nextAt, endOf}
 use Rattle.laws_two_runs.proofs.Reached.{initCall, initialisedCard, init-reaches, pairHash, pairFirstCall, pairFinalCall, pendingOn, final-next, inChannel, verified-reached}
 use Rattle.claims.specs.TapRecord.{Fails}
-use Rattle.claims.specs.Slots.{flagAt, pairCommand, unpairWith, Freed, at, Selects, Opens, Pairs, AllFilled, OneFilled, Slots}
+use Rattle.claims.specs.Slots.{flagAt, unpairWith, Freed, at, Selects, Opens, Pairs, AllFilled, OneFilled, Slots}
 use Rattle.claims.proofs.RowsMet.{channel-typed}
 use Rattle.claims.proofs.SlotCounts.{counted, after-init}
 use Rattle.claims.proofs.SlotCommands.{slot-listed, slot-over, select-told, open-over, open-free, open-filled, pair-full, pair-final}

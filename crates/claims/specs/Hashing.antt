@@ -15,7 +15,7 @@ use Rattle.rules.specs.declared.KeyForm.the-variants as key
 use Rattle.rules.specs.Commands.{isVerified, isKeyData, keyWith}
 use Rattle.rules.specs.Channel.{withMac}
 use Rattle.rules.specs.Steps.{isInitialised}
-use Rattle.rules.specs.Engine.{AnswerOut, answerOut}
+use Rattle.rules.specs.Engine.{answerOut}
 use Rattle.laws_exchange.specs.Exchange.{Typed, Turn, answeredBy, unsealedBy}
 use Rattle.laws_two_runs.specs.Runs.{Call, endOf}
 use Rattle.claims.specs.Slots.{flagAt, pairCommand, Says, Paired}

@@ -32,7 +32,7 @@ use Rattle.rules.specs.Supplies.{part, saysYes, initKey, openSalt, openIv, pair
 use Rattle.rules.specs.Commands.{freeSlots, selected, selectChecks, selectReply, isContent, initialisedWith, initChecks, initContent, initWith, initReply, openedWith, openChecks, openReply, inStage2, mutualChecks, mutualReply, withSecret, pendingWith, pairFirstChecks, pairFirstReply, withSlot, filledWith, pairFinalChecks, pairInto, pairFinalReply, unpairChecks, unpairReply, ruleOf}
 use Rattle.rules.specs.Rows.{rowOf}
 use Rattle.rules.specs.Steps.{isInitialised}
-use Rattle.laws_commands.proofs.Checks.{never, open-two, suited, part-length, part-most}
+use Rattle.laws_commands.proofs.Checks.{never, open-two, part-length, part-most}
 use Rattle.laws_commands.proofs.Parts.{after-init, before-init, pairing-sound, keys-sound, channel-blank, pairing-kept, channel-kept, or-right, pairing-shaped, channel-shaped, closed-fit, forgotten-fit}
 use Rattle.laws_commands.proofs.Changed.{keys-set, pending-rules, filled-rules, freed-rules, blank-pending, blank-pairing-rules, blank-keys-rules}
 use Rattle.laws_commands.proofs.Erasure.{cond-same}

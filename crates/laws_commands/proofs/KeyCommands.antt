@@ -31,7 +31,7 @@ use Rattle.rules.specs.Supplies.{saysYes, loadPublic, signKey, signR, signS, ex
 use Rattle.rules.specs.Commands.{isVerified, isSet, isPath, kindOf, keyWith, loadChecks, uidOf, loadReply, withCurrent, deriveChecks, deriveReply, removeChecks, removeReply, withPinless, pinlessChecks, pinlessReply, signChecks, signReply, isExportData, exportChecks, exportedKeys, keysAfterExport, exportReply, ndefChecks, ndefReply, ruleOf}
 use Rattle.rules.specs.Rows.{rowOf}
 use Rattle.rules.specs.Steps.{isInitialised}
-use Rattle.laws_commands.proofs.Checks.{never, open-two, suited, part-length, part-most}
+use Rattle.laws_commands.proofs.Checks.{never, open-two, part-most}
 use Rattle.laws_commands.proofs.Parts.{after-init, keys-kept, keys-shaped, tap-kept, tap-shaped}
 use Rattle.laws_commands.proofs.Changed.{loaded-rules, removed-rules, derived-rules, pinless-rules, path-of-bytes}
 use Rattle.laws_commands.proofs.Erasure.{cond-same}

@@ -43,7 +43,7 @@ use Rattle.rules.specs.Words.{Hold, success, word, Reply, succeeds}
 use Rattle.rules.specs.Supplies.{initSupply, pairFinalSupply, suits}
 use Rattle.rules.specs.Rules.{noFault}
 use Rattle.rules.specs.Rows.{rowOf, isPlain}
-use Rattle.rules.specs.Commands.{mutualChecks, mutualReply, verifyChecks, verifyReply, loadChecks, loadReply, keyWith, openChecks, openReply, pairFinalChecks, pairInto, pairFinalReply, pendingWith, pairFirstChecks, pairFirstReply, withSlot, filledWith, initChecks, initContent, initWith, initReply, initialisedWith, ruleOf}
+use Rattle.rules.specs.Commands.{mutualChecks, mutualReply, verifyChecks, verifyReply, loadChecks, loadReply, keyWith, openChecks, openReply, pairFinalChecks, pairInto, pairFinalReply, pairFirstChecks, pairFirstReply, withSlot, filledWith, initChecks, initContent, initWith, initReply, initialisedWith, ruleOf}
 use Rattle.rules.specs.Channel.{Outgoing, plainly, tell}
 use Rattle.rules.specs.Steps.{step1, dataOf, nameOf, Arrived, inStage, failed, step4, step5, pastStep1, arrival, checksOf, supplyOf, replyOf, step6, finish, decide}
 use Rattle.rules.specs.Engine.{AnswerOut, answered, answerOut}
