@@ -440,6 +440,8 @@ static void keys(void)
     stored("the record with a key and two paths", TW_RECORD_MIN_BYTES + TW_KEY_BYTES + 2 * sizeof TWO_COMPONENTS + sizeof TAP);
     sealed_status("SET NDEF without a PIN", TW_INS_SET_NDEF, 0, filled(0, 2), TW_SW_CONDITIONS_NOT_MET);
     sealed_status("REMOVE without a PIN", TW_INS_REMOVE, 0, none(), TW_SW_CONDITIONS_NOT_MET);
+    sealed_status("LOAD at fault without a PIN", TW_INS_LOAD, TW_P1_LOAD_PLAIN, byte(0x81), TW_SW_CONDITIONS_NOT_MET);
+    sealed_status("LOAD at fault with P1 00", TW_INS_LOAD, 0, byte(0x81), TW_SW_WRONG_PARAMETERS);
     sealed_status("VERIFY, right", TW_INS_VERIFY, 0, words(PIN), TW_SW_SUCCESS);
     sealed_status("REMOVE", TW_INS_REMOVE, 0, none(), TW_SW_SUCCESS);
     expect(card->key_kind == TW_KEY_NONE && card->current.len == 0 && card->pinless.len == 0, "no key, no paths");
