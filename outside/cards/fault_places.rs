@@ -149,8 +149,8 @@ fn long_ends(both: &mut Both, random: &mut Random, template: &Template) {
     }
 }
 
-/// The fifth template is too deep, after four heads, each of two bytes or of three; what is in it is not looked at. A broken field before it
-/// is found first.
+/// The fifth template is too deep, after four heads, each of two bytes or of three, and the fields before it; what is in it is not looked at. A
+/// broken field before it is found first.
 fn deep_templates(both: &mut Both, random: &mut Random) {
     for p1 in [0x01, 0x02] {
         for templates in 1..=10 {
@@ -164,6 +164,8 @@ fn deep_templates(both: &mut Both, random: &mut Random) {
                 gives(both, random, p1, &nested(templates, inside), WRONG_DATA, number);
             }
         }
+        let behind_a_field = nested(4, &[0x80, 0x00, 0xa1, 0x00]);
+        gives(both, random, p1, &behind_a_field, WRONG_DATA, 10);
         let long = nested(5, &field(0x80, &random.bytes(MOST_SHORT_BYTES + 1)));
         gives(both, random, p1, &long, WRONG_DATA, 12);
         let after = [&nested(4, &[])[..], &nested(5, &[])].concat();
@@ -347,6 +349,8 @@ fn walks(both: &mut Both, random: &mut Random) {
             (vec![0x80], MALFORMED, 0),
             (nested(3, &BROKEN), MALFORMED, 6),
             (nested(5, &random.bytes(3)), TOO_DEEP, 8),
+            (nested(4, &[0x80, 0x00, 0xa1, 0x00]), TOO_DEEP, 10),
+            (nested(3, &[0x80, 0x00, 0x80]), MALFORMED, 8),
         ] {
             let input = [&before[..], &more].concat();
             let walked = both.walk(&input);
