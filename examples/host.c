@@ -4,7 +4,7 @@
    the card's bytes; and the engine, the library treadlewisp, which says what the card answers. Here the wire between terminal and host is
    the function transmit; in an appliance it is a reader. The engine does no curve arithmetic and makes no random numbers: it asks the host
    for their results, the supply. supplies.c makes it, over keys.c (Keycard's key derivations and BIP 32), curve.c (libsecp256k1) and hash.c
-   (libcrypto). store.c keeps the card on the disk.
+   (libcrypto). The hashes of PAIR and LOAD the engine makes itself. store.c keeps the card on the disk.
 
    Usage: host FOLDER. The folder is there and has no card yet; it has one afterwards. Exit status: 0 where every check held, 1 where one
    did not, 2 for a wrong use. PIN, PUK and seed are for trying out. Lengths are in bytes. */
@@ -26,6 +26,7 @@ enum {
 };
 
 static struct host device;
+static size_t shown_fault = TW_NO_FAULT;
 
 /* WRITE, and the file durably. This sample stores in the clear: a real host encrypts the file, and sees that no older one is put back. */
 static int host_store(const struct host *host)
@@ -71,6 +72,16 @@ static void host_power_off(struct host *host)
     tw_wipe(host, sizeof *host);
 }
 
+/* For whoever stands at the host: where the data of a LOAD is at fault. The number alone is shown. The byte there is a tag if all before it is
+   right, and may be a byte of the key if not. */
+static void host_show(size_t fault_offset)
+{
+    shown_fault = fault_offset;
+    if (fault_offset != TW_NO_FAULT) {
+        printf("  host: LOAD's data is at fault: field at byte %zu\n", fault_offset);
+    }
+}
+
 /* One command, from its arrival to its answer: ASK, the supply, ANSWER, store, and only then the answer. Stored later, a wrong PIN would be
    known before its try is lost, and a power cut would bring the try back. Gives the answer's length; 0: there is none, and the host is
    again what is stored, as if the power had failed. */
@@ -83,13 +94,14 @@ static size_t host_call(struct host *host, const uint8_t *command, size_t comman
         supply_bytes = supply_make(host, asked.kind, command, data, asked.count, supply);
     }
     if (asked.refusal == TW_DONE && (asked.kind == TW_SUPPLY_NONE || supply_bytes > 0)) {
-        const tw_told told = tw_answer(&host->card, command, command_bytes, supply, supply_bytes, answer, TW_ANSWER_ROOM_BYTES);
-        if (told.refusal == TW_DONE && host->card.key_kind == TW_KEY_NONE) {
+        const tw_answered answered = tw_answer(&host->card, command, command_bytes, supply, supply_bytes, answer, TW_ANSWER_ROOM_BYTES);
+        if (answered.refusal == TW_DONE && host->card.key_kind == TW_KEY_NONE) {
             tw_wipe(&host->wallet, sizeof host->wallet); /* REMOVE: the card has no key any more */
         }
-        if (told.refusal == TW_DONE && host_store(host)) {
-            answer_bytes = told.count;
+        if (answered.refusal == TW_DONE && host_store(host)) {
+            answer_bytes = answered.count;
         }
+        host_show(answered.fault_offset);
     }
     tw_wipe(data, sizeof data);
     tw_wipe(supply, sizeof supply);
@@ -115,6 +127,11 @@ int power_cut(void)
 int terminal_goes(void)
 {
     return tw_reset(&device.card) == TW_DONE;
+}
+
+size_t fault_shown(void)
+{
+    return shown_fault;
 }
 
 int main(int argc, char **argv)

@@ -111,6 +111,27 @@ static void wallet(void)
     tw_wipe(&master, sizeof master);
 }
 
+/* Keys with a wrong length in their template. The terminal gets 6A80; the host shows where the fault is. */
+static void wallet_at_fault(void)
+{
+    /* A1 holds the private key alone, 81; PUBLISHED_SEED stands for it. */
+    uint8_t data[4 + TW_KEY_BYTES] = {0xA1, 2 + TW_KEY_BYTES, 0x81, TW_KEY_BYTES};
+    memcpy(data + 4, PUBLISHED_SEED, TW_KEY_BYTES);
+    data[1]++;
+    answers("LOAD, the template a byte too long", sealed(TW_INS_LOAD, TW_P1_LOAD_PLAIN, data, sizeof data), TW_SW_WRONG_DATA);
+    check("the host shows byte 0, the template's tag", fault_shown() == 0);
+    data[1]--;
+    data[3]++;
+    answers("LOAD, the key a byte too long", sealed(TW_INS_LOAD, TW_P1_LOAD_PLAIN, data, sizeof data), TW_SW_WRONG_DATA);
+    check("the host shows byte 2, the key's tag", fault_shown() == 2);
+    data[3]--;
+    answers("LOAD of a plain key as an extended one", sealed(TW_INS_LOAD, TW_P1_LOAD_EXTENDED, data, sizeof data), TW_SW_WRONG_DATA);
+    check("its fields are whole: the host shows no place", fault_shown() == TW_NO_FAULT);
+    answers("LOAD of half a seed", sealed(TW_INS_LOAD, TW_P1_LOAD_SEED, PUBLISHED_SEED, SEED_BYTES / 2), TW_SW_WRONG_DATA);
+    check("a seed has no fields: the host shows no place", fault_shown() == TW_NO_FAULT);
+    tw_wipe(data, sizeof data);
+}
+
 /* SIGN of a payment's hash: the signature is that of the path's key. */
 static void payment(const char *text)
 {
@@ -160,6 +181,7 @@ void life(void)
 {
     first_contact();
     wrong_pin();
+    wallet_at_fault();
     wallet();
     payment("five to the grocer");
     exports();

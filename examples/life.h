@@ -12,6 +12,8 @@ void life(void);
 int power_cut(void);
 /* The terminal goes and the host stays: the card in memory is reset. */
 int terminal_goes(void);
+/* What the host showed for the last command: how many bytes of LOAD's data are before the faulty field; TW_NO_FAULT: nothing. */
+size_t fault_shown(void);
 
 /* A check: counted, and written out. */
 void check(const char *what, int holds);

@@ -1,5 +1,5 @@
-/* Holds the key derivations of keys.c, which both ends of host.c share, to the numbers of docs/INTEGRATION.md, 5.3: a mistake that both
-   ends make alike shows here and not in host.c.
+/* Holds the key derivations of keys.c to the numbers of docs/INTEGRATION.md, 5.3. Both ends of host.c share them, but for the hashes of PAIR
+   and LOAD, which the card makes itself: a mistake that both ends make alike shows here and not in host.c.
 
    Usage: numbers PAGE. Each number is worked out and has to be the one that the page has after its name. Exit status: 0 where all are, 1
    where one is not, 2 for a wrong use. Lengths are in bytes. */

@@ -48,20 +48,16 @@ static size_t supply_mutual(uint8_t *supply)
     return random_bytes(supply, TW_KEY_BYTES) ? TW_SUPPLY_MUTUAL_BYTES : 0;
 }
 
-/* Kind 4: card cryptogram, card challenge, the client cryptogram to expect. The data is the client challenge. */
-static size_t supply_pair_first(const struct host *host, const uint8_t *data, uint8_t *supply)
+/* Kind 4: the card's challenge, a random number. The card makes both cryptograms. */
+static size_t supply_pair_first(uint8_t *supply)
 {
-    uint8_t *const challenge = supply + TW_KEY_BYTES, *const expected = challenge + TW_KEY_BYTES;
-    const int made = random_bytes(challenge, TW_KEY_BYTES) && keys_pairing(host->card.secret, data, supply) &&
-                     keys_pairing(host->card.secret, challenge, expected);
-    return made ? TW_SUPPLY_PAIR_FIRST_BYTES : 0;
+    return random_bytes(supply, TW_KEY_BYTES) ? TW_SUPPLY_PAIR_FIRST_BYTES : 0;
 }
 
-/* Kind 5: salt, pairing key. */
-static size_t supply_pair_final(const struct host *host, uint8_t *supply)
+/* Kind 5: the salt, a random number. The card makes the pairing key. */
+static size_t supply_pair_final(uint8_t *supply)
 {
-    const int made = random_bytes(supply, TW_KEY_BYTES) && keys_pairing(host->card.secret, supply, supply + TW_KEY_BYTES);
-    return made ? TW_SUPPLY_PAIR_FINAL_BYTES : 0;
+    return random_bytes(supply, TW_KEY_BYTES) ? TW_SUPPLY_PAIR_FINAL_BYTES : 0;
 }
 
 /* The key that LOAD's data brings, and its public key; where the data has a public key too, it has to be this one. The engine has seen to
@@ -83,19 +79,17 @@ static int loaded_key(uint8_t p1, const uint8_t *data, size_t data_bytes, extend
            (!given || same_bytes(public_key, private_key - FIELD_BYTES - TW_PUBLIC_KEY_BYTES, TW_PUBLIC_KEY_BYTES));
 }
 
-/* Kind 6: flag, key UID. The host keeps the key, in place of the one before it. */
+/* Kind 6: flag, public key of the loaded key. The card makes the key UID; the host keeps the key, in place of the one before it. */
 static size_t supply_load(struct host *host, uint8_t p1, const uint8_t *data, size_t data_bytes, uint8_t *supply)
 {
-    uint8_t public_key[TW_PUBLIC_KEY_BYTES];
     extended_key wallet;
-    const int is_key = loaded_key(p1, data, data_bytes, &wallet, public_key);
-    const int made = !is_key || keys_uid(public_key, supply + FLAG_BYTES);
+    const int is_key = loaded_key(p1, data, data_bytes, &wallet, supply + FLAG_BYTES);
     supply[0] = flag(is_key);
-    if (is_key && made) {
+    if (is_key) {
         host->wallet = wallet;
     }
     tw_wipe(&wallet, sizeof wallet);
-    return made ? TW_SUPPLY_LOAD_BYTES : 0;
+    return TW_SUPPLY_LOAD_BYTES;
 }
 
 /* Kind 7: flag. The data is a path. */
@@ -146,9 +140,9 @@ size_t supply_make(struct host *host, uint8_t kind, const uint8_t *command, cons
     case TW_SUPPLY_MUTUAL:
         return supply_mutual(supply);
     case TW_SUPPLY_PAIR_FIRST:
-        return supply_pair_first(host, data, supply);
+        return supply_pair_first(supply);
     case TW_SUPPLY_PAIR_FINAL:
-        return supply_pair_final(host, supply);
+        return supply_pair_final(supply);
     case TW_SUPPLY_LOAD:
         return supply_load(host, command[P1_AT], data, data_bytes, supply);
     case TW_SUPPLY_DERIVE:

@@ -1,5 +1,5 @@
-/* The host's part of a command: curve arithmetic, hashes and random numbers, handed to the engine as a supply. docs/INTEGRATION.md, section
-   6, has each kind byte by byte. Lengths are in bytes. */
+/* The host's part of a command: curve arithmetic, the channel's keys and random numbers, handed to the engine as a supply.
+   docs/INTEGRATION.md, section 6, has each kind byte by byte. Lengths are in bytes. */
 #ifndef SUPPLIES_H
 #define SUPPLIES_H
 

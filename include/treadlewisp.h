@@ -26,9 +26,9 @@ extern "C" {
 /* The version: one number for this header, the library, the Rust crate and the crates that they are proved from. CHANGELOG.md says what it
    promises about the card's layout and the stored record. */
 #define TW_VERSION_MAJOR 0
-#define TW_VERSION_MINOR 6
+#define TW_VERSION_MINOR 7
 #define TW_VERSION_PATCH 0
-#define TW_VERSION "0.6.0"
+#define TW_VERSION "0.7.0"
 
 /* Numbers that follow from others are written as their sums; docs/LAYOUT.md has them worked out, and rust/tests/layout.rs holds both against
    each other. */
@@ -114,6 +114,9 @@ enum {
     /* The most data that SEAL takes, in bytes; over it the operation is refused with TW_TOO_LONG. */
     TW_DATA_MAX_BYTES = 223,
 
+    /* The fault offset of tw_answer where there is none. No offset is as great: opened data has at most TW_DATA_MAX_BYTES bytes. */
+    TW_NO_FAULT = 255,
+
     /* A page of memory. */
     TW_PAGE_BYTES = 4096,
     /* How much of the stack tw_wipe_stack overwrites. Every function of the library uses less: outside/c/secrets.c measures. */
@@ -121,7 +124,8 @@ enum {
 };
 
 /* Refusals. A refused call reports count and kind 0, writes nothing to the buffer and leaves card and session as they were
-   (tw_read: the card becomes FRESH of zeros). Where several apply, the lowest is given; of 4 and 5, the one that is met first. */
+   (tw_read: the card becomes FRESH of zeros). Where several apply, the lowest is given; of 4 and 5, the one that is met first. With 4 and 5
+   WALK also tells where: tw_walked. */
 enum tw_refusal {
     TW_DONE = 0,         /* not refused */
     TW_UNSOUND = 1,      /* RESET, ASK, ANSWER, WRITE: the card is not sound */
@@ -147,9 +151,9 @@ enum tw_supply_kind {
     TW_SUPPLY_INIT = 1,       /* 33 bytes: flag, AES key 32 */
     TW_SUPPLY_OPEN = 2,       /* 113 bytes: flag, encryption key 32, MAC key 32, salt 32, IV 16 */
     TW_SUPPLY_MUTUAL = 3,     /* 32 bytes: random */
-    TW_SUPPLY_PAIR_FIRST = 4, /* 96 bytes: cryptogram 32, challenge 32, expected client cryptogram 32 */
-    TW_SUPPLY_PAIR_FINAL = 5, /* 64 bytes: salt 32, pairing key 32 */
-    TW_SUPPLY_LOAD = 6,       /* 33 bytes: flag, key UID 32 */
+    TW_SUPPLY_PAIR_FIRST = 4, /* 32 bytes: the card's challenge, random; the card works out both cryptograms */
+    TW_SUPPLY_PAIR_FINAL = 5, /* 32 bytes: salt, random; the card works out the pairing key */
+    TW_SUPPLY_LOAD = 6,       /* 66 bytes: flag, public key 65 of the loaded key; the card works out the key UID */
     TW_SUPPLY_DERIVE = 7,     /* 1 byte: flag */
     TW_SUPPLY_SIGN = 8,       /* 129 bytes: public key 65, r 32, s 32 */
     TW_SUPPLY_EXPORT = 9      /* 98 bytes: flag, public key 65, private key 32; the private key also where it does not go out */
@@ -160,9 +164,9 @@ enum {
     TW_SUPPLY_INIT_BYTES = 33,
     TW_SUPPLY_OPEN_BYTES = 113,
     TW_SUPPLY_MUTUAL_BYTES = 32,
-    TW_SUPPLY_PAIR_FIRST_BYTES = 96,
-    TW_SUPPLY_PAIR_FINAL_BYTES = 64,
-    TW_SUPPLY_LOAD_BYTES = 33,
+    TW_SUPPLY_PAIR_FIRST_BYTES = 32,
+    TW_SUPPLY_PAIR_FINAL_BYTES = 32,
+    TW_SUPPLY_LOAD_BYTES = 66,
     TW_SUPPLY_DERIVE_BYTES = 1,
     TW_SUPPLY_SIGN_BYTES = 129,
     TW_SUPPLY_EXPORT_BYTES = 98,
@@ -306,10 +310,24 @@ typedef struct tw_asked {
     size_t count;    /* bytes written from the buffer's start */
 } tw_asked;
 
-/* What ANSWER, SEAL, UNSEAL, WALK and WRITE report. */
+/* What ANSWER reports. */
+typedef struct tw_answered {
+    uint8_t refusal;     /* TW_DONE or the refusal's number */
+    size_t count;        /* bytes written from the buffer's start */
+    size_t fault_offset; /* bytes of opened data before the tag of the faulty field; TW_NO_FAULT where there is none */
+} tw_answered;
+
+/* What WALK reports. */
+typedef struct tw_walked {
+    uint8_t refusal;     /* TW_DONE, TW_MALFORMED or TW_TOO_DEEP */
+    size_t count;        /* fields that are not templates */
+    size_t fault_offset; /* bytes of input before the tag of the faulty field; 0 where the call is not refused */
+} tw_walked;
+
+/* What SEAL, UNSEAL and WRITE report. */
 typedef struct tw_told {
     uint8_t refusal; /* TW_DONE or the refusal's number */
-    size_t count;    /* bytes written from the buffer's start; WALK: fields that are not templates */
+    size_t count;    /* bytes written from the buffer's start */
 } tw_told;
 
 /* What the tap read gives: the part of length bytes from offset on, in the stored record or in the factory record. */
@@ -350,10 +368,15 @@ TW_CHECK(offsetof(tw_card, iv) == TW_AT_IV, "where iv begins");
 TW_CHECK(offsetof(tw_card, tap) == TW_AT_TAP, "where tap begins");
 TW_CHECK(sizeof(size_t) == 8, "x86-64: a length has 8 bytes");
 TW_CHECK(sizeof(tw_asked) == 16 && offsetof(tw_asked, kind) == 1 && offsetof(tw_asked, count) == 8, "ASK's report has 16 bytes");
+TW_CHECK(sizeof(tw_answered) == 24 && offsetof(tw_answered, refusal) == 0, "ANSWER's report has 24 bytes");
+TW_CHECK(offsetof(tw_answered, count) == 8 && offsetof(tw_answered, fault_offset) == 16, "count and offset of ANSWER's report");
+TW_CHECK(sizeof(tw_walked) == 24 && offsetof(tw_walked, refusal) == 0, "WALK's report has 24 bytes");
+TW_CHECK(offsetof(tw_walked, count) == 8 && offsetof(tw_walked, fault_offset) == 16, "count and offset of WALK's report");
 TW_CHECK(sizeof(tw_told) == 16 && offsetof(tw_told, count) == 8, "a report has 16 bytes");
 TW_CHECK(sizeof(tw_tapped) == 24 && offsetof(tw_tapped, source) == 1, "the tap read's report has 24 bytes");
 TW_CHECK(offsetof(tw_tapped, offset) == 8 && offsetof(tw_tapped, length) == 16, "offset and length of the tap read's report");
 TW_CHECK(TW_TAP_MAX_BYTES == TW_DATA_MAX_BYTES, "the longest tap record is the most data");
+TW_CHECK(TW_NO_FAULT >= TW_DATA_MAX_BYTES, "no offset of opened data is TW_NO_FAULT");
 #undef TW_CHECK
 
 /* FRESH: the card becomes that of a new device. What *card held is not read. It has no refusal.
@@ -390,14 +413,18 @@ tw_asked tw_ask(const tw_card *card, const uint8_t *cmd, size_t cmd_bytes, uint8
    9000; Lr, in its MAC, counts MAC and ciphertext, in bytes.
    Refusals: TW_UNSOUND, TW_ROOM (buf_bytes under 258), TW_BAD_SUPPLY. The supply is read only where ASK names a kind; else it may have any
    length, 0 too.
+   The fault offset is for whoever looks for the error in a key: where LOAD with P1 01 or 02 gives 6A80 because its data is no sequence of
+   fields, or too deep, it is what WALK of the opened data tells: bytes from the start of the opened data (not of the command) to the tag of
+   the faulty field, 0 to 222. Everywhere else it is TW_NO_FAULT: for success, for a LOAD whose fields are whole but are not those of a key, for
+   P1 03, for every other command, and for a refused call. Response and card are the same with it and without it.
    The caller ensures:
    - card: TW_CARD_BYTES bytes, valid to read and write, overlapping no other argument, and used by no other thread during the call;
    - cmd: cmd_bytes bytes, valid to read, and written by no one during the call;
    - supply: supply_bytes bytes, valid to read, and written by no one during the call;
    - buf: buf_bytes bytes, valid to read and write, overlapping no other argument, and used by no other thread during the call;
    - no pointer is null, also where a length is 0, and each length is under 2^63. */
-tw_told tw_answer(tw_card *card, const uint8_t *cmd, size_t cmd_bytes, const uint8_t *supply, size_t supply_bytes, uint8_t *buf,
-                  size_t buf_bytes);
+tw_answered tw_answer(tw_card *card, const uint8_t *cmd, size_t cmd_bytes, const uint8_t *supply, size_t supply_bytes, uint8_t *buf,
+                      size_t buf_bytes);
 
 /* SEAL: the session becomes the next session; the whole sealed command from the buffer's start, 37 to 245 bytes. header: CLA INS P1 P2.
    Refusals: TW_ROOM (buf_bytes under 261), TW_TOO_LONG (data_bytes over 223).
@@ -420,12 +447,15 @@ tw_told tw_seal(tw_session *session, const uint8_t *header, const uint8_t *data,
 tw_told tw_unseal(tw_session *session, const uint8_t *response, size_t response_bytes, uint8_t *buf, size_t buf_bytes);
 
 /* WALK: how many fields that are not templates the input holds; the count is in fields. Templates are read to depth 4, input of any
-   length. Refusals: TW_MALFORMED, TW_TOO_DEEP, by the first fault from left to right. Parts that it accepts, joined, count the sum of their
-   fields. Long input may therefore be cut between two fields at the top.
+   length. Refusals: TW_MALFORMED, TW_TOO_DEEP, by the first fault from left to right. The fault offset is then in bytes, from the input's
+   start to the tag of the field at fault: the one whose length is cut off or badly formed, or whose end lies beyond its template or the
+   input, or that is a template at depth 5. Inside a template it is the inner field's tag. It may be any number under input_bytes, over 255
+   too. Where the call is not refused it is 0, which means nothing: look at the refusal first.
+   Parts that it accepts, joined, count the sum of their fields. Long input may therefore be cut between two fields at the top.
    The caller ensures:
    - input: input_bytes bytes, valid to read, and written by no one during the call;
    - the pointer is not null, also where the length is 0, and the length is under 2^63. */
-tw_told tw_walk(const uint8_t *input, size_t input_bytes);
+tw_walked tw_walk(const uint8_t *input, size_t input_bytes);
 
 /* WRITE: the card's stored record from the buffer's start: TW_RECORD_FRESH_BYTES bytes before INIT, TW_RECORD_MIN_BYTES to
    TW_RECORD_MAX_BYTES after it. After INIT it has all 8 slots, and the field of the tap record, also where that is empty. The card is

@@ -1,8 +1,11 @@
 /* One card's life through include/treadlewisp.h, with all eleven operations: from FRESH over INIT, PAIR, OPEN and MUTUAL to PIN, PUK, its tap
-   record, keys, signatures and exported keys, its eight slots, its stored record, its refusals and templates. The life is played once for
-   each placing of memory (life_places.h), and what holds of every call is checked at every call (life_calls.h). Exit status 0: every answer
-   was the one that the rules give. Lengths are in bytes. */
+   record, keys, signatures and exported keys, its eight slots, its stored record, its refusals and templates, and the place of a fault in
+   LOAD's data (life_faults.h). The life is played once for each placing of memory (life_places.h), and what holds of every call is checked at
+   every call (life_calls.h). The client hashes for itself (life_hash.h). Exit status 0: every answer was the one that the rules give. Lengths
+   are in bytes. */
 #include "life_calls.h"
+#include "life_faults.h"
+#include "life_hash.h"
 #include "life_places.h"
 
 #include <stdio.h>
@@ -30,6 +33,8 @@ static const uint8_t FACTORY[] = {0x00, 0x03, 0xD0, 0x00, 0x00};
 /* The card, and the terminal's end of its channel. */
 static tw_card *card;
 static tw_session *terminal;
+/* What the client knows of the pairing secret: a key of this byte. */
+static uint8_t secret_byte;
 
 static text key(uint8_t value)
 {
@@ -39,6 +44,12 @@ static text key(uint8_t value)
 static text point(void)
 {
     return filled(0x04, TW_PUBLIC_KEY_BYTES);
+}
+
+/* What the client makes of the pairing secret and these 32 bytes after it. */
+static text paired(text after)
+{
+    return hashed_with(key(secret_byte), after);
 }
 
 static text path(void)
@@ -191,7 +202,8 @@ static text init_data(void)
     tw_session sealing;
     text command;
     memset(&sealing, 0x81, sizeof sealing);
-    const text content = joined(joined(words(PIN), words(PUK)), key(0x51));
+    secret_byte = 0x51;
+    const text content = joined(joined(words(PIN), words(PUK)), key(secret_byte));
     expect(call_seal(&sealing, TW_INS_INIT, 0, 0, content, TW_SEAL_ROOM_BYTES, &command) == TW_DONE, "SEAL is refused");
     const text ciphertext = text_of(command.bytes + TW_HEADER_BYTES + LC_BYTES + TW_MAC_BYTES, 64);
     return joined(joined(byte(TW_PUBLIC_KEY_BYTES), point()), joined(filled(0x81, TW_IV_BYTES), ciphertext));
@@ -215,7 +227,7 @@ static void init_card(void)
     plain("INIT", init, TW_SUPPLY_INIT, data, right, status(TW_SW_SUCCESS));
     expect(card->initialised == 1 && card->pin_tries == TW_PIN_TRIES && card->puk_tries == TW_PUK_TRIES, "tries");
     expect(memcmp(card->pin, PIN, TW_PIN_BYTES) == 0 && memcmp(card->puk, PUK, TW_PUK_BYTES) == 0, "PIN and PUK");
-    expect(same(text_of(card->secret, TW_KEY_BYTES), key(0x51)), "pairing secret");
+    expect(same(text_of(card->secret, TW_KEY_BYTES), key(secret_byte)), "pairing secret");
     plain_status("INIT again", init, TW_SW_UNKNOWN_INSTRUCTION);
     plain_status("GET STATUS without a channel", plain_command(TW_CLASS_CARD, TW_INS_GET_STATUS, 0, none()), TW_SW_CONDITIONS_NOT_MET);
     plain_status("OPEN of a free slot", plain_command(TW_CLASS_CARD, TW_INS_OPEN, 0, point()), TW_SW_WRONG_PARAMETERS);
@@ -226,30 +238,35 @@ static text pair_first(void)
     return plain_command(TW_CLASS_CARD, TW_INS_PAIR, TW_P1_PAIR_FIRST, key(0x0F));
 }
 
+/* The supply is the card's challenge alone; the card answers its cryptogram, which the client compares with its own hash. */
 static void pair_step_one(const char *step)
 {
-    const text supply = joined(joined(key(0x91), key(0x93)), key(0x53));
-    const text challenge = joined(joined(key(0x91), key(0x93)), status(TW_SW_SUCCESS));
-    plain(step, pair_first(), TW_SUPPLY_PAIR_FIRST, key(0x0F), supply, challenge);
+    const text challenge = key(0x93);
+    plain(step, pair_first(), TW_SUPPLY_PAIR_FIRST, key(0x0F), challenge,
+          joined(joined(paired(key(0x0F)), challenge), status(TW_SW_SUCCESS)));
     expect(card->pending == 1, "pending");
+    expect(same(text_of(card->expected, TW_KEY_BYTES), paired(challenge)), "the client's cryptogram is expected");
 }
 
-/* The slot with this index is filled with a key of these bytes, and the one after it, if there is one, is free. */
-static void pair_step_two(const char *step, unsigned index, uint8_t value)
+/* The supply is a salt of this byte alone: the slot with this index is filled with the key of secret and salt, and the one after it, if there
+   is one, is free. */
+static void pair_step_two(const char *step, unsigned index, uint8_t salt)
 {
-    const text right = plain_command(TW_CLASS_CARD, TW_INS_PAIR, TW_P1_PAIR_FINAL, key(0x53));
-    plain(step, right, TW_SUPPLY_PAIR_FINAL, key(0x53), joined(key(0x92), key(value)),
-          joined(joined(byte(index), key(0x92)), status(TW_SW_SUCCESS)));
+    const text right = plain_command(TW_CLASS_CARD, TW_INS_PAIR, TW_P1_PAIR_FINAL, paired(key(0x93)));
+    plain(step, right, TW_SUPPLY_PAIR_FINAL, paired(key(0x93)), key(salt), joined(joined(byte(index), key(salt)), status(TW_SW_SUCCESS)));
     expect(card->pending == 0, "no more pending");
-    expect(card->slots[index].filled == 1 && card->slots[index].key[31] == value, "the slot");
+    expect(card->slots[index].filled == 1 && same(text_of(card->slots[index].key, TW_KEY_BYTES), paired(key(salt))), "the slot");
     expect(index + 1 == TW_SLOTS || card->slots[index + 1].filled == 0, "the next slot");
 }
 
 /* PAIR: a wrong cryptogram ends the pairing, the right one fills slot 0. */
 static void pair(void)
 {
-    const text right = plain_command(TW_CLASS_CARD, TW_INS_PAIR, TW_P1_PAIR_FINAL, key(0x53));
-    const text wrong = plain_command(TW_CLASS_CARD, TW_INS_PAIR, TW_P1_PAIR_FINAL, key(0x54));
+    const text right = plain_command(TW_CLASS_CARD, TW_INS_PAIR, TW_P1_PAIR_FINAL, paired(key(0x93)));
+    const text wrong = plain_command(TW_CLASS_CARD, TW_INS_PAIR, TW_P1_PAIR_FINAL, paired(key(0x0F))); /* the card's own */
+    text wrote;
+    about("PAIR first with the supply of version 0.6.0");
+    expect(call_answer(card, pair_first(), filled(0x91, 96), TW_ANSWER_ROOM_BYTES, &wrote) == TW_BAD_SUPPLY, "96 bytes are taken");
     pair_step_one("PAIR first");
     plain_status("PAIR final, wrong", wrong, TW_SW_SECURITY_NOT_MET);
     expect(card->pending == 0, "no more pending");
@@ -305,7 +322,8 @@ static void pin_and_puk(void)
     sealed_status("CHANGE PIN", TW_INS_CHANGE, TW_P1_CHANGE_PIN, words(PIN), TW_SW_SUCCESS);
     sealed_status("VERIFY, the new PIN", TW_INS_VERIFY, 0, words(PIN), TW_SW_SUCCESS);
     sealed_status("CHANGE PUK", TW_INS_CHANGE, TW_P1_CHANGE_PUK, words("123456789012"), TW_SW_SUCCESS);
-    sealed_status("CHANGE the pairing secret", TW_INS_CHANGE, TW_P1_CHANGE_SECRET, key(0x55), TW_SW_SUCCESS);
+    secret_byte = 0x55;
+    sealed_status("CHANGE the pairing secret", TW_INS_CHANGE, TW_P1_CHANGE_SECRET, key(secret_byte), TW_SW_SUCCESS);
     tries("GET STATUS when verified", 3, 5, 0x00);
 }
 
@@ -398,13 +416,15 @@ static void exports(void)
 static void keys(void)
 {
     const text sign_supply = joined(joined(point(), joined(filled(0, 31), byte(128))), joined(filled(0, 31), byte(1)));
-    const text key_uid = joined(key(0x71), status(TW_SW_SUCCESS));
+    const text public_key = filled(0x71, TW_PUBLIC_KEY_BYTES), key_uid = joined(hashed(public_key), status(TW_SW_SUCCESS));
     sealed_status("SIGN without a key", TW_INS_SIGN, 0, filled(0x5F, HASH_BYTES), TW_SW_CONDITIONS_NOT_MET);
-    sealed("LOAD with flag 00", TW_INS_LOAD, TW_P1_LOAD_SEED, filled(0x5E, SEED_BYTES), TW_SUPPLY_LOAD, filled(0, 33),
-           status(TW_SW_WRONG_DATA));
+    sealed("LOAD with flag 00", TW_INS_LOAD, TW_P1_LOAD_SEED, filled(0x5E, SEED_BYTES), TW_SUPPLY_LOAD,
+           filled(0, TW_SUPPLY_LOAD_BYTES), status(TW_SW_WRONG_DATA));
+    load_faults(card, terminal);
     sealed_status("LOAD of half a seed", TW_INS_LOAD, TW_P1_LOAD_SEED, key(0x5E), TW_SW_WRONG_DATA);
-    sealed("LOAD", TW_INS_LOAD, TW_P1_LOAD_EXTENDED, extended_key(), TW_SUPPLY_LOAD, joined(byte(1), key(0x71)), key_uid);
+    sealed("LOAD", TW_INS_LOAD, TW_P1_LOAD_EXTENDED, extended_key(), TW_SUPPLY_LOAD, joined(byte(1), public_key), key_uid);
     expect(card->key_kind == TW_KEY_EXTENDED, "an extended key");
+    expect(same(text_of(card->key_uid, TW_KEY_BYTES), hashed(public_key)), "its UID is the hash of the supplied key");
     tries("GET STATUS with a key", 3, 5, 0xFF);
     sealed("DERIVE with flag 00", TW_INS_DERIVE, 0, path(), TW_SUPPLY_DERIVE, byte(0), status(TW_SW_REFERENCE_INVALID));
     sealed_status("DERIVE of 3 bytes", TW_INS_DERIVE, 0, filled(0, 3), TW_SW_WRONG_DATA);
@@ -420,6 +440,8 @@ static void keys(void)
     stored("the record with a key and two paths", TW_RECORD_MIN_BYTES + TW_KEY_BYTES + 2 * sizeof TWO_COMPONENTS + sizeof TAP);
     sealed_status("SET NDEF without a PIN", TW_INS_SET_NDEF, 0, filled(0, 2), TW_SW_CONDITIONS_NOT_MET);
     sealed_status("REMOVE without a PIN", TW_INS_REMOVE, 0, none(), TW_SW_CONDITIONS_NOT_MET);
+    sealed_status("LOAD at fault without a PIN", TW_INS_LOAD, TW_P1_LOAD_PLAIN, byte(0x81), TW_SW_CONDITIONS_NOT_MET);
+    sealed_status("LOAD at fault with P1 00", TW_INS_LOAD, 0, byte(0x81), TW_SW_WRONG_PARAMETERS);
     sealed_status("VERIFY, right", TW_INS_VERIFY, 0, words(PIN), TW_SW_SUCCESS);
     sealed_status("REMOVE", TW_INS_REMOVE, 0, none(), TW_SW_SUCCESS);
     expect(card->key_kind == TW_KEY_NONE && card->current.len == 0 && card->pinless.len == 0, "no key, no paths");
@@ -432,7 +454,7 @@ static void keys(void)
 static void messages(void)
 {
     about("messages");
-    text wrote, command, response, supply = joined(byte(1), key(0x71));
+    text wrote, command, response, supply = joined(byte(1), point());
     unsigned kind;
     const text most = filled(0x5E, TW_DATA_MAX_BYTES);
     expect(call_seal(terminal, TW_INS_LOAD, 3, 0, joined(most, byte(0)), TW_SEAL_ROOM_BYTES, &wrote) == TW_TOO_LONG, "SEAL of too much");
@@ -449,7 +471,7 @@ static void messages(void)
     }
     expect(call_unseal(terminal, none(), TW_UNSEAL_ROOM_BYTES, &wrote) == TW_NOT_GENUINE, "UNSEAL of nothing");
     expect(call_unseal(terminal, response, TW_UNSEAL_ROOM_BYTES, &wrote) == TW_DONE, "UNSEAL");
-    expect(same(wrote, joined(key(0x71), status(TW_SW_SUCCESS))), "the answer");
+    expect(same(wrote, joined(hashed(point()), status(TW_SW_SUCCESS))), "the answer");
     expect(call_seal(terminal, TW_INS_LOAD, 3, 0, most, TW_SEAL_ROOM_BYTES, &command) == TW_DONE && command.count == 245, "SEAL of the most");
     command.bytes[5] = (uint8_t)(command.bytes[5] ^ 1);
     plain_status("a forged command", command, TW_SW_SECURITY_NOT_MET);
@@ -564,6 +586,15 @@ static void older_records(void)
     }
 }
 
+/* FIPS 180-4's example: the client's own hash, before it vouches for the card's. */
+static void published_hash(void)
+{
+    about("SHA-256 of abc");
+    static const uint8_t of_abc[] = {0xBA, 0x78, 0x16, 0xBF, 0x8F, 0x01, 0xCF, 0xEA, 0x41, 0x41, 0x40, 0xDE, 0x5D, 0xAE, 0x22, 0x23,
+                                     0xB0, 0x03, 0x61, 0xA3, 0x96, 0x17, 0x7A, 0x9C, 0xB4, 0x10, 0xFF, 0x61, 0xF2, 0x00, 0x15, 0xAD};
+    expect(same(hashed(words("abc")), text_of(of_abc, sizeof of_abc)), "the client's hash");
+}
+
 /* SP 800-38A, F.2.5, CBC-AES256.Encrypt: its first block, as SEAL enciphers it. */
 static void published_vector(void)
 {
@@ -581,33 +612,6 @@ static void published_vector(void)
     text wrote;
     expect(call_seal(&session, 0, 0, 0, text_of(block, sizeof block), TW_SEAL_ROOM_BYTES, &wrote) == TW_DONE, "SEAL is refused");
     expect(memcmp(wrote.bytes + TW_HEADER_BYTES + LC_BYTES + TW_MAC_BYTES, enciphered, sizeof enciphered) == 0, "the block");
-}
-
-static void walked(const char *step, text input, unsigned refusal, size_t count)
-{
-    about(step);
-    size_t fields;
-    expect(call_walk(input, &fields) == refusal, "WALK's refusal");
-    expect(fields == count, "WALK's count of fields");
-}
-
-static void templates(void)
-{
-    text nested = text_of((const uint8_t[]){0x80, 0x00}, 2);
-    for (uint8_t depth = 1; depth <= TW_WALK_DEPTH_MAX; depth++) {
-        nested = joined(text_of((const uint8_t[]){0xA1, (uint8_t)nested.count}, 2), nested);
-    }
-    const text three = text_of((const uint8_t[]){0x80, 0x00, 0x81, 0x00, 0x82, 0x00}, 6);
-    walked("templates to depth 4", nested, TW_DONE, 1);
-    walked("three fields", three, TW_DONE, 3);
-    walked("both, joined", joined(nested, three), TW_DONE, 1 + 3);
-    walked("both, the other way", joined(three, nested), TW_DONE, 3 + 1);
-    walked("a template at depth 5", joined(text_of((const uint8_t[]){0xA1, 10}, 2), nested), TW_TOO_DEEP, 0);
-    walked("no bytes", none(), TW_DONE, 0);
-    walked("A1 00", text_of((const uint8_t[]){0xA1, 0x00}, 2), TW_DONE, 0);
-    walked("80 81 05", text_of((const uint8_t[]){0x80, 0x81, 0x05}, 3), TW_MALFORMED, 0);
-    walked("a tag alone", byte(0x80), TW_MALFORMED, 0);
-    walked("a length of 128", joined(text_of((const uint8_t[]){0x80, 0x81, 0x80}, 3), filled(0, 128)), TW_DONE, 1);
 }
 
 static void play(enum placing placing)
@@ -632,6 +636,7 @@ static void play(enum placing placing)
     about("the end of its life");
     expect(same(text_of(card->tap.bytes, card->tap.len), text_of(TAP, sizeof TAP)), "all else kept the tap record");
     published_vector();
+    published_hash();
     templates();
     places_release(0);
 }

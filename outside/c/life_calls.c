@@ -145,20 +145,31 @@ unsigned call_ask(const tw_card *card, text command, size_t room_bytes, unsigned
     return asked.refusal;
 }
 
-unsigned call_answer(tw_card *card, text command, text supply, size_t room_bytes, text *wrote)
+unsigned call_answer_placed(tw_card *card, text command, text supply, size_t room_bytes, text *wrote, size_t *fault_offset)
 {
     const size_t mark = places_mark();
     const tw_card before = *card;
     const uint8_t *cmd = placed_text(&command);
     const uint8_t *sup = placed_text(&supply);
     uint8_t *buf = place(room_bytes, FILL);
-    const tw_told told = tw_answer(card, cmd, command.count, sup, supply.count, buf, room_bytes);
-    wrote_checked(buf, room_bytes, told.refusal, told.count, wrote);
-    expect(told.refusal == TW_DONE || memcmp(card, &before, sizeof before) == 0, "a refusal changed the card");
-    expect(told.refusal != TW_DONE || tw_sound(card) == 1, "the next card is not sound");
+    const tw_answered answered = tw_answer(card, cmd, command.count, sup, supply.count, buf, room_bytes);
+    wrote_checked(buf, room_bytes, answered.refusal, answered.count, wrote);
+    expect(answered.refusal == TW_DONE || memcmp(card, &before, sizeof before) == 0, "a refusal changed the card");
+    expect(answered.refusal != TW_DONE || tw_sound(card) == 1, "the next card is not sound");
     expect(holds(cmd, &command) && holds(sup, &supply), "ANSWER changed the command or the supply");
+    expect(answered.refusal == TW_DONE || answered.fault_offset == TW_NO_FAULT, "a refusal with a fault offset");
+    expect(answered.fault_offset == TW_NO_FAULT || answered.fault_offset < TW_DATA_MAX_BYTES, "a fault beyond the data");
+    *fault_offset = answered.fault_offset;
     places_release(mark);
-    return told.refusal;
+    return answered.refusal;
+}
+
+unsigned call_answer(tw_card *card, text command, text supply, size_t room_bytes, text *wrote)
+{
+    size_t fault_offset;
+    const unsigned refusal = call_answer_placed(card, command, supply, room_bytes, wrote, &fault_offset);
+    expect(fault_offset == TW_NO_FAULT, "a fault offset where there is none");
+    return refusal;
 }
 
 unsigned call_seal(tw_session *session, unsigned ins, unsigned p1, unsigned p2, text data, size_t room_bytes, text *wrote)
@@ -194,16 +205,18 @@ unsigned call_unseal(tw_session *session, text response, size_t room_bytes, text
     return told.refusal;
 }
 
-unsigned call_walk(text input, size_t *fields)
+unsigned call_walk(text input, size_t *fields, size_t *fault_offset)
 {
     const size_t mark = places_mark();
     const uint8_t *bytes = placed_text(&input);
-    const tw_told told = tw_walk(bytes, input.count);
+    const tw_walked walked = tw_walk(bytes, input.count);
     expect(places_intact() && holds(bytes, &input), "WALK changed memory");
-    expect(told.refusal == TW_DONE || told.count == 0, "a refusal with a count");
-    *fields = told.count;
+    expect(walked.refusal == TW_DONE || walked.count == 0, "a refusal with a count");
+    expect(walked.refusal == TW_DONE ? walked.fault_offset == 0 : walked.fault_offset < input.count, "an offset beyond the input");
+    *fields = walked.count;
+    *fault_offset = walked.fault_offset;
     places_release(mark);
-    return told.refusal;
+    return walked.refusal;
 }
 
 unsigned call_write(const tw_card *card, size_t room_bytes, text *wrote)

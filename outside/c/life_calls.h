@@ -35,10 +35,12 @@ text plain_command(unsigned cla, unsigned ins, unsigned p1, text data);
 /* The calls: each gives the refusal; what was written goes to *wrote. The buffer has room_bytes. */
 unsigned call_reset(tw_card *card);
 unsigned call_ask(const tw_card *card, text command, size_t room_bytes, unsigned *kind, text *wrote);
+/* ANSWER, which must tell no fault offset here; and one that tells it. */
 unsigned call_answer(tw_card *card, text command, text supply, size_t room_bytes, text *wrote);
+unsigned call_answer_placed(tw_card *card, text command, text supply, size_t room_bytes, text *wrote, size_t *fault_offset);
 unsigned call_seal(tw_session *session, unsigned ins, unsigned p1, unsigned p2, text data, size_t room_bytes, text *wrote);
 unsigned call_unseal(tw_session *session, text response, size_t room_bytes, text *wrote);
-unsigned call_walk(text input, size_t *fields);
+unsigned call_walk(text input, size_t *fields, size_t *fault_offset);
 unsigned call_write(const tw_card *card, size_t room_bytes, text *wrote);
 unsigned call_read(tw_card *card, text record);
 /* The tap read's refusal; where its part lies, and the part itself, go to *source and *part. */

@@ -5,6 +5,7 @@
    It is built without sanitizers: they keep locals in memory of their own and put marks beside them, so the stack would not be that of a
    program in use. */
 #include "life_calls.h"
+#include "life_hash.h"
 #include "secrets_stack.h"
 
 #include <stdio.h>
@@ -67,9 +68,9 @@ static void do_ask(void)
 
 static void do_answer(void)
 {
-    const tw_told told = tw_answer(&card, command.bytes, command.count, supply.bytes, supply.count, buffer, sizeof buffer);
-    refusal = told.refusal;
-    count = told.count;
+    const tw_answered answered = tw_answer(&card, command.bytes, command.count, supply.bytes, supply.count, buffer, sizeof buffer);
+    refusal = answered.refusal;
+    count = answered.count;
 }
 
 static void do_seal(void)
@@ -88,8 +89,8 @@ static void do_unseal(void)
 
 static void do_walk(void)
 {
-    const tw_told told = tw_walk(data.bytes, data.count);
-    refusal = told.refusal;
+    const tw_walked walked = tw_walk(data.bytes, data.count);
+    refusal = walked.refusal;
     count = 0;
 }
 
@@ -224,6 +225,16 @@ static text key(const char *name, unsigned seed)
     return watched(name, secret_bytes(seed, TW_KEY_BYTES));
 }
 
+/* A key as SHA-256 reads it: words of 4 bytes, which have their low byte first in memory. */
+static text in_words(text secret)
+{
+    text swapped = secret;
+    for (size_t at = 0; at < secret.count; at++) {
+        swapped.bytes[at] = secret.bytes[at / 4 * 4 + 3 - at % 4];
+    }
+    return swapped;
+}
+
 static text point(void)
 {
     return filled(0x04, TW_PUBLIC_KEY_BYTES);
@@ -276,18 +287,22 @@ static text init_data(text init_key, text content)
 /* INIT, PAIR and OPEN, which are not sealed. */
 static void plain_commands(text pin, text puk)
 {
-    const text init_key = key("INIT key", 1), pairing_secret = key("pairing secret", 2), cryptogram = key("cryptogram", 3);
-    const text content = joined(joined(pin, puk), pairing_secret), iv = filled(0x63, TW_IV_BYTES);
+    const text init_key = key("INIT key", 1), pairing_secret = key("pairing secret", 2);
+    const text challenge = filled(0x93, TW_KEY_BYTES), salt = filled(0x92, TW_KEY_BYTES), iv = filled(0x63, TW_IV_BYTES);
+    const text cryptogram = watched("expected cryptogram", hashed_with(pairing_secret, challenge));
+    const text content = joined(joined(pin, puk), pairing_secret);
+    watched("pairing key", hashed_with(pairing_secret, salt));
+    watched("pairing secret, in words", in_words(pairing_secret));
     supply = filled(0x11, TW_UID_BYTES);
     data = point();
     look("FRESH", do_fresh);
     command = plain_command(TW_CLASS_CARD, TW_INS_INIT, 0, init_data(init_key, content));
     asked_and_answered("ASK of INIT", "ANSWER to INIT", joined(byte(1), init_key), TW_SW_SUCCESS);
     command = plain_command(TW_CLASS_CARD, TW_INS_PAIR, TW_P1_PAIR_FIRST, filled(0x0F, TW_KEY_BYTES));
-    const text first = joined(joined(filled(0x91, TW_KEY_BYTES), filled(0x93, TW_KEY_BYTES)), cryptogram);
-    asked_and_answered("ASK of PAIR first", "ANSWER to PAIR first", first, 0);
+    asked_and_answered("ASK of PAIR first", "ANSWER to PAIR first", challenge, 0);
     command = plain_command(TW_CLASS_CARD, TW_INS_PAIR, TW_P1_PAIR_FINAL, cryptogram);
-    asked_and_answered("ASK of PAIR final", "ANSWER to PAIR final", joined(filled(0x92, TW_KEY_BYTES), key("pairing key", 4)), 0);
+    asked_and_answered("ASK of PAIR final", "ANSWER to PAIR final", salt, 0);
+    expect(card.slots[0].filled == 1 && memcmp(card.slots[0].key, hashed_with(pairing_secret, salt).bytes, TW_KEY_BYTES) == 0, "paired");
     const text enc_key = key("encryption key", 5), mac_key = key("MAC key", 6);
     command = plain_command(TW_CLASS_CARD, TW_INS_OPEN, 0, point());
     const text keys = joined(joined(byte(1), enc_key), joined(mac_key, filled(0x94, TW_KEY_BYTES)));
@@ -325,7 +340,7 @@ static void sealed_commands(text pin, text puk)
     sealed(NAMES("CHANGE of the PUK"), TW_INS_CHANGE, TW_P1_CHANGE_PUK, new_puk, none());
     sealed(NAMES("CHANGE of the secret"), TW_INS_CHANGE, TW_P1_CHANGE_SECRET, key("new secret", 10), none());
     sealed(NAMES("LOAD"), TW_INS_LOAD, TW_P1_LOAD_EXTENDED, joined(joined(key_head, loaded_key), joined(chain_head, chain_code)),
-           joined(byte(1), filled(0x71, TW_KEY_BYTES)));
+           joined(byte(1), point()));
     look("WALK of LOAD's data", do_walk);
     sealed(NAMES("DERIVE"), TW_INS_DERIVE, 0, node, byte(1));
     sealed(NAMES("EXPORT"), TW_INS_EXPORT, TW_P1_EXPORT_CURRENT, none(), joined(joined(byte(1), point()), exported_key));

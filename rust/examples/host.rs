@@ -33,17 +33,18 @@ use std::{env, fs, io, process};
 
 use treadlewisp::*;
 
-use crypto::{random, sha256, Secret};
+use crypto::{random, sha256};
 use curve::Curve;
-use keeper::{key_file, Keeper, CARD_KEY_FILE, RECORD_FILE};
+use keeper::{stored_record, Keeper};
 use numbers::bytes;
 use terminal::{Outcome, Terminal, Wire};
-use wallet::Key;
 
 /// The card's end: a card in memory, and its host.
 struct Device {
     card: Card,
     host: Keeper,
+    /// The fault offset that was shown for the last command.
+    shown_fault: Option<usize>,
 }
 
 impl Device {
@@ -52,56 +53,39 @@ impl Device {
         let curve = Curve::new()?;
         let card_key = curve.new_key()?;
         let public_key = curve.public_key(&card_key).ok_or("no key")?;
-        let mut host = Keeper {
-            folder,
-            curve,
-            card_key,
-            wallet: Vec::new(),
-        };
+        let mut host = Keeper::new(folder, curve, card_key);
         let card = Card::fresh(&random()?, &public_key);
-        disk::write(&host.folder, CARD_KEY_FILE, &host.card_key.0)?;
         let mut record = [0; WRITE_ROOM_BYTES];
         let record_bytes = card.write(&mut record)?;
         host.store(&card, &record[..record_bytes])?;
-        Ok(Device { card, host })
+        let shown_fault = None;
+        Ok(Device { card, host, shown_fault })
     }
 
     /// READ: power-up, from what is on the disk.
     fn start(folder: PathBuf) -> Outcome<Device> {
-        let mut record = fs::read(folder.join(RECORD_FILE))?;
+        let (host, mut record) = Keeper::start(folder)?;
         let card = Card::read(&record);
         wipe(&mut record);
-        let card = card?;
-        let mut bytes = fs::read(folder.join(CARD_KEY_FILE))?;
-        let card_key = Secret(bytes[..].try_into()?);
-        wipe(&mut bytes);
-        let mut wallet = Vec::new();
-        if card.key_kind() != Some(KeyKind::None) {
-            let mut bytes = fs::read(folder.join(key_file(card.key_uid())))?;
-            let (private_key, chain_code) = bytes.split_first_chunk().ok_or("the key's file is too short")?;
-            let key = Key {
-                private_key: Secret(*private_key),
-                chain_code: chain_code.try_into().ok().map(Secret),
-            };
-            wipe(&mut bytes);
-            wallet.push((*card.key_uid(), key));
-        }
         Ok(Device {
-            card,
-            host: Keeper {
-                folder,
-                curve: Curve::new()?,
-                card_key,
-                wallet,
-            },
+            card: card?,
+            host,
+            shown_fault: None,
         })
     }
 }
 
-/// A command comes, and its answer goes out once the record is stored: `serve` sees to that.
+/// A command comes, and its answer goes out once the record is stored: `serve` sees to that. Where a LOAD's data are at fault, the host shows the
+/// place to whoever stands there. It shows the number alone: the byte there is a tag if all before it is right, and may be a byte of the
+/// key if not.
 impl Wire for Device {
     fn carry(&mut self, command: &[u8]) -> io::Result<Answer> {
-        self.card.serve(&mut self.host, command).map_err(io::Error::other)
+        let answer = self.card.serve(&mut self.host, command).map_err(io::Error::other)?;
+        self.shown_fault = answer.fault_offset();
+        if let Some(offset) = self.shown_fault {
+            println!("  host: LOAD's data are at fault: field at byte {offset}");
+        }
+        Ok(answer)
     }
 }
 
@@ -139,30 +123,41 @@ fn first_contact(device: &mut Device, terminal: &mut Terminal) -> Outcome<()> {
     Ok(())
 }
 
+/// A key whose length has one too many: 6A80 for the terminal, and the place for the host.
+fn load_at_fault(device: &mut Device, terminal: &mut Terminal) -> Outcome<()> {
+    let data = [&[0xA1, 34, 0x81, 33][..], &[0x11; KEY_BYTES]].concat();
+    let command = ChannelCommand::new(&[command::CLASS_CARD, command::LOAD, command::P1_LOAD_PLAIN, 0x00], &data)?;
+    let status = terminal.send(device, &command)?.status();
+    println!("LOAD    a key's length is 33, and it has 32 bytes: {status}");
+    check(
+        status == StatusWord::WRONG_DATA && device.shown_fault == Some(2),
+        "the fault has another place",
+    )
+}
+
 fn life(folder: &path::Path) -> Outcome<()> {
     println!(
         "NUMBERS {} numbers of docs/INTEGRATION.md, as they should be",
         numbers::compare(&Curve::new()?)?
     );
     let mut device = Device::make(folder.to_path_buf())?;
-    println!(
-        "FRESH   the record on the disk has {} bytes",
-        fs::read(folder.join(RECORD_FILE))?.len()
-    );
+    println!("FRESH   the record on the disk has {} bytes", stored_record(folder)?.len());
     let mut terminal = Terminal::new(b"024680", b"918273645546")?;
     first_contact(&mut device, &mut terminal)?;
 
     // A wrong PIN loses a try, on the disk too, before the terminal learns of it.
     let wrong = terminal.send(&mut device, &ChannelCommand::verify(b"024681"))?.status();
-    let stored_tries = Card::read(&fs::read(folder.join(RECORD_FILE))?)?.pin_tries();
+    let stored_tries = Card::read(&stored_record(folder)?)?.pin_tries();
     println!("VERIFY  a wrong PIN: {wrong}; on the disk: {stored_tries} tries");
     check(wrong == StatusWord::TRIES_LEFT_2 && stored_tries == 2, "the try was not lost")?;
     terminal.verify(&mut device)?;
     println!("VERIFY  the right PIN");
 
-    let seed = LoadedKey::Seed(&bytes(SEED)?);
-    terminal.succeed(&mut device, &ChannelCommand::load(&seed))?;
-    println!("LOAD    the master key of a seed of {SEED_BYTES} bytes");
+    load_at_fault(&mut device, &mut terminal)?;
+    let key_uid = terminal.load(&mut device, &LoadedKey::Seed(&bytes(SEED)?))?;
+    let master = terminal.export_public_at(&mut device, &Path::new(&[]).ok_or("no path")?)?;
+    check(key_uid == keycard::key_uid(&master), "LOAD answers another key UID")?;
+    println!("LOAD    the master key of a seed of {SEED_BYTES} bytes; its UID is right");
     let path = Path::new(&[44 + HARDENED, 60 + HARDENED, HARDENED, 0, 0]).ok_or("too many components")?;
     terminal.succeed(&mut device, &ChannelCommand::derive(&path))?;
     println!("DERIVE  m/44'/60'/0'/0/0");

@@ -119,6 +119,18 @@ pub struct Asked {
     pub count: usize,
 }
 
+/// What ANSWER reports.
+#[derive(Clone, Copy, PartialEq, Eq, Debug)]
+#[non_exhaustive]
+pub struct Answered {
+    /// How many bytes of response data and status word were written from the buffer's start.
+    pub count: usize,
+    /// The fault offset, where LOAD of a plain or an extended key gives 6A80 because [`walk`](crate::walk) refuses its data: how many bytes of the
+    /// opened data are before the tag of the faulty field, 0 to 222. None everywhere else: with success, for a LOAD whose fields are whole but are
+    /// not those of a key, for a seed, and for every other command.
+    pub fault_offset: Option<usize>,
+}
+
 /// The operations.
 impl Card {
     /// FRESH: the card of a new device, before INIT.
@@ -167,6 +179,9 @@ impl Card {
     /// ANSWER: response data and status word from the buffer's start, and their count in bytes; the card becomes the next card. A sealed
     /// response is MAC, ciphertext and 9000; Lr, in its MAC, counts MAC and ciphertext, in bytes.
     ///
+    /// Where LOAD's data are no sequence of fields, [`Answered`] also tells the place of the fault, for whoever mends them; the response
+    /// is the same 6A80, and the terminal learns nothing of the place.
+    ///
     /// The supply is read only where [`ask`](Card::ask) names a kind; else it may be empty. Bytes past the count are never touched.
     /// [`serve`](Card::serve) does ASK, ANSWER and WRITE in their order.
     ///
@@ -181,11 +196,12 @@ impl Card {
     /// let mut buffer = [0xA5; ANSWER_ROOM_BYTES];
     /// let too_short = &mut buffer[1..];
     /// assert_eq!(card.answer(&[0x90, 0, 0, 0], &[], too_short), Err(Refusal::Room));
-    /// let count = card.answer(&[0x90, 0, 0, 0], &[], &mut buffer)?;
-    /// assert_eq!(StatusWord::of(&buffer[..count]), Some(StatusWord::UNKNOWN_CLASS));
+    /// let answered = card.answer(&[0x90, 0, 0, 0], &[], &mut buffer)?;
+    /// assert_eq!(StatusWord::of(&buffer[..answered.count]), Some(StatusWord::UNKNOWN_CLASS));
+    /// assert_eq!(answered.fault_offset, None);
     /// # Ok::<(), Refusal>(())
     /// ```
-    pub fn answer(&mut self, command: &[u8], supply: &[u8], buffer: &mut [u8]) -> Result<usize, Refusal> {
+    pub fn answer(&mut self, command: &[u8], supply: &[u8], buffer: &mut [u8]) -> Result<Answered, Refusal> {
         wiped(|| ffi::answer(self, command, supply, buffer))
     }
 
@@ -294,7 +310,7 @@ impl Card {
         self.verified == 1
     }
 
-    /// The pairing secret, which the host needs for PAIR's cryptograms.
+    /// The pairing secret. The card works out PAIR's cryptograms and pairing keys from it; no supply needs it.
     #[must_use]
     pub fn pairing_secret(&self) -> &[u8; KEY_BYTES] {
         &self.secret
@@ -318,7 +334,7 @@ impl Card {
         KeyKind::from_number(self.key_kind)
     }
 
-    /// The key's UID, zero without a key.
+    /// The key's UID, which is SHA-256 of the public key in LOAD's supply; zero without a key.
     #[must_use]
     pub fn key_uid(&self) -> &[u8; KEY_BYTES] {
         &self.key_uid

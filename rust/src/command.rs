@@ -79,7 +79,7 @@ pub const SIGN: u8 = 0xC0;
 ///     let mut sealed = [0; SEAL_ROOM_BYTES];
 ///     let sealed_bytes = terminal.seal(&[command::CLASS_CARD, ins, p1, p2], data, &mut sealed)?;
 ///     let mut response = [0; ANSWER_ROOM_BYTES];
-///     let response_bytes = card.answer(&sealed[..sealed_bytes], supply, &mut response)?;
+///     let response_bytes = card.answer(&sealed[..sealed_bytes], supply, &mut response)?.count;
 ///     let mut opened = [0; UNSEAL_ROOM_BYTES];
 ///     let opened_bytes = terminal.unseal(&response[..response_bytes], &mut opened)?;
 ///     Ok(opened[..opened_bytes].to_vec())
@@ -145,7 +145,7 @@ pub const EXPORT: u8 = 0xC2;
 ///     let mut sealed = [0; SEAL_ROOM_BYTES];
 ///     let sealed_bytes = terminal.seal(&[command::CLASS_CARD, ins, 0x00, 0x00], data, &mut sealed)?;
 ///     let mut response = [0; ANSWER_ROOM_BYTES];
-///     let response_bytes = card.answer(&sealed[..sealed_bytes], supply, &mut response)?;
+///     let response_bytes = card.answer(&sealed[..sealed_bytes], supply, &mut response)?.count;
 ///     let mut opened = [0; UNSEAL_ROOM_BYTES];
 ///     let opened_bytes = terminal.unseal(&response[..response_bytes], &mut opened)?;
 ///     Ok(opened[..opened_bytes].to_vec())

@@ -85,7 +85,9 @@ impl Session {
                 return Err(ExchangeError::Plain(answer.status()));
             }
             let opened = Buffer::written(|room| self.unseal(answer.bytes(), room));
-            opened.map(Answer::of).map_err(|_| ExchangeError::NotGenuine)
+            opened
+                .map(|opened| Answer::of(opened, answer.fault_offset()))
+                .map_err(|_| ExchangeError::NotGenuine)
         })
     }
 }

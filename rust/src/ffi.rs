@@ -9,13 +9,14 @@
 
 use core::mem::{offset_of, size_of};
 
-use crate::card::{Asked, Card};
+use crate::card::{Answered, Asked, Card};
 use crate::lengths::*;
 use crate::refusal::Refusal;
 use crate::session::Session;
 #[cfg(feature = "sha256")]
 use crate::sha256::DIGEST_BYTES;
 use crate::supply::SupplyKind;
+use crate::walk::WalkFault;
 
 /// `tw_asked`.
 #[repr(C)]
@@ -23,6 +24,22 @@ struct ReportAsked {
     refusal: u8,
     kind: u8,
     count: usize,
+}
+
+/// `tw_answered`.
+#[repr(C)]
+struct ReportAnswered {
+    refusal: u8,
+    count: usize,
+    fault_offset: usize,
+}
+
+/// `tw_walked`.
+#[repr(C)]
+struct ReportWalked {
+    refusal: u8,
+    count: usize,
+    fault_offset: usize,
 }
 
 /// `tw_told`.
@@ -41,6 +58,10 @@ struct ReportTapped {
     length: usize,
 }
 
+/// `TW_NO_FAULT`: no offset of opened data is as great.
+const NO_FAULT: usize = 255;
+const _: () = assert!(NO_FAULT >= DATA_MAX_BYTES);
+
 /// `TW_TAP_RECORD` and `TW_TAP_FACTORY`.
 const TAP_RECORD: u8 = 1;
 const TAP_FACTORY: u8 = 2;
@@ -48,6 +69,10 @@ const TAP_FACTORY: u8 = 2;
 const _: () = assert!(size_of::<ReportTapped>() == 24 && offset_of!(ReportTapped, source) == 1);
 const _: () = assert!(offset_of!(ReportTapped, offset) == 8 && offset_of!(ReportTapped, length) == 16);
 const _: () = assert!(size_of::<ReportAsked>() == 16 && offset_of!(ReportAsked, kind) == 1 && offset_of!(ReportAsked, count) == 8);
+const _: () = assert!(size_of::<ReportAnswered>() == 24 && offset_of!(ReportAnswered, refusal) == 0);
+const _: () = assert!(offset_of!(ReportAnswered, count) == 8 && offset_of!(ReportAnswered, fault_offset) == 16);
+const _: () = assert!(size_of::<ReportWalked>() == 24 && offset_of!(ReportWalked, refusal) == 0);
+const _: () = assert!(offset_of!(ReportWalked, count) == 8 && offset_of!(ReportWalked, fault_offset) == 16);
 const _: () = assert!(size_of::<Report>() == 16 && offset_of!(Report, count) == 8);
 
 extern "C" {
@@ -63,10 +88,10 @@ extern "C" {
         supply_bytes: usize,
         buf: *mut u8,
         buf_bytes: usize,
-    ) -> Report;
+    ) -> ReportAnswered;
     fn tw_seal(session: *mut Session, header: *const u8, data: *const u8, data_bytes: usize, buf: *mut u8, buf_bytes: usize) -> Report;
     fn tw_unseal(session: *mut Session, response: *const u8, response_bytes: usize, buf: *mut u8, buf_bytes: usize) -> Report;
-    fn tw_walk(input: *const u8, input_bytes: usize) -> Report;
+    fn tw_walk(input: *const u8, input_bytes: usize) -> ReportWalked;
     fn tw_write(card: *const Card, buf: *mut u8, buf_bytes: usize) -> Report;
     fn tw_read(card: *mut Card, record: *const u8, record_bytes: usize) -> u8;
     fn tw_tap(record: *const u8, record_bytes: usize, factory: *const u8, factory_bytes: usize) -> ReportTapped;
@@ -117,7 +142,7 @@ pub(crate) fn ask(card: &Card, command: &[u8], buffer: &mut [u8]) -> Result<Aske
     })
 }
 
-pub(crate) fn answer(card: &mut Card, command: &[u8], supply: &[u8], buffer: &mut [u8]) -> Result<usize, Refusal> {
+pub(crate) fn answer(card: &mut Card, command: &[u8], supply: &[u8], buffer: &mut [u8]) -> Result<Answered, Refusal> {
     // SAFETY: the card is its whole record to read and write; command, supply and buffer are given with their lengths; card and buffer are each
     // borrowed alone.
     let report = unsafe {
@@ -131,7 +156,11 @@ pub(crate) fn answer(card: &mut Card, command: &[u8], supply: &[u8], buffer: &mu
             buffer.len(),
         )
     };
-    report.count()
+    done(report.refusal)?;
+    Ok(Answered {
+        count: report.count,
+        fault_offset: (report.fault_offset != NO_FAULT).then_some(report.fault_offset),
+    })
 }
 
 pub(crate) fn seal(session: &mut Session, header: &[u8; HEADER_BYTES], data: &[u8], buffer: &mut [u8]) -> Result<usize, Refusal> {
@@ -157,10 +186,14 @@ pub(crate) fn unseal(session: &mut Session, response: &[u8], buffer: &mut [u8]) 
     report.count()
 }
 
-pub(crate) fn walk(input: &[u8]) -> Result<usize, Refusal> {
+pub(crate) fn walk(input: &[u8]) -> Result<usize, WalkFault> {
     // SAFETY: the input is given with its length, to read.
     let report = unsafe { tw_walk(input.as_ptr(), input.len()) };
-    report.count()
+    let fault = |refusal| WalkFault {
+        refusal,
+        offset: report.fault_offset,
+    };
+    done(report.refusal).map(|()| report.count).map_err(fault)
 }
 
 pub(crate) fn write(card: &Card, buffer: &mut [u8]) -> Result<usize, Refusal> {

@@ -19,8 +19,9 @@ use crate::supply::SupplyKind;
 /// What a host does for its card: it makes the supply that a command needs, and stores the card's record. [`Card::serve`] calls it.
 ///
 /// Each method is called for one kind of supply, after the engine has looked at the command: a point has 65 bytes and begins with 04, a
-/// path has at most 10 components, the PIN is verified where it has to be. What is left is curve arithmetic, hashes, random numbers and the
-/// keeping of keys; `docs/INTEGRATION.md` of the repository has the rules, in section 5.1. `card` is the card as the command finds it.
+/// path has at most 10 components, the PIN is verified where it has to be. What is left is curve arithmetic, the channel's keys, random numbers
+/// and the keeping of keys; `docs/INTEGRATION.md` of the repository has the rules, in section 5.1. PAIR's cryptograms, its pairing key and LOAD's
+/// key UID the card works out itself. `card` is the card as the command finds it.
 ///
 /// Where the answer is no (the point is not on the curve, the path leads to no key), the supply is one of `Supply::no_..`, and the card
 /// answers with a status word. An `Err` means that the host cannot do its work: no answer is made, as if the power had failed.
@@ -48,14 +49,13 @@ use crate::supply::SupplyKind;
 ///         Ok(Supply::mutual(&[0x92; 32]))
 ///     }
 ///     fn pair_first(&mut self, _: &Card, _challenge: &[u8; 32]) -> Result<Supply, Self::Error> {
-///         let parts = PairFirstParts { card_cryptogram: &[1; 32], card_challenge: &[2; 32], client_cryptogram: &[3; 32] };
-///         Ok(Supply::pair_first(&parts))
+///         Ok(Supply::pair_first(&[0x93; 32])) // a random challenge
 ///     }
 ///     fn pair_final(&mut self, _: &Card, _cryptogram: &[u8; 32]) -> Result<Supply, Self::Error> {
-///         Ok(Supply::pair_final(&PairFinalParts { salt: &[4; 32], pairing_key: &[5; 32] }))
+///         Ok(Supply::pair_final(&[0x91; 32])) // a random salt
 ///     }
 ///     fn load(&mut self, _: &Card, _key: LoadedKey) -> Result<Supply, Self::Error> {
-///         Ok(Supply::no_load())
+///         Ok(Supply::load(&[0x04; 65])) // the public key of the loaded key
 ///     }
 ///     fn derive(&mut self, _: &Card, _path: &Path) -> Result<Supply, Self::Error> {
 ///         Ok(Supply::no_derive())
@@ -117,24 +117,27 @@ pub trait Host {
     /// As for [`init`](Host::init).
     fn mutual(&mut self, card: &Card, terminal_random: &[u8; KEY_BYTES]) -> Result<Supply, Self::Error>;
 
-    /// PAIR's first step: a challenge and both cryptograms, from the card's pairing secret and the client's challenge, 32 bytes;
-    /// [`Supply::pair_first`].
+    /// PAIR's first step: the card's challenge, 32 random bytes, new each time; [`Supply::pair_first`]. The client's challenge, 32 bytes, is not
+    /// needed for it: the card works out both cryptograms.
     ///
     /// # Errors
     ///
     /// As for [`init`](Host::init).
     fn pair_first(&mut self, card: &Card, client_challenge: &[u8; KEY_BYTES]) -> Result<Supply, Self::Error>;
 
-    /// PAIR's final step: a salt and the pairing key, from the card's pairing secret; [`Supply::pair_final`]. The client's cryptogram, 32
-    /// bytes, was right.
+    /// PAIR's final step: a salt, 32 random bytes, new each time; [`Supply::pair_final`]. The client's cryptogram, 32 bytes, was right, and is not
+    /// needed for it: the card works out the pairing key.
     ///
     /// # Errors
     ///
     /// As for [`init`](Host::init).
     fn pair_final(&mut self, card: &Card, client_cryptogram: &[u8; KEY_BYTES]) -> Result<Supply, Self::Error>;
 
-    /// LOAD: the key's UID; [`Supply::load`] or [`Supply::no_load`]. The host stores the new key here, **beside** the one that the card has:
-    /// [`store`](Host::store) comes after it, and deletes the old one.
+    /// LOAD: the public key of the loaded key, 65 bytes; [`Supply::load`] or [`Supply::no_load`]. Where one was sent with the key, a careful host
+    /// compares it with its own. The card works out the key UID.
+    ///
+    /// The host keeps the new key **beside** the one that the card has: [`store`](Host::store) comes after it, and the old one goes only
+    /// then. A host that has keys and record in one file keeps it in memory here, and stores both at once there.
     ///
     /// # Errors
     ///
@@ -168,7 +171,7 @@ pub trait Host {
     /// the record has not changed, and before the answer is given out. The record holds PIN, PUK and keys in the clear, and is wiped afterwards.
     ///
     /// `card` is the card of the record. Once it is stored, wallet keys other than that of [`card.key_uid()`](Card::key_uid) are to be deleted:
-    /// LOAD has brought another, or REMOVE has removed it.
+    /// LOAD has brought another, or REMOVE has removed it. The key UID is SHA-256 of the public key that [`load`](Host::load) gave.
     ///
     /// # Errors
     ///
@@ -228,10 +231,15 @@ impl Card {
     pub fn serve<H: Host + ?Sized>(&mut self, host: &mut H, command: &[u8]) -> Result<Answer, ServeError<H::Error>> {
         wiped(|| {
             let supply = supply(self, host, command)?;
-            let answer = Buffer::written(|room| self.answer(command, supply.bytes(), room))?;
+            let mut fault_offset = None;
+            let answer = Buffer::written(|room| {
+                let answered = self.answer(command, supply.bytes(), room)?;
+                fault_offset = answered.fault_offset;
+                Ok::<usize, Refusal>(answered.count)
+            })?;
             let record: Buffer<WRITE_ROOM_BYTES> = Buffer::written(|room| self.write(room))?;
             match host.store(self, record.bytes()) {
-                Ok(()) => Ok(Answer::of(answer)),
+                Ok(()) => Ok(Answer::of(answer, fault_offset)),
                 Err(why) => {
                     self.end();
                     Err(ServeError::NotStored(why))

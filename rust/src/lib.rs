@@ -2,7 +2,8 @@
 //!
 //! A [`Card`] is a card's whole state. It takes a command and gives a response and the next state; a [`Session`] is the terminal's end of
 //! the encrypted channel. The engine does no curve arithmetic and makes no random numbers: [`Card::ask`] says which results a command needs
-//! (its *supply*, see [`SupplyKind`]), the host works them out, and [`Card::answer`] takes them.
+//! (its *supply*, see [`SupplyKind`]), the host works them out, and [`Card::answer`] takes them. SHA-256 it does itself: PAIR's cryptograms and
+//! pairing key and LOAD's key UID are in no supply.
 //!
 //! | Operation | Here | What it does |
 //! |---|---|---|
@@ -10,10 +11,10 @@
 //! | | [`Card::is_sound`] | whether a card's bytes are those of a sound one |
 //! | RESET | [`Card::reset`] | power-up |
 //! | ASK | [`Card::ask`] | which supply a command needs, and its opened data |
-//! | ANSWER | [`Card::answer`] | the response, and the next card |
+//! | ANSWER | [`Card::answer`] | the response, the next card, and where LOAD's data are at fault |
 //! | SEAL | [`Session::seal`] | a sealed command |
 //! | UNSEAL | [`Session::unseal`] | what a sealed response holds |
-//! | WALK | [`walk`] | how many fields templates hold |
+//! | WALK | [`walk`] | how many fields templates hold, or where the first fault is |
 //! | WRITE | [`Card::write`] | the card's stored record |
 //! | READ | [`Card::read`] | the card of a stored record |
 //! | tap read | [`tap`] | what a phone is to read of a stored card: its own tap record, or the factory's |
@@ -25,14 +26,15 @@
 //! | a supply, one constructor for each kind | [`Supply`] |
 //! | a command as it is sent; SELECT, INIT, PAIR and OPEN by name | [`PlainCommand`] |
 //! | a command over the channel, each by name | [`ChannelCommand`] |
-//! | an answer: data and status word | [`Answer`] |
+//! | an answer: data and status word, and the fault offset | [`Answer`] |
 //! | what a host does: supplies, and storing the record | [`Host`] |
 //! | the host's end: ASK, supply, ANSWER, store, and only then the answer | [`Card::serve`] |
 //! | the terminal's end: SEAL, there and back, UNSEAL | [`Session::exchange`] |
 //! | both ends in one program | [`exchange`] |
 //!
-//! Every length, room and count is in bytes; [`walk`] alone counts fields. Buffers are the caller's. An operation that cannot be done gives
-//! a [`Refusal`] and leaves card, session and buffer as they were. No operation panics or allocates, and nothing is kept between calls.
+//! Every length, room, count and offset is in bytes; [`walk`] alone counts fields. Buffers are the caller's. An operation that cannot be done
+//! gives a [`Refusal`], WALK with its place ([`WalkFault`]), and leaves card, session and buffer as they were. No operation panics or allocates,
+//! and nothing is kept between calls.
 //!
 //! In C the caller has to ensure that pointers are valid, lengths right and arguments apart (`include/treadlewisp.h` says so at each
 //! function). Here references and slices see to it: any call that compiles is allowed.
@@ -49,13 +51,13 @@
 //!
 //! let mut select = vec![command::CLASS_SELECT, command::SELECT, command::P1_SELECT, 0x00, 15];
 //! select.extend_from_slice(command::APPLICATION_ID);
-//! let count = card.answer(&select, &[], &mut buffer)?;
+//! let count = card.answer(&select, &[], &mut buffer)?.count;
 //! assert_eq!(count, 2 + 65 + 2); // tag and length, public key, status word
 //! assert_eq!(buffer[..2], [0x80, 65]);
 //! assert_eq!(StatusWord::of(&buffer[..count]), Some(StatusWord::SUCCESS));
 //!
 //! let get_status = [command::CLASS_CARD, command::GET_STATUS, 0x00, 0x00];
-//! let count = card.answer(&get_status, &[], &mut buffer)?;
+//! let count = card.answer(&get_status, &[], &mut buffer)?.count;
 //! assert_eq!(buffer[..count], [0x6D, 0x00]);
 //!
 //! let mut record = [0; WRITE_ROOM_BYTES];
@@ -95,9 +97,10 @@
 //!
 //! # SHA-256
 //!
-//! The engine takes the results of hashes in supplies and hashes nothing itself. For its host there is a proved SHA-256 (FIPS 180-4),
-//! `sha256(message: &[u8]) -> [u8; 32]`, in a library of its own, `sha_c`. The feature `sha256` has it; it is off by default, as whoever
-//! uses the engine alone needs no second library.
+//! The engine has SHA-256 (FIPS 180-4) inside, for PAIR and LOAD; a host needs none for them. A terminal does: the client's cryptogram is
+//! SHA-256 of pairing secret and card challenge, the pairing key that of pairing secret and salt. For it there is
+//! `sha256(message: &[u8]) -> [u8; 32]`, proved too, in a library of its own, `sha_c`. The feature `sha256` has it; it is off by default, as a
+//! host needs no second library. OPEN's keys are made with SHA-512, which is the host's and the terminal's own.
 //!
 //! # Building
 //!
@@ -137,8 +140,9 @@ mod sha256;
 mod status;
 mod supplies;
 mod supply;
+mod walk;
 
-pub use card::{Asked, Card, CardField};
+pub use card::{Answered, Asked, Card, CardField};
 pub use channel_command::{ChannelCommand, ExportedKeys};
 pub use exchange::{exchange, ExchangeError};
 pub use host::{Host, ServeError};
@@ -153,29 +157,9 @@ pub use session::Session;
 #[cfg(feature = "sha256")]
 pub use sha256::{sha256, DIGEST_BYTES};
 pub use status::StatusWord;
-pub use supplies::{ExportParts, OpenParts, PairFinalParts, PairFirstParts, SignParts, Supply};
+pub use supplies::{ExportParts, OpenParts, SignParts, Supply};
 pub use supply::SupplyKind;
-
-/// WALK: how many fields that are not templates the input holds. The count is in fields; the input may have any length in bytes.
-///
-/// Parts that it accepts, joined, count the sum of their fields.
-///
-/// # Errors
-///
-/// [`Refusal::Malformed`] or [`Refusal::TooDeep`], by the first fault from left to right.
-///
-/// ```
-/// use treadlewisp::{walk, Refusal};
-/// assert_eq!(walk(&[0xA1, 0x05, 0x80, 0x01, 0x99, 0x81, 0x00]), Ok(2));
-/// assert_eq!(walk(&[0xA1, 0x00]), Ok(0));
-/// assert_eq!(walk(&[0x80, 0x81, 0x05]), Err(Refusal::Malformed));
-///
-/// let (one, two) = (&[0x80, 0x01, 0x99][..], &[0x81, 0x00, 0x82, 0x00][..]);
-/// assert_eq!((walk(one), walk(two), walk(&[one, two].concat())), (Ok(1), Ok(2), Ok(3)));
-/// ```
-pub fn walk(input: &[u8]) -> Result<usize, Refusal> {
-    secrets::wiped(|| ffi::walk(input))
-}
+pub use walk::{walk, WalkFault};
 
 /// The tap read: which bytes a phone is to read when the card of this stored record is held to it. They are a part of what is lent, and
 /// nothing is copied.

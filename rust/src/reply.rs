@@ -21,6 +21,7 @@ use crate::status::StatusWord;
 #[must_use = "an answer is there to be looked at"]
 pub struct Answer {
     bytes: Buffer<ANSWER_ROOM_BYTES>,
+    fault_offset: Option<usize>,
 }
 
 impl Answer {
@@ -28,14 +29,14 @@ impl Answer {
     #[must_use]
     pub fn from_bytes(bytes: &[u8]) -> Option<Answer> {
         wiped(|| match bytes.len() {
-            STATUS_BYTES.. => Buffer::joined(&[bytes]).map(Answer::of),
+            STATUS_BYTES.. => Buffer::joined(&[bytes]).map(|bytes| Answer::of(bytes, None)),
             _ => None,
         })
     }
 
-    /// What ANSWER or UNSEAL wrote, which has at least a status word.
-    pub(crate) fn of(bytes: Buffer<ANSWER_ROOM_BYTES>) -> Answer {
-        Answer { bytes }
+    /// What ANSWER or UNSEAL wrote, which has at least a status word; and the fault offset, if ANSWER told one.
+    pub(crate) fn of(bytes: Buffer<ANSWER_ROOM_BYTES>, fault_offset: Option<usize>) -> Answer {
+        Answer { bytes, fault_offset }
     }
 
     /// The whole answer, as it is sent.
@@ -56,6 +57,21 @@ impl Answer {
         StatusWord(u16::from_be_bytes(self.split().1))
     }
 
+    /// The fault offset: where LOAD's data are no sequence of fields, how many of their bytes are before the tag of the faulty field
+    /// ([`Answered::fault_offset`](crate::Answered::fault_offset)). It is not part of the bytes that are sent, so an answer that a terminal received
+    /// has none; one that [`Card::serve`](crate::Card::serve) gives has it, and so has that answer once
+    /// [`Session::exchange`](crate::Session::exchange) has opened it in the same program.
+    ///
+    /// ```
+    /// use treadlewisp::Answer;
+    /// let received = Answer::from_bytes(&[0x6A, 0x80]).expect("2 to 258 bytes");
+    /// assert_eq!(received.fault_offset(), None);
+    /// ```
+    #[must_use]
+    pub fn fault_offset(&self) -> Option<usize> {
+        self.fault_offset
+    }
+
     fn split(&self) -> (&[u8], [u8; STATUS_BYTES]) {
         match self.bytes().split_last_chunk() {
             Some((data, status)) => (data, *status),
@@ -64,12 +80,13 @@ impl Answer {
     }
 }
 
-/// The status word, and how many bytes of data there are.
+/// The status word, how many bytes of data there are, and the fault offset.
 impl fmt::Debug for Answer {
     fn fmt(&self, f: &mut fmt::Formatter<'_>) -> fmt::Result {
         f.debug_struct("Answer")
             .field("status", &format_args!("{}", self.status()))
             .field("data_bytes", &self.data().len())
+            .field("fault_offset", &self.fault_offset)
             .finish_non_exhaustive()
     }
 }

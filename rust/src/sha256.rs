@@ -9,8 +9,17 @@ pub const DIGEST_BYTES: usize = 32;
 /// SHA-256 (FIPS 180-4) of a message of any number of bytes, none included. It is there with the feature `sha256`.
 ///
 /// The library `sha_c` is proved equal to the standard's definition for every message (`docs/RULES.md`, 7.7 to 7.10), and with it no call
-/// panics. The message is read where it lies and not copied, and the stack does not grow with it. The engine does not call it: what a card
-/// needs of hashes comes in its supplies.
+/// panics. The message is read where it lies and not copied, and the stack does not grow with it.
+///
+/// A card needs no call of it: it hashes by itself. It is for terminals, which make PAIR's client cryptogram and pairing key:
+///
+/// ```
+/// use treadlewisp::sha256;
+/// let (pairing_secret, card_challenge, salt) = ([0x51; 32], [0x93; 32], [0x91; 32]);
+/// let client_cryptogram = sha256(&[pairing_secret, card_challenge].concat());
+/// let pairing_key = sha256(&[pairing_secret, salt].concat());
+/// # assert_ne!(client_cryptogram, pairing_key);
+/// ```
 ///
 /// The standard's first example:
 ///

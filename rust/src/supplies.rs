@@ -18,9 +18,9 @@ const FLAG_BYTES: usize = 1;
 const _: () = assert!(SupplyKind::Init.bytes() == FLAG_BYTES + KEY_BYTES);
 const _: () = assert!(SupplyKind::Open.bytes() == FLAG_BYTES + 3 * KEY_BYTES + IV_BYTES);
 const _: () = assert!(SupplyKind::Mutual.bytes() == KEY_BYTES);
-const _: () = assert!(SupplyKind::PairFirst.bytes() == 3 * KEY_BYTES);
-const _: () = assert!(SupplyKind::PairFinal.bytes() == 2 * KEY_BYTES);
-const _: () = assert!(SupplyKind::Load.bytes() == FLAG_BYTES + KEY_BYTES);
+const _: () = assert!(SupplyKind::PairFirst.bytes() == KEY_BYTES);
+const _: () = assert!(SupplyKind::PairFinal.bytes() == KEY_BYTES);
+const _: () = assert!(SupplyKind::Load.bytes() == FLAG_BYTES + PUBLIC_KEY_BYTES);
 const _: () = assert!(SupplyKind::Derive.bytes() == FLAG_BYTES);
 const _: () = assert!(SupplyKind::Sign.bytes() == PUBLIC_KEY_BYTES + 2 * KEY_BYTES);
 const _: () = assert!(SupplyKind::Export.bytes() == FLAG_BYTES + PUBLIC_KEY_BYTES + KEY_BYTES);
@@ -28,8 +28,8 @@ const _: () = assert!(SupplyKind::Export.bytes() == FLAG_BYTES + PUBLIC_KEY_BYTE
 /// A supply: what ANSWER reads from the host, and of which kind it is. Its length is that of its kind, and its flag, if it has one, 00 or 01.
 ///
 /// Kinds with a flag have two constructors: the one with parts is flag 01, and that with `no_` flag 00 and zeros. How each part is worked
-/// out is in `docs/INTEGRATION.md` of the repository, section 5.1. Supplies hold keys and cryptograms: they are overwritten with zeros when
-/// they are dropped, and `Debug` shows the kind alone.
+/// out is in `docs/INTEGRATION.md` of the repository, section 5.1. Supplies hold keys: they are overwritten with zeros when they are dropped,
+/// and `Debug` shows the kind alone.
 ///
 /// ```
 /// use treadlewisp::{OpenParts, Supply, SupplyKind};
@@ -63,26 +63,6 @@ pub struct OpenParts<'a> {
     pub salt: &'a [u8; KEY_BYTES],
     /// The channel's first IV, 16 random bytes, which the terminal gets.
     pub iv: &'a [u8; IV_BYTES],
-}
-
-/// The parts of the supply of PAIR's first step, [`Supply::pair_first`].
-#[derive(Clone, Copy)]
-pub struct PairFirstParts<'a> {
-    /// The card's cryptogram, 32 bytes: the answer to the client's challenge.
-    pub card_cryptogram: &'a [u8; KEY_BYTES],
-    /// The card's challenge, 32 random bytes.
-    pub card_challenge: &'a [u8; KEY_BYTES],
-    /// The cryptogram that is expected of the client, 32 bytes. It does not go out.
-    pub client_cryptogram: &'a [u8; KEY_BYTES],
-}
-
-/// The parts of the supply of PAIR's final step, [`Supply::pair_final`].
-#[derive(Clone, Copy)]
-pub struct PairFinalParts<'a> {
-    /// The salt, 32 random bytes, which the client gets.
-    pub salt: &'a [u8; KEY_BYTES],
-    /// The pairing key, 32 bytes. It does not go out.
-    pub pairing_key: &'a [u8; KEY_BYTES],
 }
 
 /// The parts of SIGN's supply, [`Supply::sign`].
@@ -142,47 +122,38 @@ impl Supply {
         Supply::of(SupplyKind::Mutual, &[random])
     }
 
-    /// PAIR's first step, 96 bytes: card cryptogram 32, card challenge 32, expected client cryptogram 32.
-    ///
-    /// ```
-    /// use treadlewisp::{PairFirstParts, Supply};
-    /// let supply = Supply::pair_first(&PairFirstParts {
-    ///     card_cryptogram: &[0x01; 32],   // SHA-256(pairing secret, client challenge)
-    ///     card_challenge: &[0x02; 32],    // random
-    ///     client_cryptogram: &[0x03; 32], // SHA-256(pairing secret, card challenge)
-    /// });
-    /// assert_eq!(supply.bytes(), [[0x01; 32], [0x02; 32], [0x03; 32]].concat());
-    /// ```
-    pub fn pair_first(parts: &PairFirstParts) -> Supply {
-        let joined: [&[u8]; 3] = [parts.card_cryptogram, parts.card_challenge, parts.client_cryptogram];
-        Supply::of(SupplyKind::PairFirst, &joined)
-    }
-
-    /// PAIR's final step, 64 bytes: salt 32, pairing key 32.
-    ///
-    /// ```
-    /// use treadlewisp::{PairFinalParts, Supply};
-    /// let supply = Supply::pair_final(&PairFinalParts {
-    ///     salt: &[0x04; 32],        // random
-    ///     pairing_key: &[0x05; 32], // SHA-256(pairing secret, salt)
-    /// });
-    /// assert_eq!(supply.bytes(), [[0x04; 32], [0x05; 32]].concat());
-    /// ```
-    pub fn pair_final(parts: &PairFinalParts) -> Supply {
-        Supply::of(SupplyKind::PairFinal, &[parts.salt, parts.pairing_key])
-    }
-
-    /// LOAD, 33 bytes: yes, and the key UID of 32 bytes.
+    /// PAIR's first step, 32 bytes: the card's challenge, random, which the client gets. The card works out its own cryptogram and the one that
+    /// it expects of the client.
     ///
     /// ```
     /// use treadlewisp::Supply;
-    /// assert_eq!(Supply::load(&[0x71; 32]).bytes(), [&[0x01][..], &[0x71; 32]].concat());
+    /// assert_eq!(Supply::pair_first(&[0x02; 32]).bytes(), [0x02; 32]);
     /// ```
-    pub fn load(key_uid: &[u8; KEY_BYTES]) -> Supply {
-        Supply::of(SupplyKind::Load, &[&YES, key_uid])
+    pub fn pair_first(challenge: &[u8; KEY_BYTES]) -> Supply {
+        Supply::of(SupplyKind::PairFirst, &[challenge])
     }
 
-    /// LOAD, 33 bytes: no, this is no key, or the seed gives none.
+    /// PAIR's final step, 32 bytes: the salt, random, which the client gets. The card works out the pairing key.
+    ///
+    /// ```
+    /// use treadlewisp::Supply;
+    /// assert_eq!(Supply::pair_final(&[0x04; 32]).bytes(), [0x04; 32]);
+    /// ```
+    pub fn pair_final(salt: &[u8; KEY_BYTES]) -> Supply {
+        Supply::of(SupplyKind::PairFinal, &[salt])
+    }
+
+    /// LOAD, 66 bytes: yes, and the public key of the loaded key, 65 bytes. The card works out the key UID from it.
+    ///
+    /// ```
+    /// use treadlewisp::Supply;
+    /// assert_eq!(Supply::load(&[0x04; 65]).bytes(), [&[0x01][..], &[0x04; 65]].concat());
+    /// ```
+    pub fn load(public_key: &[u8; PUBLIC_KEY_BYTES]) -> Supply {
+        Supply::of(SupplyKind::Load, &[&YES, public_key])
+    }
+
+    /// LOAD, 66 bytes: no, this is no key, or the seed gives none.
     pub fn no_load() -> Supply {
         Supply::no(SupplyKind::Load)
     }

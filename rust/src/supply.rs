@@ -16,11 +16,11 @@ pub enum SupplyKind {
     Open = 2,
     /// MUTUAL: random, 32 bytes.
     Mutual = 3,
-    /// PAIR's first step: cryptogram 32, challenge 32, expected client cryptogram 32; 96 bytes.
+    /// PAIR's first step: the card's challenge, 32 bytes. The card works out both cryptograms.
     PairFirst = 4,
-    /// PAIR's final step: salt 32, pairing key 32; 64 bytes.
+    /// PAIR's final step: salt, 32 bytes. The card works out the pairing key.
     PairFinal = 5,
-    /// LOAD: flag, key UID 32; 33 bytes.
+    /// LOAD: flag, public key 65; 66 bytes. The card works out the key UID.
     Load = 6,
     /// DERIVE: flag, 1 byte.
     Derive = 7,
@@ -75,11 +75,10 @@ impl SupplyKind {
     pub const fn bytes(self) -> usize {
         match self {
             SupplyKind::None => 0,
-            SupplyKind::Init | SupplyKind::Load => 33,
+            SupplyKind::Init => 33,
             SupplyKind::Open => 113,
-            SupplyKind::Mutual => 32,
-            SupplyKind::PairFirst => 96,
-            SupplyKind::PairFinal => 64,
+            SupplyKind::Mutual | SupplyKind::PairFirst | SupplyKind::PairFinal => 32,
+            SupplyKind::Load => 66,
             SupplyKind::Derive => 1,
             SupplyKind::Sign => 129,
             SupplyKind::Export => 98,

@@ -31,12 +31,15 @@ fn lies(bytes: &[u8], offset: usize, part: &[u8]) -> bool {
 
 #[test]
 fn supplies_with_a_key_or_a_number() {
-    let key = part::<32>(0x20);
+    let (key, point) = (part::<32>(0x20), part::<65>(0x04));
     let flagged = [&[0x01][..], &key].concat();
+    let flagged_point = [&[0x01][..], &point].concat();
     for (supply, kind, bytes) in [
         (Supply::init(&key), SupplyKind::Init, &flagged[..]),
         (Supply::mutual(&key), SupplyKind::Mutual, &key),
-        (Supply::load(&key), SupplyKind::Load, &flagged),
+        (Supply::pair_first(&key), SupplyKind::PairFirst, &key),
+        (Supply::pair_final(&key), SupplyKind::PairFinal, &key),
+        (Supply::load(&point), SupplyKind::Load, &flagged_point),
         (Supply::derive(), SupplyKind::Derive, &[0x01]),
     ] {
         assert_eq!((supply.kind(), supply.bytes()), (kind, bytes));
@@ -54,12 +57,6 @@ fn supplies_with_parts() {
         salt: &c,
         iv: &iv,
     });
-    let pair_first = Supply::pair_first(&PairFirstParts {
-        card_cryptogram: &a,
-        card_challenge: &b,
-        client_cryptogram: &c,
-    });
-    let pair_final = Supply::pair_final(&PairFinalParts { salt: &a, pairing_key: &b });
     let sign = Supply::sign(&SignParts {
         public_key: &point,
         r: &a,
@@ -72,10 +69,8 @@ fn supplies_with_parts() {
         })
     };
     let yes: &[u8] = &[0x01];
-    let drawings: [(Supply, SupplyKind, &[Drawn]); 6] = [
+    let drawings: [(Supply, SupplyKind, &[Drawn]); 4] = [
         (open, SupplyKind::Open, &[(0, yes), (1, &a), (33, &b), (65, &c), (97, &iv)]),
-        (pair_first, SupplyKind::PairFirst, &[(0, &a), (32, &b), (64, &c)]),
-        (pair_final, SupplyKind::PairFinal, &[(0, &a), (32, &b)]),
         (sign, SupplyKind::Sign, &[(0, &point), (65, &a), (97, &b)]),
         (export(Some(&a)), SupplyKind::Export, &[(0, yes), (1, &point), (66, &a)]),
         (export(None), SupplyKind::Export, &[(0, yes), (1, &point), (66, &[0; 32])]),
@@ -99,7 +94,7 @@ fn supplies_that_say_no() {
     let no = [
         (Supply::no_init(), SupplyKind::Init, 33),
         (Supply::no_open(), SupplyKind::Open, 113),
-        (Supply::no_load(), SupplyKind::Load, 33),
+        (Supply::no_load(), SupplyKind::Load, 66),
         (Supply::no_derive(), SupplyKind::Derive, 1),
         (Supply::no_export(), SupplyKind::Export, 98),
     ];
@@ -111,7 +106,8 @@ fn supplies_that_say_no() {
     let mut life = common::Life::fresh();
     let mut buffer = [0; ANSWER_ROOM_BYTES];
     let answered = life.card.answer(&common::init_command(), Supply::no_init().bytes(), &mut buffer);
-    assert_eq!((answered, &buffer[..2]), (Ok(2), &[0x6A, 0x80][..]));
+    let count = answered.map(|answered| answered.count);
+    assert_eq!((count, &buffer[..2]), (Ok(2), &[0x6A, 0x80][..]));
 }
 
 /// What was put together elsewhere has to have the kind's length and a right flag.
@@ -306,7 +302,10 @@ fn debug_shows_no_secret() {
         format!("{:?}", ChannelCommand::verify(b"123456")),
         "ChannelCommand { header: [80, 20, 00, 00], .. }"
     );
-    assert_eq!(format!("{:?}", Supply::load(&[7; 32])), "Supply { kind: Load, .. }");
+    assert_eq!(format!("{:?}", Supply::load(&[7; 65])), "Supply { kind: Load, .. }");
     let answer = Answer::from_bytes(&[0x31, 0x32, 0x90, 0x00]).expect("an answer");
-    assert_eq!(format!("{answer:?}"), "Answer { status: 9000 (success), data_bytes: 2, .. }");
+    assert_eq!(
+        format!("{answer:?}"),
+        "Answer { status: 9000 (success), data_bytes: 2, fault_offset: None, .. }"
+    );
 }

@@ -40,9 +40,9 @@ fn from_fresh_to_a_channel() {
     assert_eq!(noted, ["store"]);
     let init = PlainCommand::new(&[0x80, command::INIT, 0, 0], &init_command()[5..]).expect("INIT");
     assert_eq!(serve(init), (vec![0x90, 0x00], vec!["init".into(), "store".into()]));
-    let (first, noted) = serve(PlainCommand::pair_first(&[0x0F; KEY_BYTES]));
+    let (first, noted) = serve(PlainCommand::pair_first(&CLIENT_CHALLENGE));
     assert_eq!((first.len(), noted), (66, vec!["pair first 15".into(), "store".into()]));
-    let (last, noted) = serve(PlainCommand::pair_final(&CRYPTOGRAM));
+    let (last, noted) = serve(PlainCommand::pair_final(&client_cryptogram()));
     assert_eq!((last[0], noted), (0, vec!["pair final".into(), "store".into()]));
     let (open, noted) = serve(PlainCommand::open(0, &POINT));
     assert_eq!((open.len(), noted), (50, vec!["open 0".into(), "store".into()]));
@@ -151,8 +151,7 @@ fn a_supply_that_is_not_made() {
     assert_eq!((life.card.stage(), life.card.is_verified()), (Some(Stage::Closed), false));
 }
 
-/// A supply of another kind is refused, of another length or of the same (INIT's and LOAD's have 33 bytes each): the card is as it was, and
-/// nothing is stored.
+/// A supply of another kind is refused, whatever its length: the card is as it was, and nothing is stored.
 #[test]
 fn a_supply_of_another_kind() {
     for kind in [SupplyKind::Init, SupplyKind::Open, SupplyKind::Derive, SupplyKind::None] {
@@ -172,7 +171,21 @@ fn a_supply_of_another_kind() {
         let answer = life.card.serve(&mut desk, sealed.bytes()).expect("an answer");
         let mut opened = [0; UNSEAL_ROOM_BYTES];
         assert_eq!(life.terminal.unseal(answer.bytes(), &mut opened), Ok(KEY_BYTES + STATUS_BYTES));
-        assert_eq!(life.card.key_uid(), &KEY_UID);
+        assert_eq!(life.card.key_uid(), &key_uid());
+    }
+}
+
+/// The same where the length is right: MUTUAL's supply and both of PAIR's have 32 bytes each.
+#[test]
+fn a_supply_of_another_kind_and_the_same_length() {
+    let first = PlainCommand::pair_first(&CLIENT_CHALLENGE);
+    for kind in [SupplyKind::Mutual, SupplyKind::PairFinal] {
+        let (mut card, mut desk) = (Life::initialised().card, Desk::new());
+        let before = card.clone();
+        desk.makes_only = Some(kind);
+        let refused = card.serve(&mut desk, first.bytes()).err();
+        assert_eq!(refused, Some(ServeError::Refused(Refusal::BadSupply)), "{kind}");
+        assert_eq!((desk.take_notes(), &card), (vec!["pair first 15".to_string()], &before));
     }
 }
 

@@ -163,7 +163,7 @@ fn supplies() {
         assert_eq!((&life.card, buffer), (&before, [FILL; ANSWER_ROOM_BYTES]));
     }
     let mut response = [FILL; ANSWER_ROOM_BYTES];
-    let count = life.card.answer(&command, &with_flag(0), &mut response).expect("ANSWER");
+    let count = life.card.answer(&command, &with_flag(0), &mut response).expect("ANSWER").count;
     let mut opened = [FILL; UNSEAL_ROOM_BYTES];
     assert_eq!(life.terminal.unseal(&response[..count], &mut opened), Ok(STATUS_BYTES));
     assert_eq!(StatusWord::of(&opened[..STATUS_BYTES]), Some(StatusWord::REFERENCE_INVALID));

@@ -79,6 +79,14 @@ fn the_lengths_that_the_layout_names() {
     assert!(layout.contains(&stored), "{stored}");
 }
 
+/// The number that ANSWER tells where it has no fault offset: it is beyond all opened data.
+#[test]
+fn the_number_for_no_fault() {
+    let header = header();
+    assert_eq!(value("TW_NO_FAULT", &header), 255);
+    assert!(value("TW_NO_FAULT", &header) >= DATA_MAX_BYTES);
+}
+
 /// An array in C: the struct that it is in, its name, and how many elements it has.
 type Array = (String, String, usize);
 

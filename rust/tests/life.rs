@@ -29,7 +29,7 @@ fn from_fresh_to_a_channel() {
     for slot in 0..SLOTS {
         assert_eq!(usize::from(life.pair()), slot);
         assert!(life.card.slots()[slot].is_filled());
-        assert_eq!(life.card.slots()[slot].pairing_key(), &PAIRING_KEY);
+        assert_eq!(life.card.slots()[slot].pairing_key(), &pairing_key());
     }
     let one_more = plain_command(card_header(command::PAIR, command::P1_PAIR_FIRST), &[0; KEY_BYTES]);
     assert_eq!(life.plain(&one_more), [0x6A, 0x84]);
@@ -78,9 +78,9 @@ fn keys_and_paths() {
     let load = |life: &mut Life| life.sealed(command::LOAD, command::P1_LOAD_SEED, &seed);
     assert_eq!(load(&mut life), [0x69, 0x85]);
     assert_eq!(life.sealed_status(command::VERIFY, 0x00, PIN), StatusWord::SUCCESS);
-    assert_eq!(load(&mut life), [&KEY_UID[..], &[0x90, 0x00]].concat());
+    assert_eq!(load(&mut life), [&key_uid()[..], &[0x90, 0x00]].concat());
     assert_eq!(life.card.key_kind(), Some(KeyKind::Extended));
-    assert_eq!(life.card.key_uid(), &KEY_UID);
+    assert_eq!(life.card.key_uid(), &key_uid());
 
     assert_eq!(life.sealed_status(command::DERIVE, 0x00, &PATH), StatusWord::SUCCESS);
     assert_eq!(life.card.current_path().components().collect::<Vec<_>>(), [0x8000_002C, 7]);

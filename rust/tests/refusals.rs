@@ -68,7 +68,7 @@ fn bad_supply_3() {
         assert_eq!(life.card, before);
     }
     let mut buffer = [FILL; ANSWER_ROOM_BYTES];
-    assert_eq!(life.card.answer(&init, &right, &mut buffer), Ok(2));
+    assert_eq!(life.card.answer(&init, &right, &mut buffer).map(|answered| answered.count), Ok(2));
     assert_ne!(life.card, before);
 }
 
@@ -87,19 +87,17 @@ fn bad_supply_3_in_a_channel() {
     assert_eq!(life.terminal.unseal(&response, &mut opened), Ok(KEY_BYTES + STATUS_BYTES));
 }
 
+/// tests/faults.rs has the place of each fault.
 #[test]
 fn malformed_4_and_too_deep_5() {
+    let refusal = |input: &[u8]| walk(input).map_err(|fault| fault.refusal);
     assert_eq!(walk(&[]), Ok(0));
-    assert_eq!(walk(&[0x80]), Err(Refusal::Malformed));
-    assert_eq!(walk(&[0x80, 0x81, 0x05]), Err(Refusal::Malformed));
-    let nested = |depth: u8| {
-        let templates = (0..depth).rev().flat_map(|inner| [0xA1, 2 * inner + 2]);
-        templates.chain([0x80, 0x00]).collect::<Vec<u8>>()
-    };
+    assert_eq!(refusal(&[0x80]), Err(Refusal::Malformed));
+    assert_eq!(refusal(&[0x80, 0x81, 0x05]), Err(Refusal::Malformed));
     assert_eq!(walk(&nested(4)), Ok(1));
-    assert_eq!(walk(&nested(5)), Err(Refusal::TooDeep));
-    assert_eq!(walk(&[&nested(5)[..], &[0x80]].concat()), Err(Refusal::TooDeep));
-    assert_eq!(walk(&[&[0x80, 0x80][..], &nested(5)].concat()), Err(Refusal::Malformed));
+    assert_eq!(refusal(&nested(5)), Err(Refusal::TooDeep));
+    assert_eq!(refusal(&[&nested(5)[..], &[0x80]].concat()), Err(Refusal::TooDeep));
+    assert_eq!(refusal(&[&[0x80, 0x80][..], &nested(5)].concat()), Err(Refusal::Malformed));
 }
 
 #[test]

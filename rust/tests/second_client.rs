@@ -103,7 +103,8 @@ fn open_with_flag_00_ends_verification_and_a_refused_one_does_not() {
     assert_eq!(life.card, before);
     assert_eq!(unpair(&mut life), StatusWord::SUCCESS);
     supplied[0] = 0;
-    assert_eq!(life.card.answer(&open, &supplied, &mut buffer), Ok(STATUS_BYTES));
+    let answered = life.card.answer(&open, &supplied, &mut buffer).expect("ANSWER");
+    assert_eq!((answered.count, answered.fault_offset), (STATUS_BYTES, None));
     assert_eq!(buffer[..STATUS_BYTES], [0x6A, 0x80]);
     assert_eq!((life.card.stage(), life.card.is_verified()), (Some(Stage::Closed), false));
 }
@@ -122,7 +123,7 @@ fn a_reset_and_a_stored_record_end_verification() {
 /// Plain answers that keep channel and verification, and sealed ones.
 #[test]
 fn what_keeps_the_channel_keeps_verification() {
-    let pair = |p1| plain_command(card_header(command::PAIR, p1), &CRYPTOGRAM);
+    let pair = |p1| plain_command(card_header(command::PAIR, p1), &client_cryptogram());
     let mut other_name = select_command();
     other_name[5] ^= 1;
     let plain = [

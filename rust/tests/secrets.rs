@@ -36,7 +36,6 @@ fn key(seed: u32) -> [u8; KEY_BYTES] {
 
 /// The keys, by name.
 const PAIRED: (&str, u32) = ("pairing secret", 2);
-const SLOT: (&str, u32) = ("pairing key", 4);
 const ENC: (&str, u32) = ("encryption key", 5);
 const MAC: (&str, u32) = ("MAC key", 6);
 const LOADED: (&str, u32) = ("loaded key", 7);
@@ -45,12 +44,28 @@ const EXPORTED: (&str, u32) = ("exported key", 9);
 const NEW_SECRET: (&str, u32) = ("new secret", 10);
 const INITIAL: (&str, u32) = ("INIT key", 11);
 
+/// What the card makes of the pairing secret and 32 bytes after it: the cryptogram that it expects, and the pairing key.
+fn paired(after: &[u8; KEY_BYTES]) -> [u8; KEY_BYTES] {
+    hashed(&[&key(PAIRED.1), after])
+}
+
+/// A key as SHA-256 reads it: words of 4 bytes, which have their low byte first in memory.
+fn in_words(key: [u8; KEY_BYTES]) -> Vec<u8> {
+    key.chunks(4).flat_map(|word| word.iter().rev()).copied().collect()
+}
+
 /// All secrets.
 fn secrets() -> Vec<(&'static str, Vec<u8>)> {
     let digits = [("PIN", &PIN[..]), ("PUK", PUK), ("new PIN", NEW_PIN), ("new PUK", NEW_PUK)];
-    let keys = [PAIRED, SLOT, ENC, MAC, LOADED, CHAIN, EXPORTED, NEW_SECRET, INITIAL];
+    let keys = [PAIRED, ENC, MAC, LOADED, CHAIN, EXPORTED, NEW_SECRET, INITIAL];
+    let hashes = [
+        ("expected cryptogram", paired(&CARD_CHALLENGE).to_vec()),
+        ("pairing key", paired(&SALT).to_vec()),
+        ("pairing secret, in words", in_words(key(PAIRED.1))),
+    ];
     let digits = digits.into_iter().map(|(name, secret)| (name, secret.to_vec()));
-    digits.chain(keys.map(|(name, seed)| (name, key(seed).to_vec()))).collect()
+    let keys = keys.map(|(name, seed)| (name, key(seed).to_vec()));
+    digits.chain(keys).chain(hashes).collect()
 }
 
 /// A call, with all that it is given. What it gives goes to the same memory: nothing of it is on the stack that is searched.
@@ -98,6 +113,14 @@ struct Told {
     count: usize,
 }
 
+/// `tw_answered`, and `tw_walked`.
+#[repr(C)]
+struct Placed {
+    refusal: u8,
+    count: usize,
+    fault_offset: usize,
+}
+
 extern "C" {
     fn tw_sound(card: *const Card) -> u8;
     fn tw_reset(card: *mut Card) -> u8;
@@ -110,10 +133,10 @@ extern "C" {
         sup_bytes: usize,
         buf: *mut u8,
         buf_bytes: usize,
-    ) -> Told;
+    ) -> Placed;
     fn tw_seal(session: *mut Session, header: *const u8, data: *const u8, data_bytes: usize, buf: *mut u8, buf_bytes: usize) -> Told;
     fn tw_unseal(session: *mut Session, response: *const u8, response_bytes: usize, buf: *mut u8, buf_bytes: usize) -> Told;
-    fn tw_walk(input: *const u8, input_bytes: usize) -> Told;
+    fn tw_walk(input: *const u8, input_bytes: usize) -> Placed;
     fn tw_write(card: *const Card, buf: *mut u8, buf_bytes: usize) -> Told;
     fn tw_read(card: *mut Card, record: *const u8, record_bytes: usize) -> u8;
     fn tw_tap(record: *const u8, record_bytes: usize, factory: *const u8, factory_bytes: usize) -> Tapped;
@@ -145,16 +168,22 @@ impl Call {
             kind: 0,
             count: 0,
         };
+        // No call here has a fault: ANSWER then tells 255, WALK 0.
+        let counted = |placed: Placed, no_fault: usize| Told {
+            refusal: placed.refusal + u8::from(placed.fault_offset != no_fault),
+            kind: 0,
+            count: placed.count,
+        };
         // SAFETY: each pointer is that of a value that is here, with its length; no two overlap.
         let told = unsafe {
             match self.operation {
                 Operation::Sound => only(1 - tw_sound(card)),
                 Operation::Reset => only(tw_reset(card)),
                 Operation::Ask => tw_ask(card, input, input_bytes, buf, buf_bytes),
-                Operation::Answer => tw_answer(card, input, input_bytes, supply, supply_bytes, buf, buf_bytes),
+                Operation::Answer => counted(tw_answer(card, input, input_bytes, supply, supply_bytes, buf, buf_bytes), 255),
                 Operation::Seal => tw_seal(terminal, self.header.as_ptr(), input, input_bytes, buf, buf_bytes),
                 Operation::Unseal => tw_unseal(terminal, input, input_bytes, buf, buf_bytes),
-                Operation::Walk => tw_walk(input, input_bytes),
+                Operation::Walk => counted(tw_walk(input, input_bytes), 0),
                 Operation::Write => tw_write(card, buf, buf_bytes),
                 Operation::Read => only(tw_read(card, input, input_bytes)),
                 Operation::Tap => {
@@ -175,10 +204,10 @@ impl Call {
             Operation::Sound => Ok(usize::from(!card.is_sound())),
             Operation::Reset => card.reset().map(|()| 0),
             Operation::Ask => card.ask(input, buffer).map(|asked| asked.count),
-            Operation::Answer => card.answer(input, &self.supply, buffer),
+            Operation::Answer => card.answer(input, &self.supply, buffer).map(|answered| answered.count),
             Operation::Seal => terminal.seal(&self.header, input, buffer),
             Operation::Unseal => terminal.unseal(input, buffer),
-            Operation::Walk => walk(input),
+            Operation::Walk => walk(input).map_err(Refusal::from),
             Operation::Write => card.write(buffer),
             Operation::Read => {
                 let read = Card::read(input);
@@ -210,8 +239,8 @@ fn plain_calls(name: &str, life: &mut Life, command: &[u8], supply: &[u8], calls
     answer.supply = supply.to_vec();
     calls.push(answer);
     let mut response = vec![0; ANSWER_ROOM_BYTES];
-    let count = life.card.answer(command, supply, &mut response).expect("ANSWER");
-    response.truncate(count);
+    let answered = life.card.answer(command, supply, &mut response).expect("ANSWER");
+    response.truncate(answered.count);
     response
 }
 
@@ -229,12 +258,13 @@ fn init_calls(calls: &mut Vec<Call>) -> Life {
     life
 }
 
-/// PAIR's final step and OPEN; then the terminal has the session.
+/// PAIR and OPEN; then the terminal has the session.
 fn channel_calls(life: &mut Life, calls: &mut Vec<Call>) {
-    let first = plain_command(card_header(PAIR, P1_PAIR_FIRST), &[0x0F; KEY_BYTES]);
-    life.plain(&first);
-    let last = plain_command(card_header(PAIR, P1_PAIR_FINAL), &CRYPTOGRAM);
-    plain_calls("PAIR final", life, &last, &[[0x92; KEY_BYTES], key(SLOT.1)].concat(), calls);
+    let first = plain_command(card_header(PAIR, P1_PAIR_FIRST), &CLIENT_CHALLENGE);
+    plain_calls("PAIR first", life, &first, &CARD_CHALLENGE, calls);
+    let last = plain_command(card_header(PAIR, P1_PAIR_FINAL), &paired(&CARD_CHALLENGE));
+    plain_calls("PAIR final", life, &last, &SALT, calls);
+    assert_eq!(life.card.slots()[0].pairing_key(), &paired(&SALT));
     let keys = [&[0x01], &key(ENC.1)[..], &key(MAC.1), &[0x94; KEY_BYTES], &SEED_IV].concat();
     let open = plain_command(card_header(OPEN, 0x00), &POINT);
     plain_calls("OPEN", life, &open, &keys, calls);
@@ -248,7 +278,7 @@ fn calls() -> Vec<Call> {
     channel_calls(&mut life, &mut calls);
     let loaded = [&[0xA1, 68, 0x81, 32], &key(LOADED.1)[..], &[0x82, 32], &key(CHAIN.1)].concat();
     let random = [0x95; KEY_BYTES];
-    let load_supply = [&[0x01], &KEY_UID[..]].concat();
+    let load_supply = [&[0x01], &POINT[..]].concat();
     let export_supply = [&[0x01], &POINT[..], &key(EXPORTED.1)].concat();
     let mut sealed = |name: &str, life: &mut Life, instruction: u8, p1: u8, data: &[u8], supply: &[u8]| {
         command_calls(name, life, card_header(instruction, p1), data, supply, &mut calls);

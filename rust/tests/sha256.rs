@@ -1,17 +1,16 @@
 //! SHA-256 against the standard's examples, the published short messages, and the plain implementation of outside/ at each length around the
-//! borders of blocks. Lengths are in bytes.
+//! borders of blocks; and a terminal that pairs with it. Lengths are in bytes.
 
 use std::fs;
 
-use treadlewisp::{sha256, DIGEST_BYTES};
+use treadlewisp::{sha256, PlainCommand, StatusWord, DIGEST_BYTES, KEY_BYTES};
 
-#[path = "../../outside/hashes/plain.rs"]
-mod plain;
+mod common;
 
 #[path = "common/stack.rs"]
 mod stack;
 
-use plain::BLOCK_BYTES;
+use common::plain_hash::{self as plain, BLOCK_BYTES};
 
 /// A file of the repository.
 fn text(path: &str) -> String {
@@ -76,6 +75,21 @@ fn each_length_around_the_borders_of_blocks() {
             assert_eq!(hex(&digest), hex(&plain::sha256(message)), "{length} bytes from {place} on");
         }
     }
+}
+
+/// A terminal that pairs: the card's cryptogram is right, its own is taken, and both ends have the same pairing key.
+#[test]
+fn a_terminal_pairs_with_it() {
+    let mut life = common::Life::initialised();
+    let (secret, challenge) = (common::PAIRING_SECRET, common::CLIENT_CHALLENGE);
+    let first = life.plain(PlainCommand::pair_first(&challenge).bytes());
+    let (card_cryptogram, rest) = first.split_at(KEY_BYTES);
+    assert_eq!(card_cryptogram, sha256(&[secret, challenge].concat()));
+    let own = sha256(&[&secret, &rest[..KEY_BYTES]].concat());
+    let last = life.plain(PlainCommand::pair_final(&own).bytes());
+    assert_eq!(StatusWord::of(&last), Some(StatusWord::SUCCESS));
+    let pairing_key = sha256(&[&secret, &last[1..=KEY_BYTES]].concat());
+    assert_eq!(life.card.slots()[usize::from(last[0])].pairing_key(), &pairing_key);
 }
 
 #[test]

@@ -56,7 +56,7 @@ fn bytes_and_fields_of_a_card() {
     assert_eq!((field("uid"), field("public_key")), (&UID[..], &POINT[..]));
     assert_eq!((field("pin"), field("puk")), (&PIN[..], &PUK[..]));
     assert_eq!(field("secret"), PAIRING_SECRET);
-    assert_eq!(field("slots")[..SLOT_BYTES], [&[1], &PAIRING_KEY[..]].concat());
+    assert_eq!(field("slots")[..SLOT_BYTES], [&[1], &pairing_key()[..]].concat());
     assert_eq!((field("stage"), field("enc_key")), (&[2][..], &ENC_KEY[..]));
     assert_eq!((life.card.uid(), life.card.public_key()), (&UID, &POINT));
     let session = Session::from_bytes(&life.terminal.to_bytes());
@@ -109,7 +109,7 @@ fn numbers_of_refusals_and_supplies() {
         let kind = SupplyKind::from_number(number);
         assert_eq!(kind.map(SupplyKind::number), (number <= 9).then_some(number));
     }
-    assert_eq!(SupplyKind::ALL.map(SupplyKind::bytes), [0, 33, 113, 32, 96, 64, 33, 1, 129, 98]);
+    assert_eq!(SupplyKind::ALL.map(SupplyKind::bytes), [0, 33, 113, 32, 32, 32, 66, 1, 129, 98]);
     assert_eq!(SUPPLY_MAX_BYTES, 129);
     for kind in SupplyKind::ALL {
         assert_eq!(supply(kind).len(), kind.bytes());

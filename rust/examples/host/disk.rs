@@ -1,6 +1,6 @@
-//! Files that outlast a power cut. What is in them is in the clear: a product enciphers it, and sees that no older one is put back.
+//! A file that outlasts a power cut. What is in them is in the clear: a product enciphers it, and sees that no older one is put back.
 
-use std::fs::{self, File, OpenOptions};
+use std::fs::{rename, File, OpenOptions};
 use std::io::{self, Write};
 use std::os::unix::fs::OpenOptionsExt;
 use std::path::Path;
@@ -14,22 +14,6 @@ pub fn write(folder: &Path, name: &str, bytes: &[u8]) -> io::Result<()> {
     let mut file = OpenOptions::new().write(true).create(true).truncate(true).mode(MODE).open(&new)?;
     file.write_all(bytes)?;
     file.sync_all()?;
-    fs::rename(&new, folder.join(name))?;
+    rename(&new, folder.join(name))?;
     File::open(folder)?.sync_all()
-}
-
-/// Deletes all files of the folder but those of these names, durably.
-pub fn keep_only(folder: &Path, names: &[&str]) -> io::Result<()> {
-    let mut deleted = false;
-    for entry in fs::read_dir(folder)? {
-        let entry = entry?;
-        if !names.iter().any(|name| entry.file_name() == *name) {
-            fs::remove_file(entry.path())?;
-            deleted = true;
-        }
-    }
-    if deleted {
-        File::open(folder)?.sync_all()?;
-    }
-    Ok(())
 }

@@ -1,14 +1,16 @@
-//! The card's host: it makes the supplies that the engine asks for, and keeps keys and record. Lengths are in bytes.
+//! The card's host: it makes the supplies that the engine asks for, and keeps keys and record. It hashes nothing for PAIR and LOAD: the card
+//! does. Lengths are in bytes.
 
-use std::io;
 use std::path::PathBuf;
+use std::{fs, io};
 
 use treadlewisp::*;
 
 use crate::crypto::{random, Secret};
 use crate::curve::Curve;
+use crate::disk;
+use crate::keycard::channel_keys;
 use crate::wallet::Key;
-use crate::{disk, keycard};
 
 /// The card's host: its keys, and the folder where they and the record are kept.
 pub struct Keeper {
@@ -16,24 +18,55 @@ pub struct Keeper {
     pub curve: Curve,
     /// The private key of the card's public key.
     pub card_key: Secret,
-    /// The wallet's key by its UID. There are two from LOAD until its record is stored.
-    pub wallet: Vec<([u8; KEY_BYTES], Key)>,
+    /// The wallet's key, if the card has one.
+    pub wallet: Option<Key>,
+    /// The key that LOAD has brought, until its record is stored.
+    loaded: Option<Key>,
 }
 
-/// The files of the card's record, and of its own private key.
-pub const RECORD_FILE: &str = "record";
-pub const CARD_KEY_FILE: &str = "card.key";
+/// The stored file: the card's private key, the wallet's private key and chain code, which are zeros where there is none, and the record. One
+/// file, so that a record and its key are stored together, or neither is.
+const CARD_FILE: &str = "card";
 
-/// The file of the wallet's key with this UID: private key, and chain code if it has one.
-pub fn key_file(uid: &[u8; KEY_BYTES]) -> String {
-    uid.iter().map(|byte| format!("{byte:02x}")).collect::<String>() + ".key"
+/// The three keys of the stored file, and its record.
+fn stored(folder: &std::path::Path) -> io::Result<([Secret; 3], Vec<u8>)> {
+    let mut bytes = fs::read(folder.join(CARD_FILE))?;
+    let parts = bytes.split_at_checked(3 * KEY_BYTES);
+    let (keys, record) = parts.ok_or(io::Error::other("the stored file is too short"))?;
+    let key = |number: usize| Secret(std::array::from_fn(|at| keys[number * KEY_BYTES + at]));
+    let stored = ([key(0), key(1), key(2)], record.to_vec());
+    wipe(&mut bytes);
+    Ok(stored)
+}
+
+/// The record of the stored file.
+pub fn stored_record(folder: &std::path::Path) -> io::Result<Vec<u8>> {
+    stored(folder).map(|(_, record)| record)
 }
 
 impl Keeper {
+    /// The host of a new card.
+    pub fn new(folder: PathBuf, curve: Curve, card_key: Secret) -> Keeper {
+        Keeper {
+            folder,
+            curve,
+            card_key,
+            wallet: None,
+            loaded: None,
+        }
+    }
+
+    /// The host of a stored card, and its record. A plain key has a chain code of zeros then, which nothing uses.
+    pub fn start(folder: PathBuf) -> io::Result<(Keeper, Vec<u8>)> {
+        let ([card_key, private_key, chain_code], record) = stored(&folder)?;
+        let mut keeper = Keeper::new(folder, Curve::new()?, card_key);
+        keeper.wallet = Key::checked(&keeper.curve, private_key, Some(chain_code));
+        Ok((keeper, record))
+    }
+
     /// The key that signs and exports for this path; none where the path leads to none.
-    fn key_at(&self, card: &Card, path: &Path) -> io::Result<Option<Key>> {
-        let key = self.wallet.iter().find(|(uid, _)| uid == card.key_uid());
-        let (_, key) = key.ok_or(io::Error::other("the wallet's key is lost"))?;
+    fn key_at(&self, path: &Path) -> io::Result<Option<Key>> {
+        let key = self.wallet.as_ref().ok_or(io::Error::other("the wallet's key is lost"))?;
         Ok(key.at(&self.curve, path))
     }
 }
@@ -52,7 +85,7 @@ impl Host for Keeper {
             return Ok(Supply::no_open());
         };
         let (salt, iv) = (random()?, random()?);
-        let (enc_key, mac_key) = keycard::channel_keys(&secret, card.slots()[usize::from(slot)].pairing_key(), &salt);
+        let (enc_key, mac_key) = channel_keys(&secret, card.slots()[usize::from(slot)].pairing_key(), &salt);
         Ok(Supply::open(&OpenParts {
             enc_key: &enc_key.0,
             mac_key: &mac_key.0,
@@ -65,24 +98,15 @@ impl Host for Keeper {
         Ok(Supply::mutual(&random()?))
     }
 
-    fn pair_first(&mut self, card: &Card, client_challenge: &[u8; KEY_BYTES]) -> io::Result<Supply> {
-        let card_challenge = random()?;
-        Ok(Supply::pair_first(&PairFirstParts {
-            card_cryptogram: &keycard::cryptogram(card.pairing_secret(), client_challenge),
-            card_challenge: &card_challenge,
-            client_cryptogram: &keycard::cryptogram(card.pairing_secret(), &card_challenge),
-        }))
+    fn pair_first(&mut self, _: &Card, _client_challenge: &[u8; KEY_BYTES]) -> io::Result<Supply> {
+        Ok(Supply::pair_first(&random()?))
     }
 
-    fn pair_final(&mut self, card: &Card, _client_cryptogram: &[u8; KEY_BYTES]) -> io::Result<Supply> {
-        let salt = random()?;
-        Ok(Supply::pair_final(&PairFinalParts {
-            salt: &salt,
-            pairing_key: &keycard::pairing_key(card.pairing_secret(), &salt).0,
-        }))
+    fn pair_final(&mut self, _: &Card, _client_cryptogram: &[u8; KEY_BYTES]) -> io::Result<Supply> {
+        Ok(Supply::pair_final(&random()?))
     }
 
-    /// The new key is on the disk before the record that names it, and the old one until that is stored.
+    /// The new key waits in memory beside the old one, until it is stored together with the record that names it.
     fn load(&mut self, _: &Card, key: LoadedKey) -> io::Result<Supply> {
         let (key, sent) = match key {
             LoadedKey::Seed(seed) => (Key::of_seed(&self.curve, seed), None),
@@ -102,23 +126,17 @@ impl Host for Keeper {
         if sent.is_some_and(|sent| *sent != public_key) {
             return Ok(Supply::no_load());
         }
-        let uid = keycard::key_uid(&public_key);
-        let mut bytes = [&key.private_key.0[..], key.chain_code.as_ref().map_or(&[], |code| &code.0)].concat();
-        let written = disk::write(&self.folder, &key_file(&uid), &bytes);
-        wipe(&mut bytes);
-        written?;
-        self.wallet.retain(|(other, _)| *other != uid);
-        self.wallet.push((uid, key));
-        Ok(Supply::load(&uid))
+        self.loaded = Some(key);
+        Ok(Supply::load(&public_key))
     }
 
-    fn derive(&mut self, card: &Card, path: &Path) -> io::Result<Supply> {
-        let key = self.key_at(card, path)?;
+    fn derive(&mut self, _: &Card, path: &Path) -> io::Result<Supply> {
+        let key = self.key_at(path)?;
         Ok(key.map_or(Supply::no_derive(), |_| Supply::derive()))
     }
 
     fn sign(&mut self, card: &Card, hash: &[u8; HASH_BYTES]) -> io::Result<Supply> {
-        let key = self.key_at(card, card.current_path())?.map(|key| key.private_key);
+        let key = self.key_at(card.current_path())?.map(|key| key.private_key);
         let parts = key.and_then(|key| Some((self.curve.public_key(&key)?, self.curve.sign(&key, hash)?)));
         let (public_key, (r, s)) = parts.ok_or(io::Error::other("no signature"))?;
         Ok(Supply::sign(&SignParts {
@@ -128,8 +146,8 @@ impl Host for Keeper {
         }))
     }
 
-    fn export(&mut self, card: &Card, path: &Path, keys: ExportedKeys) -> io::Result<Supply> {
-        let key = self.key_at(card, path)?.map(|key| key.private_key);
+    fn export(&mut self, _: &Card, path: &Path, keys: ExportedKeys) -> io::Result<Supply> {
+        let key = self.key_at(path)?.map(|key| key.private_key);
         let both = key.and_then(|key| Some((self.curve.public_key(&key)?, key)));
         Ok(both.map_or(Supply::no_export(), |(public_key, key)| {
             Supply::export(&ExportParts {
@@ -139,10 +157,24 @@ impl Host for Keeper {
         }))
     }
 
-    /// The record first; then keys that it does not name go: those that LOAD has replaced or REMOVE removed, and what a power cut left.
+    /// LOAD has brought another key, or REMOVE has removed it: the file has the record and its key, or is as it was.
     fn store(&mut self, card: &Card, record: &[u8]) -> io::Result<()> {
-        disk::write(&self.folder, RECORD_FILE, record)?;
-        self.wallet.retain(|(uid, _)| uid == card.key_uid());
-        disk::keep_only(&self.folder, &[RECORD_FILE, CARD_KEY_FILE, &key_file(card.key_uid())])
+        if let Some(key) = self.loaded.take() {
+            self.wallet = Some(key); // where `load` gave a public key, LOAD has answered 9000
+        }
+        if card.key_kind() == Some(KeyKind::None) {
+            self.wallet = None;
+        }
+        let zeros = [0; KEY_BYTES];
+        let private_key = self.wallet.as_ref().map_or(&zeros, |key| &key.private_key.0);
+        let chain_code = self
+            .wallet
+            .as_ref()
+            .and_then(|key| key.chain_code.as_ref())
+            .map_or(&zeros, |code| &code.0);
+        let mut bytes = [&self.card_key.0[..], private_key, chain_code, record].concat();
+        let written = disk::write(&self.folder, CARD_FILE, &bytes);
+        wipe(&mut bytes);
+        written
     }
 }

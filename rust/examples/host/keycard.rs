@@ -1,4 +1,5 @@
-//! What both ends work out alike, from the table of docs/INTEGRATION.md, 5.1. Lengths are in bytes.
+//! Keycard's derivations, from the table of docs/INTEGRATION.md, 5.1. The channel's keys both ends work out alike; the others are the terminal's,
+//! as the card works them out itself. Lengths are in bytes.
 
 use treadlewisp::{wipe, KEY_BYTES, PUBLIC_KEY_BYTES};
 
@@ -22,7 +23,7 @@ pub fn channel_keys(ecdh_secret: &Secret, pairing_key: &[u8; KEY_BYTES], salt: &
     keys
 }
 
-/// LOAD: the key's UID.
+/// LOAD: the key's UID, for a terminal that compares it.
 pub fn key_uid(public_key: &[u8; PUBLIC_KEY_BYTES]) -> [u8; KEY_BYTES] {
     sha256(&[public_key])
 }

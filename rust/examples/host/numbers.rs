@@ -1,5 +1,5 @@
-//! The numbers of docs/INTEGRATION.md, 5.3, which were worked out by other programs. Both ends of this example share host/curve.rs and
-//! host/keycard.rs, so they would agree with each other on wrong numbers too. Lengths are in bytes.
+//! The numbers of docs/INTEGRATION.md, 5.3, which were worked out by other programs. Both ends of this example share host/curve.rs and the
+//! channel's keys of host/keycard.rs, so they would agree with each other on wrong ones too. Lengths are in bytes.
 
 use treadlewisp::KEY_BYTES;
 

@@ -118,6 +118,12 @@ impl Terminal {
         self.succeed(wire, &command)
     }
 
+    /// LOAD: the key's UID, as the card has worked it out.
+    pub fn load(&mut self, wire: &mut impl Wire, key: &LoadedKey) -> Outcome<[u8; KEY_BYTES]> {
+        let answer = succeeded(self.send(wire, &ChannelCommand::load(key))?)?;
+        Ok(answer.data().try_into()?)
+    }
+
     /// SIGN: the signature and its public key, once it is found right.
     pub fn sign(&mut self, wire: &mut impl Wire, hash: &[u8; HASH_BYTES]) -> Outcome<Signed> {
         let answer = succeeded(self.send(wire, &ChannelCommand::sign(hash))?)?;
@@ -134,9 +140,17 @@ impl Terminal {
         }
     }
 
-    /// EXPORT: the public key of the current path.
+    /// EXPORT: the public key of this path, and of the current path.
+    pub fn export_public_at(&mut self, wire: &mut impl Wire, path: &Path) -> Outcome<[u8; PUBLIC_KEY_BYTES]> {
+        self.exported(wire, &ChannelCommand::export(path, ExportedKeys::Public))
+    }
+
     pub fn export_public(&mut self, wire: &mut impl Wire) -> Outcome<[u8; PUBLIC_KEY_BYTES]> {
-        let answer = succeeded(self.send(wire, &ChannelCommand::export_current(ExportedKeys::Public))?)?;
+        self.exported(wire, &ChannelCommand::export_current(ExportedKeys::Public))
+    }
+
+    fn exported(&mut self, wire: &mut impl Wire, command: &ChannelCommand) -> Outcome<[u8; PUBLIC_KEY_BYTES]> {
+        let answer = succeeded(self.send(wire, command)?)?;
         let template = field(answer.data(), 0xA1).ok_or("EXPORT: no template")?.content;
         Ok(field(template, 0x80).ok_or("EXPORT: no public key")?.content.try_into()?)
     }

@@ -58,11 +58,11 @@ impl Host for Desk {
         self.made(SupplyKind::Mutual, format!("mutual {}", random[0]))
     }
     fn pair_first(&mut self, card: &Card, challenge: &[u8; KEY_BYTES]) -> Result<Supply, Self::Error> {
-        assert_eq!(card.pairing_secret(), &PAIRING_SECRET);
+        assert!(!card.is_pairing_pending());
         self.made(SupplyKind::PairFirst, format!("pair first {}", challenge[0]))
     }
     fn pair_final(&mut self, card: &Card, cryptogram: &[u8; KEY_BYTES]) -> Result<Supply, Self::Error> {
-        assert!(card.is_pairing_pending() && cryptogram == &CRYPTOGRAM);
+        assert!(card.is_pairing_pending() && cryptogram == &client_cryptogram());
         self.made(SupplyKind::PairFinal, "pair final".into())
     }
     fn load(&mut self, _: &Card, key: LoadedKey) -> Result<Supply, Self::Error> {

@@ -1,9 +1,12 @@
-//! A card with its terminal and its host, for the tests. Lengths are in bytes. INIT's data are enciphered by the plain AES of outside/.
+//! A card with its terminal and its host, for the tests. Lengths are in bytes. INIT's data are enciphered by the plain AES of outside/, and what
+//! a client hashes is hashed by the plain SHA-256 of outside/, so that the tests need neither the feature `sha256` nor the engine's own hash.
 
 #![allow(dead_code)]
 
 #[path = "../../../outside/ciphers/plain.rs"]
 pub mod plain;
+#[path = "../../../outside/hashes/plain.rs"]
+pub mod plain_hash;
 
 use plain::Aes;
 use treadlewisp::*;
@@ -14,21 +17,44 @@ pub const PIN: &[u8; PIN_BYTES] = b"024680";
 pub const WRONG_PIN: &[u8; PIN_BYTES] = b"024681";
 pub const PUK: &[u8; PUK_BYTES] = b"918273645546";
 pub const PAIRING_SECRET: [u8; KEY_BYTES] = [0x51; KEY_BYTES];
-pub const PAIRING_KEY: [u8; KEY_BYTES] = [0x52; KEY_BYTES];
-pub const CRYPTOGRAM: [u8; KEY_BYTES] = [0x53; KEY_BYTES];
 pub const ENC_KEY: [u8; KEY_BYTES] = [0x61; KEY_BYTES];
 pub const MAC_KEY: [u8; KEY_BYTES] = [0x62; KEY_BYTES];
 pub const SEED_IV: [u8; IV_BYTES] = [0x63; IV_BYTES];
-pub const KEY_UID: [u8; KEY_BYTES] = [0x71; KEY_BYTES];
 pub const PRIVATE_KEY: [u8; KEY_BYTES] = [0x72; KEY_BYTES];
 const INIT_KEY: [u8; KEY_BYTES] = [0x81; KEY_BYTES];
 const INIT_IV: [u8; IV_BYTES] = [0x82; IV_BYTES];
-const SALT: [u8; KEY_BYTES] = [0x91; KEY_BYTES];
+/// The salt, of PAIR and of OPEN.
+pub const SALT: [u8; KEY_BYTES] = [0x91; KEY_BYTES];
 const RANDOM: [u8; KEY_BYTES] = [0x92; KEY_BYTES];
-const CHALLENGE: [u8; KEY_BYTES] = [0x93; KEY_BYTES];
+/// PAIR's challenges, the client's and the card's.
+pub const CLIENT_CHALLENGE: [u8; KEY_BYTES] = [0x0F; KEY_BYTES];
+pub const CARD_CHALLENGE: [u8; KEY_BYTES] = [0x93; KEY_BYTES];
 
 /// What fills a buffer before a call.
 pub const FILL: u8 = 0xA5;
+
+/// SHA-256 of the parts, joined.
+pub fn hashed(parts: &[&[u8]]) -> [u8; KEY_BYTES] {
+    plain_hash::sha256(&parts.concat())
+}
+
+/// What a client makes of the pairing secret: its cryptogram, the card's, and the pairing key.
+pub fn client_cryptogram() -> [u8; KEY_BYTES] {
+    hashed(&[&PAIRING_SECRET, &CARD_CHALLENGE])
+}
+
+pub fn card_cryptogram() -> [u8; KEY_BYTES] {
+    hashed(&[&PAIRING_SECRET, &CLIENT_CHALLENGE])
+}
+
+pub fn pairing_key() -> [u8; KEY_BYTES] {
+    hashed(&[&PAIRING_SECRET, &SALT])
+}
+
+/// The UID of the key that LOAD's supply names.
+pub fn key_uid() -> [u8; KEY_BYTES] {
+    hashed(&[&POINT])
+}
 
 /// Where a field of this name lies in a card's bytes.
 pub fn place(name: &str) -> std::ops::Range<usize> {
@@ -72,15 +98,21 @@ pub fn supply(kind: SupplyKind) -> Vec<u8> {
         SupplyKind::Init => vec![yes, &INIT_KEY],
         SupplyKind::Open => vec![yes, &ENC_KEY, &MAC_KEY, &SALT, &SEED_IV],
         SupplyKind::Mutual => vec![&RANDOM],
-        SupplyKind::PairFirst => vec![&SALT, &CHALLENGE, &CRYPTOGRAM],
-        SupplyKind::PairFinal => vec![&SALT, &PAIRING_KEY],
-        SupplyKind::Load => vec![yes, &KEY_UID],
+        SupplyKind::PairFirst => vec![&CARD_CHALLENGE],
+        SupplyKind::PairFinal => vec![&SALT],
+        SupplyKind::Load => vec![yes, &POINT],
         SupplyKind::Derive => vec![yes],
         SupplyKind::Sign => vec![&POINT, &[0; 31], &[0x80], &[0; 31], &[0x01]],
         SupplyKind::Export => vec![yes, &POINT, &PRIVATE_KEY],
         other => panic!("no supply of {other} is known here"),
     };
     parts.concat()
+}
+
+/// A field of no bytes in templates, one inside the other, so many deep.
+pub fn nested(depth: u8) -> Vec<u8> {
+    let templates = (0..depth).rev().flat_map(|inner| [0xA1, 2 * inner + 2]);
+    templates.chain([0x80, 0x00]).collect()
 }
 
 /// A response that holds this plaintext, sealed by the plain AES with the session of [`Life::fresh`]. Lr counts the ciphertext and so many
@@ -133,7 +165,7 @@ impl Life {
         let asked = self.card.ask(command, &mut opened).expect("ASK");
         assert!(opened[asked.count..].iter().all(|&b| b == FILL));
         let mut response = vec![FILL; ANSWER_ROOM_BYTES];
-        let count = self.card.answer(command, &supply(asked.kind), &mut response).expect("ANSWER");
+        let count = self.card.answer(command, &supply(asked.kind), &mut response).expect("ANSWER").count;
         assert!(response[count..].iter().all(|&b| b == FILL));
         assert!(self.card.is_sound());
         response.truncate(count);
@@ -177,10 +209,13 @@ impl Life {
 
     /// PAIR, both steps; the first answers cryptogram and challenge, the final one the slot and the salt.
     pub fn pair(&mut self) -> u8 {
-        let first = plain_command(card_header(command::PAIR, command::P1_PAIR_FIRST), &[0x0F; KEY_BYTES]);
-        assert_eq!(self.plain(&first), [&SALT[..], &CHALLENGE, &[0x90, 0x00]].concat());
+        let first = plain_command(card_header(command::PAIR, command::P1_PAIR_FIRST), &CLIENT_CHALLENGE);
+        assert_eq!(
+            self.plain(&first),
+            [&card_cryptogram()[..], &CARD_CHALLENGE, &[0x90, 0x00]].concat()
+        );
         assert!(self.card.is_pairing_pending());
-        let last = plain_command(card_header(command::PAIR, command::P1_PAIR_FINAL), &CRYPTOGRAM);
+        let last = plain_command(card_header(command::PAIR, command::P1_PAIR_FINAL), &client_cryptogram());
         let response = self.plain(&last);
         assert_eq!(response[1..], [&SALT[..], &[0x90, 0x00]].concat());
         assert!(!self.card.is_pairing_pending());
