@@ -64,6 +64,10 @@ impl Side for Model {
     }
 
     fn walk(&mut self, input: &[u8]) -> Told {
-        told(engine::walk(input))
+        let walked = engine::walk(input);
+        Told {
+            refusal: walked.refusal,
+            count: walked.count,
+        }
     }
 }

@@ -11,7 +11,7 @@ pub struct State {
     pub session: [u8; SESSION_BYTES],
 }
 
-/// An implementation. READ tells a count of 0.
+/// An implementation. READ tells a count of 0. No call that is measured has a fault offset, so that none is told.
 pub trait Side {
     fn begin(&mut self, state: &State);
     fn state(&self) -> State;
@@ -46,7 +46,11 @@ impl Side for Library {
     }
 
     fn answer(&mut self, command: &[u8], buffer: &mut [u8]) -> Told {
-        treadlewisp::answer(&mut self.0.card, command, &[], buffer)
+        let answered = treadlewisp::answer(&mut self.0.card, command, &[], buffer);
+        Told {
+            refusal: answered.refusal,
+            count: answered.count,
+        }
     }
 
     fn unseal(&mut self, response: &[u8], buffer: &mut [u8]) -> Told {
@@ -65,6 +69,10 @@ impl Side for Library {
     }
 
     fn walk(&mut self, input: &[u8]) -> Told {
-        treadlewisp::walk(input)
+        let walked = treadlewisp::walk(input);
+        Told {
+            refusal: walked.refusal,
+            count: walked.count,
+        }
     }
 }

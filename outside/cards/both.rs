@@ -1,56 +1,19 @@
 //! Every operation on the model and on the library at once: results, next state, the whole buffer and the bytes around it are held to each
 //! other, and the first difference ends the run. Lengths are in bytes.
 
+use crate::faults::{first_fault, wanted_number};
+use crate::guarded::Guarded;
 use crate::may_occur::{lr_of, name_of, Operation};
 use crate::standing::{standing_after, standing_of, Standing};
 use crate::tally::Tally;
 use outside::ffi::treadlewisp::{self, CARD_BYTES};
 use outside::model::card::{Card, Session, POINT_BYTES, UID_BYTES};
 use outside::model::commands::Name;
-use outside::model::engine::{self, Answered, Asked, Tapped, Told, ASK_ROOM_BYTES};
+use outside::model::engine::{self, Answered, Asked, Tapped, Told, Walked, ASK_ROOM_BYTES};
 use outside::model::message::HEADER_BYTES;
-use outside::model::status::{SHORT_BUFFER, SUCCESS, UNSOUND};
+use outside::model::status::{NOT_REFUSED, SHORT_BUFFER, SUCCESS, UNSOUND};
 use outside::random::Random;
 use std::hint::black_box;
-
-/// Bytes on each side of what the library may write, which no call may change.
-const GUARD_BYTES: usize = 64;
-const GUARD: u8 = 0xa5;
-const ALIGNMENTS: usize = 16;
-
-/// Bytes that the library is given, between guard bytes and at any alignment.
-struct Guarded {
-    bytes: Vec<u8>,
-    start: usize,
-    length: usize,
-}
-
-impl Guarded {
-    fn new(random: &mut Random, content: &[u8]) -> Guarded {
-        let start = GUARD_BYTES + random.below(ALIGNMENTS);
-        let length = content.len();
-        let mut bytes = vec![GUARD; start + length + GUARD_BYTES];
-        bytes[start..start + length].copy_from_slice(content);
-        Guarded { bytes, start, length }
-    }
-
-    fn slice(&mut self) -> &mut [u8] {
-        &mut self.bytes[self.start..self.start + self.length]
-    }
-
-    fn content(&self) -> &[u8] {
-        &self.bytes[self.start..self.start + self.length]
-    }
-
-    fn array<const N: usize>(&self) -> &[u8; N] {
-        self.content().try_into().expect("N bytes")
-    }
-
-    fn is_guarded(&self) -> bool {
-        let end = self.start + self.length;
-        self.bytes[..self.start].iter().chain(&self.bytes[end..]).all(|&b| b == GUARD)
-    }
-}
 
 pub fn hex(bytes: &[u8]) -> String {
     bytes.iter().map(|b| format!("{b:02x}")).collect()
@@ -102,6 +65,18 @@ impl Both {
         if model != library {
             let shown = |r: (u8, u8, usize)| format!("refusal {}, kind {}, count {}", r.0, r.1, r.2);
             self.differ(call, "the result", &shown(model), &shown(library));
+        }
+    }
+
+    /// The fault offset of the model and of the library, beside what is wanted by a way of its own.
+    fn same_offset(&self, call: &Call, wanted: usize, model: usize, library: usize) {
+        if model != wanted || library != wanted {
+            self.differ(
+                call,
+                &format!("the fault offset, which is {wanted}"),
+                &model.to_string(),
+                &library.to_string(),
+            );
         }
     }
 
@@ -215,7 +190,10 @@ impl Both {
                 ("buffer as the model left it", buffer),
             ],
         };
-        self.told(&call, model.told, library);
+        let of_model = (model.told.refusal, 0, model.told.count);
+        self.same_result(&call, of_model, (library.refusal, 0, library.count));
+        let wanted = wanted_number(&before, command, model.told.refusal);
+        self.same_offset(&call, wanted, model.fault_offset, library.fault_offset);
         self.same_bytes(&call, "the card", &treadlewisp::card_bytes(card), &lent);
         self.same_bytes(&call, "the buffer", buffer, &room);
         self.unchanged(&call, &[&given, &supplied]);
@@ -330,16 +308,21 @@ impl Both {
         model
     }
 
-    pub fn walk(&mut self, input: &[u8]) -> Told {
+    pub fn walk(&mut self, input: &[u8]) -> Walked {
         let given = self.guarded(input);
+        let library = treadlewisp::walk(given.content());
         let model = engine::walk(input);
         let call = Call {
             operation: Operation::Walk,
             inputs: vec![("input", input)],
         };
-        self.told(&call, model, treadlewisp::walk(given.content()));
+        self.same_result(&call, (model.refusal, 0, model.count), (library.refusal, 0, library.count));
+        let (refusal, offset) = first_fault(input).unwrap_or((NOT_REFUSED, 0));
+        self.same_result(&call, (refusal, 0, 0), (model.refusal, 0, 0));
+        self.same_offset(&call, offset, model.fault_offset, library.fault_offset);
         self.unchanged(&call, &[&given]);
         self.tally.operation(Operation::Walk, model.refusal);
+        self.tally.walked(model);
         model
     }
 

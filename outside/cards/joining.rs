@@ -1,5 +1,5 @@
 //! Parts joined and resets repeated, on library and model: WALK of accepted parts joined counts the sum of their fields, and with a refused
-//! part after them gives that one's refusal (RULES 9.7); RESET twice is RESET once (RULES 3.9). Lengths are in bytes.
+//! part after them gives that one's refusal, at its offset after them (RULES 9.7); RESET twice is RESET once (RULES 3.9). Lengths are in bytes.
 
 use crate::both::{hex, Both};
 use crate::directed::ready_card;
@@ -9,7 +9,7 @@ use crate::tally::lacking;
 use crate::templates::walk_input;
 use outside::ffi::treadlewisp::card_bytes;
 use outside::model::card::Card;
-use outside::model::engine::Told;
+use outside::model::engine::Walked;
 use outside::model::status::*;
 use outside::random::Random;
 use std::collections::BTreeMap;
@@ -63,12 +63,12 @@ pub fn run(both: &mut Both, seed: u64) {
 }
 
 /// A random input that WALK takes, or one that it refuses.
-fn part(both: &mut Both, random: &mut Random, accepted: bool) -> (Vec<u8>, Told) {
+fn part(both: &mut Both, random: &mut Random, accepted: bool) -> (Vec<u8>, Walked) {
     loop {
         let input = walk_input(random);
-        let told = both.walk(&input);
-        if (told.refusal == NOT_REFUSED) == accepted {
-            return (input, told);
+        let walked = both.walk(&input);
+        if (walked.refusal == NOT_REFUSED) == accepted {
+            return (input, walked);
         }
     }
 }
@@ -77,31 +77,30 @@ fn part(both: &mut Both, random: &mut Random, accepted: bool) -> (Vec<u8>, Told)
 fn join(both: &mut Both, random: &mut Random, met: &mut BTreeMap<Met, usize>) {
     let (mut joined, mut fields) = (Vec::new(), 0);
     for _ in 0..2 + random.below(MOST_PARTS - 1) {
-        let (input, told) = part(both, random, true);
-        if told.count == 0 {
+        let (input, walked) = part(both, random, true);
+        if walked.count == 0 {
             let kind = if input.is_empty() { Met::NoBytes } else { Met::NoFields };
             *met.entry(kind).or_default() += 1;
         }
         joined.extend(input);
-        fields += told.count;
+        fields += walked.count;
     }
-    expect_walk(both, &joined, NOT_REFUSED, fields);
+    expect_walk(both, &joined, (NOT_REFUSED, fields, 0));
     if fields >= MANY_FIELDS {
         *met.entry(Met::ManyFields).or_default() += 1;
     }
-    let (input, told) = part(both, random, false);
+    let (input, walked) = part(both, random, false);
+    let offset = joined.len() + walked.fault_offset;
     joined.extend(input);
-    expect_walk(both, &joined, told.refusal, 0);
-    *met.entry(Met::Refused(told.refusal)).or_default() += 1;
+    expect_walk(both, &joined, (walked.refusal, 0, offset));
+    *met.entry(Met::Refused(walked.refusal)).or_default() += 1;
 }
 
-fn expect_walk(both: &mut Both, input: &[u8], refusal: u8, count: usize) {
-    let told = both.walk(input);
-    if (told.refusal, told.count) != (refusal, count) {
-        println!(
-            "JOINED PARTS gave {told:?} instead of refusal {refusal}, {count} fields: {}",
-            hex(input)
-        );
+/// Refusal, number of fields and fault offset.
+fn expect_walk(both: &mut Both, input: &[u8], wanted: (u8, usize, usize)) {
+    let walked = both.walk(input);
+    if (walked.refusal, walked.count, walked.fault_offset) != wanted {
+        println!("JOINED PARTS gave {walked:?} instead of {wanted:?}: {}", hex(input));
         std::process::exit(1);
     }
 }

@@ -1,13 +1,18 @@
 //! The proved library beside the plain model of the rules, over the C boundary: the rows to settle, sweeps, every way to keep or lose a
-//! verified PIN, every way to export a key, tap records, pairing slots, whole lives of cards, and the two runs of demand 3. The first
-//! difference ends the run with a status that is not 0, and so does a row of the tables that never occurred, or an answer that they do not
-//! have.
+//! verified PIN, every way to export a key, tap records, pairing slots, what PAIR and LOAD hash, where a template's fault lies, whole lives of
+//! cards, and the two runs of demand 3. The first difference ends the run with a status that is not 0, and so does a row of the tables that
+//! never occurred, or an answer that they do not have.
 
 mod both;
 mod directed;
 mod exports;
+mod fault_places;
+mod faults;
+mod guarded;
+mod hashing;
 mod host;
 mod joining;
+mod keypairs;
 mod lives;
 mod may_occur;
 mod pairs;
@@ -15,6 +20,7 @@ mod paths;
 mod records;
 mod requests;
 mod second_client;
+mod sending;
 mod settled_rows;
 mod slot_fields;
 mod slots;
@@ -94,6 +100,8 @@ fn main() {
     tap_fields::run(&mut both, options.seed);
     slots::run(&mut both, options.seed);
     slot_fields::run(&mut both, options.seed);
+    hashing::run(&mut both, options.seed);
+    fault_places::run(&mut both, options.seed);
     let mut lives = 0;
     while both.tally.calls() < options.calls / 100 * (100 - PAIRS_PERCENT) {
         lives::live(&mut both, options.seed, lives);

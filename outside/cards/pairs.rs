@@ -2,11 +2,14 @@
 //! both compare, the outcomes are alike; then everything that the calls give is the same, and the cards still agree in all but PIN and PUK.
 
 use crate::both::{hex, Both};
-use crate::directed::{self, Trial};
+use crate::directed::{self, ready_card, Trial};
 use crate::exports::{self, Call};
 use crate::host::{room, short_room, supply_for, supply_of, Way};
+use crate::keypairs::{nested, Template, BROKEN};
 use crate::may_occur::{every_exported, every_supplied, name_of, situation_of, Operation, Situation};
 use crate::paths::path_at;
+use crate::requests::Request;
+use crate::sending::sealed;
 use crate::states::sound_card;
 use crate::tally::{every_row, lacking, Row};
 use crate::terminal::Terminal;
@@ -165,6 +168,31 @@ pub fn directed(both: &mut Both, done: &mut Done, seed: u64) {
         agree(both, &two);
     }
     directed_exports(both, random, done);
+    directed_faults(both, random, done);
+}
+
+/// LOAD with each P1 and a fault at each tag of a template, too deep or not, on two cards with different PIN and PUK.
+fn directed_faults(both: &mut Both, random: &mut Random, done: &mut Done) {
+    for (p1, with_public_key) in [0x01, 0x02, 0x03].iter().flat_map(|&p1| [(p1, false), (p1, true)]) {
+        let template = Template::of(random, p1, with_public_key);
+        let mut broken = vec![[&template.bytes[..], &BROKEN].concat(), nested(5, &[]), template.bytes.clone()];
+        for &tag in &template.tags {
+            let mut data = template.bytes.clone();
+            data[tag + 1] = 0xff;
+            broken.push(data);
+        }
+        for data in broken {
+            let card = ready_card(random, Situation::Authenticated);
+            let command = sealed(&card, &Request::new(Name::Load, p1, &data));
+            let mut two = twins(random, card, true, true);
+            done.pairs += 1;
+            ask_both(both, random, done, &two, &command);
+            let supply = supply_for(random, &two.first, &command, &[0; 32], Way::Right);
+            let buffer = room(random, ANSWER_ROOM_BYTES);
+            answer_both(both, done, &mut two, &command, &supply, buffer);
+            agree(both, &two);
+        }
+    }
 }
 
 /// EXPORT with each P1 and P2 and each place of the path on two cards with different PIN and PUK, with every way of one supply for both.
@@ -216,6 +244,7 @@ fn answer_both(both: &mut Both, done: &mut Done, two: &mut Two, command: &[u8], 
     let of_first = both.answer(&mut two.first, command, supply, &mut first);
     let of_second = both.answer(&mut two.second, command, supply, &mut second);
     same(both, of_first.told == of_second.told, "ANSWER's refusal and count");
+    same(both, of_first.fault_offset == of_second.fault_offset, "ANSWER's number");
     same(both, first == second, "ANSWER's buffer");
     done.refusal(Operation::Answer, of_first.told.refusal);
     if let Some(status) = of_first.status {

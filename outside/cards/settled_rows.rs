@@ -3,6 +3,7 @@
 //! 6.19). Lengths are in bytes.
 
 use crate::both::{hex, Both};
+use outside::hashes::plain::sha256;
 use outside::model::card::{Card, Session};
 use outside::model::engine::{ANSWER_ROOM_BYTES, SEAL_ROOM_BYTES, UNSEAL_ROOM_BYTES};
 use outside::model::message::{encrypt, pad, unpad, HEADER_BYTES};
@@ -57,14 +58,15 @@ impl Script<'_> {
         let content = encrypt(&key, &iv, &pad(&[PIN, PUK, &secret].concat()));
         let point = [&[0x04], &random.bytes(64)[..]].concat();
         let init = [&[0x80, 0xfe, 0x00, 0x00, 146, 0x41], &point[..], &iv, &content].concat();
-        let expected: [u8; 32] = array(random);
+        let challenge: [u8; 32] = array(random);
+        let cryptogram = sha256(&[secret, challenge].concat());
         let first = [&[0x80, 0x12, 0x00, 0x00, 32], &random.bytes(32)[..]].concat();
-        let last = [&[0x80, 0x12, 0x01, 0x00, 32], &expected[..]].concat();
+        let last = [&[0x80, 0x12, 0x01, 0x00, 32], &cryptogram[..]].concat();
         let open = [&[0x80, 0x10, 0x00, 0x00, 65], &point[..]].concat();
         let keys = random.bytes(112);
         self.succeeds(&init, &[&[1], &key[..]].concat(), 0);
-        self.succeeds(&first, &[&random.bytes(64), &expected[..]].concat(), 64);
-        self.succeeds(&last, &random.bytes(64), 33);
+        self.succeeds(&first, &challenge, 64);
+        self.succeeds(&last, &random.bytes(32), 33);
         self.succeeds(&open, &[&[1], &keys[..]].concat(), 48);
         self.session = self.card.session;
         let opened = self.sealed([0x80, 0x11, 0x00, 0x00], &random.bytes(32), &random.bytes(32));
@@ -94,9 +96,9 @@ impl Script<'_> {
 
     /// A seed is loaded, and a signature with r = 128 and s = 1 is made.
     fn signature(&mut self, random: &mut Random) {
-        let supply = [&[1], &random.bytes(32)[..]].concat();
+        let supply = [&[1], &random.bytes(65)[..]].concat();
         let opened = self.sealed([0x80, 0xd0, 0x03, 0x00], &random.bytes(64), &supply);
-        row(opened[..] == [&supply[1..], &[0x90, 0x00]].concat(), "LOAD");
+        row(opened[..] == [&sha256(&supply[1..])[..], &[0x90, 0x00]].concat(), "LOAD");
         let mut numbers = [0; 64];
         (numbers[31], numbers[63]) = (128, 1);
         let public_key = random.bytes(65);
@@ -129,7 +131,8 @@ fn rows_without_a_card(both: &mut Both) {
     row(unpad(&[0; 16]).is_none(), "sixteen zeros");
     let told = both.walk(&[0xa1, 0x00]);
     row((told.refusal, told.count) == (0, 0), "WALK of A1 00");
-    row(both.walk(&[0x80, 0x81, 0x05]).refusal == 4, "WALK of 80 81 05");
+    let walked = both.walk(&[0x80, 0x81, 0x05]);
+    row((walked.refusal, walked.fault_offset) == (4, 0), "WALK of 80 81 05");
 }
 
 pub fn run(both: &mut Both, seed: u64) {

@@ -9,6 +9,7 @@ use crate::records::SLOTS_NOW;
 use crate::requests::{point, right, Request};
 use crate::states::random_session;
 use outside::ciphers::plain::BLOCK_BYTES;
+use outside::hashes::plain::sha256;
 use outside::model::card::*;
 use outside::model::commands::{Name, FOR_OPEN, FOR_PAIR_FINAL};
 use outside::model::engine::*;
@@ -143,21 +144,20 @@ fn pair(both: &mut Both, random: &mut Random, card: &mut Card, p1: u8) -> (Optio
     (answered.status, answer[0])
 }
 
-/// Both steps of a pairing: it fills the slot with this index, with the key of the supply, and no other.
+/// Both steps of a pairing: it fills the slot with this index, with the hash of pairing secret and salt, and no other.
 fn pairs_into(both: &mut Both, random: &mut Random, card: &mut Card, wanted: usize) {
     let before = card.slots;
     let first = pair(both, random, card, 0x00);
-    let key = random.bytes(32);
-    let supply = [&random.bytes(32)[..], &key].concat();
+    let salt = random.bytes(32);
     let command = Request::new(Name::Pair, 0x01, &card.expected).plain();
     let asked = both.ask(card, &command, &mut room(random, ASK_ROOM_BYTES));
     let mut answer = room(random, ANSWER_ROOM_BYTES);
-    let last = both.answer(card, &command, &supply, &mut answer);
+    let last = both.answer(card, &command, &salt, &mut answer);
     let is_paired = first.0 == Some(SUCCESS) && asked.kind == FOR_PAIR_FINAL && last.status == Some(SUCCESS);
     let mut slots = before;
     slots[wanted] = Slot {
         filled: YES,
-        key: key.try_into().expect("32 bytes"),
+        key: sha256(&[&card.pairing_secret, &salt[..]].concat()),
     };
     if !is_paired || usize::from(answer[0]) != wanted || card.slots != slots {
         fail(&format!("PAIR gave {last:x?} instead of the slot {wanted}"), &answer);

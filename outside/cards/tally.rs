@@ -1,11 +1,12 @@
 //! How often each operation was called and what came of it, beside the tables of what can occur: a row that never occurred is missing, and
 //! an answer that has no row is one too many.
 
+use crate::faults::{every_loaded, far, loaded, Far, Loaded, EVERY_FAR};
 use crate::may_occur::*;
 use crate::standing::{every_verified_row, Standing, VerifiedRow, PASSAGES};
 use outside::model::card::Card;
 use outside::model::commands::{Comparison, Name};
-use outside::model::engine::{Answered, Asked, Source};
+use outside::model::engine::{Answered, Asked, Source, Walked};
 use outside::model::status::*;
 use std::collections::BTreeMap;
 use std::fmt::Debug;
@@ -43,6 +44,10 @@ pub struct Tally {
     taps: BTreeMap<(Recorded, (u8, Source)), usize>,
     /// Successes that have to do with the slots.
     slots: BTreeMap<Slotted, usize>,
+    /// Status words of LOAD past its PIN, by P1 and the fault of the data.
+    loads: BTreeMap<Loaded, usize>,
+    /// WALK's refusals by how far the fault is.
+    walks: BTreeMap<(u8, Far), usize>,
     /// Supplies by the kind that was read.
     supplies: BTreeMap<(u8, Supplied), usize>,
 }
@@ -70,6 +75,13 @@ impl Tally {
     /// What the tap read gave for this record.
     pub fn tap(&mut self, record: &[u8], refusal: u8, source: Source) {
         *self.taps.entry((recorded(record), (refusal, source))).or_default() += 1;
+    }
+
+    /// The fault that WALK found, if it did.
+    pub fn walked(&mut self, walked: Walked) {
+        if walked.refusal != NOT_REFUSED {
+            *self.walks.entry((walked.refusal, far(walked.fault_offset))).or_default() += 1;
+        }
     }
 
     /// A call that this card, as it was before, did not refuse as unsound.
@@ -102,6 +114,9 @@ impl Tally {
         *self.forms.entry((situation, form_of(command))).or_default() += 1;
         if let Some(exported) = exported(card, command) {
             *self.exports.entry((exported, status)).or_default() += 1;
+        }
+        if let Some(loaded) = loaded(card, command, status) {
+            *self.loads.entry(loaded).or_default() += 1;
         }
         let slotted = slotted(card, command).filter(|_| status == SUCCESS);
         if let Some(slotted) = slotted {
@@ -161,6 +176,8 @@ impl Tally {
             ));
         }
         missing.extend(lacking("slots", &self.slots, every_slotted()));
+        missing.extend(lacking("load", &self.loads, every_loaded()));
+        missing.extend(lacking("fault of a walk", &self.walks, EVERY_FAR));
         missing.extend(lacking(
             "tap read",
             &self.taps,
@@ -176,7 +193,7 @@ impl Tally {
         missing
     }
 
-    /// Answers, passages, kinds, opened responses and slots that the tables do not have.
+    /// Answers, passages, kinds, opened responses, slots, loads and faults that the tables do not have.
     pub fn too_many(&self) -> Vec<String> {
         let rows = every_row();
         let answers = self
@@ -205,6 +222,11 @@ impl Tally {
         let can_slot = every_slotted();
         let slots = self.slots.keys().filter(|row| !can_slot.contains(row));
         let slots = slots.map(|row| format!("slots {row:?}"));
+        let can_load = every_loaded();
+        let loads = self.loads.keys().filter(|row| !can_load.contains(row));
+        let loads = loads.map(|row| format!("load {row:x?}"));
+        let walks = self.walks.keys().filter(|row| !EVERY_FAR.contains(row));
+        let walks = walks.map(|row| format!("fault of a walk {row:?}"));
         answers
             .chain(verified)
             .chain(passed)
@@ -213,6 +235,8 @@ impl Tally {
             .chain(exported)
             .chain(tapped)
             .chain(slots)
+            .chain(loads)
+            .chain(walks)
             .collect()
     }
 
@@ -267,6 +291,15 @@ impl Tally {
             print_part(&self.taps, recorded);
         }
         println!("slots: {}", listed(shown(&self.slots)));
+        println!("LOAD past its PIN, by P1, the fault of its data, and status word:");
+        for (p1, fault, status) in every_loaded() {
+            let count = self.loads.get(&(p1, fault, status)).unwrap_or(&0);
+            println!(
+                "  {p1:02x} {:<9}{status:04x}: {count}",
+                fault.map_or("none".to_string(), |fault| fault.to_string())
+            );
+        }
+        println!("faults that WALK found, by how far they are: {}", listed(shown(&self.walks)));
         println!("EXPORT past its data, by P1, P2 and the place of the path:");
         for exported in every_exported() {
             let of_it = self.exports.iter().filter(|((e, _), _)| *e == exported);

@@ -21,6 +21,24 @@ pub struct Told {
     pub count: usize,
 }
 
+/// ANSWER's; `fault_offset` is 255 where there is none.
+#[repr(C)]
+#[derive(Clone, Copy, PartialEq, Eq, Debug)]
+pub struct Answered {
+    pub refusal: u8,
+    pub count: usize,
+    pub fault_offset: usize,
+}
+
+/// WALK's; `count` is in fields, and `fault_offset` is 0 where it does not refuse.
+#[repr(C)]
+#[derive(Clone, Copy, PartialEq, Eq, Debug)]
+pub struct Walked {
+    pub refusal: u8,
+    pub count: usize,
+    pub fault_offset: usize,
+}
+
 /// The tap read's part; `source` is 0 for none, 1 for the stored record and 2 for the factory record.
 #[repr(C)]
 #[derive(Clone, Copy, PartialEq, Eq, Debug)]
@@ -32,7 +50,7 @@ pub struct Tapped {
 }
 
 mod c {
-    use super::{Asked, Tapped, Told};
+    use super::{Answered, Asked, Tapped, Told, Walked};
 
     extern "C" {
         pub fn tw_fresh(card: *mut u8, uid: *const u8, public_key: *const u8);
@@ -47,10 +65,10 @@ mod c {
             supply_bytes: usize,
             buf: *mut u8,
             buf_bytes: usize,
-        ) -> Told;
+        ) -> Answered;
         pub fn tw_seal(session: *mut u8, header: *const u8, data: *const u8, data_bytes: usize, buf: *mut u8, buf_bytes: usize) -> Told;
         pub fn tw_unseal(session: *mut u8, response: *const u8, response_bytes: usize, buf: *mut u8, buf_bytes: usize) -> Told;
-        pub fn tw_walk(input: *const u8, input_bytes: usize) -> Told;
+        pub fn tw_walk(input: *const u8, input_bytes: usize) -> Walked;
         pub fn tw_write(card: *const u8, buf: *mut u8, buf_bytes: usize) -> Told;
         pub fn tw_read(card: *mut u8, record: *const u8, record_bytes: usize) -> u8;
         pub fn tw_tap(record: *const u8, record_bytes: usize, factory: *const u8, factory_bytes: usize) -> Tapped;
@@ -93,7 +111,7 @@ pub fn ask(card: &[u8], command: &[u8], buffer: &mut [u8]) -> Asked {
     }
 }
 
-pub fn answer(card: &mut [u8], command: &[u8], supply: &[u8], buffer: &mut [u8]) -> Told {
+pub fn answer(card: &mut [u8], command: &[u8], supply: &[u8], buffer: &mut [u8]) -> Answered {
     unsafe {
         c::tw_answer(
             writable(card, CARD_BYTES),
@@ -132,7 +150,7 @@ pub fn unseal(session: &mut [u8], response: &[u8], buffer: &mut [u8]) -> Told {
     }
 }
 
-pub fn walk(input: &[u8]) -> Told {
+pub fn walk(input: &[u8]) -> Walked {
     unsafe { c::tw_walk(input.as_ptr(), input.len()) }
 }
 

@@ -1,9 +1,10 @@
-//! The order of checks for a command (RULES 5 and 6), and the commands that are plain in every stage: SELECT, INIT, OPEN and PAIR.
-//! A command changes the card that it is given; lengths are in bytes.
+//! The order of checks for a command (RULES 5 and 6), and the commands that are plain in every stage: SELECT, INIT and OPEN here, PAIR in a
+//! file of its own. A command changes the card that it is given; lengths are in bytes.
 
 use super::card::*;
 use super::cipher::{Block, Key, BLOCK_BYTES, KEY_BYTES};
 use super::message::{decrypt, unpad, HEADER_BYTES};
+use super::pairing::pair;
 use super::sealed_commands;
 use super::status::*;
 use super::template::field;
@@ -73,9 +74,9 @@ static SUPPLIES: [Supply; 9] = [
     supply(FOR_INIT, 33, true),
     supply(FOR_OPEN, 113, true),
     supply(FOR_MUTUAL, 32, false),
-    supply(FOR_PAIR_FIRST, 96, false),
-    supply(FOR_PAIR_FINAL, 64, false),
-    supply(FOR_LOAD, 33, true),
+    supply(FOR_PAIR_FIRST, 32, false),
+    supply(FOR_PAIR_FINAL, 32, false),
+    supply(FOR_LOAD, 66, true),
     supply(FOR_DERIVE, 1, true),
     supply(FOR_SIGN, 129, false),
     supply(FOR_EXPORT, 98, true),
@@ -102,18 +103,26 @@ pub enum Comparison {
     Puk(bool),
 }
 
-/// An answer: response data and status word, sealed or plain, and the comparison that was made for it.
+/// An answer: response data and status word, sealed or plain, the comparison that was made for it, and the offset of the faulty field where
+/// LOAD's data are such as WALK refuses.
 pub struct Reply {
     pub status: u16,
     pub data: Vec<u8>,
     pub sealed: bool,
     pub comparison: Option<Comparison>,
+    pub fault_offset: Option<usize>,
 }
 
-/// What ends a command before its success: a status word, ASK at the supply that ANSWER would read, or ANSWER at a wrong one.
+/// What ends a command before its success: a status word, a fault that WALK finds in LOAD's data, ASK at the supply that ANSWER would read, or
+/// ANSWER at a wrong one.
 pub enum End {
     Status(u16),
-    Wants { kind: u8, data: Vec<u8> },
+    /// 6A80; the offset of the faulty field's tag in the opened data.
+    FaultAt(usize),
+    Wants {
+        kind: u8,
+        data: Vec<u8>,
+    },
     WrongSupply,
 }
 
@@ -145,6 +154,7 @@ impl Reply {
             data,
             sealed: false,
             comparison: None,
+            fault_offset: None,
         }
     }
 
@@ -169,6 +179,10 @@ pub fn require(holds: bool, status: u16) -> Result<(), End> {
 pub fn settled(outcome: Outcome) -> Outcome {
     match outcome {
         Err(End::Status(status)) => Ok(Reply::of_status(status)),
+        Err(End::FaultAt(offset)) => Ok(Reply {
+            fault_offset: Some(offset),
+            ..Reply::of_status(WRONG_DATA)
+        }),
         other => other,
     }
 }
@@ -344,45 +358,6 @@ fn open(card: &mut Card, apdu: &Apdu, caller: &Caller) -> Outcome {
 
 fn is_point(data: &[u8]) -> bool {
     data.len() == POINT_BYTES && data[0] == POINT_START
-}
-
-fn pair(card: &mut Card, apdu: &Apdu, caller: &Caller) -> Outcome {
-    let is_final = apdu.p1() == 0x01;
-    let was_pending = card.pending == YES;
-    let expected = card.expected;
-    if is_final {
-        card.forget_pending();
-    }
-    require_p1(apdu, &[0x00, 0x01])?;
-    require(!is_final || was_pending, WRONG_P1_P2)?;
-    require(card.stage != AUTHENTICATED, CONDITIONS_NOT_SATISFIED)?;
-    require(apdu.data.len() == CRYPTOGRAM_BYTES, WRONG_DATA)?;
-    let free = card.first_free_slot().ok_or(End::Status(NO_SPACE))?;
-    if is_final {
-        pair_final(card, apdu.data, &expected, free, caller)
-    } else {
-        pair_first(card, apdu.data, caller)
-    }
-}
-
-fn pair_first(card: &mut Card, data: &[u8], caller: &Caller) -> Outcome {
-    let supply = caller.supply(FOR_PAIR_FIRST, data)?;
-    let (answer, expected) = supply.split_at(supply.len() - CRYPTOGRAM_BYTES);
-    card.pending = YES;
-    card.expected.copy_from_slice(expected);
-    Ok(Reply::success(answer.to_vec()))
-}
-
-/// A pending pairing has a free slot, so the card is not full here.
-fn pair_final(card: &mut Card, data: &[u8], expected: &[u8], free: usize, caller: &Caller) -> Outcome {
-    require(data == expected, SECURITY_NOT_SATISFIED)?;
-    let supply = caller.supply(FOR_PAIR_FINAL, data)?;
-    let (salt, pairing_key) = supply.split_at(SALT_BYTES);
-    card.slots[free] = Slot {
-        filled: YES,
-        key: key(pairing_key),
-    };
-    Ok(Reply::success([&[free as u8], salt].concat()))
 }
 
 fn key(bytes: &[u8]) -> Key {

@@ -14,6 +14,9 @@ pub const SEAL_ROOM_BYTES: usize = 261;
 pub const UNSEAL_ROOM_BYTES: usize = 223;
 pub const WRITE_ROOM_BYTES: usize = 773;
 
+/// ANSWER's number where there is no fault offset: opened data have at most 223 bytes.
+pub const NO_FAULT: usize = 255;
+
 #[derive(Clone, Copy, PartialEq, Eq, Debug)]
 pub struct Asked {
     pub refusal: u8,
@@ -48,10 +51,20 @@ pub struct Tapped {
     pub length: usize,
 }
 
-/// What ANSWER tells, and beside it what it decided: the status word, whether it was sealed, and the comparison that was made.
+/// What WALK tells: the number of fields, and the offset of the faulty field's tag where it refuses, else 0.
+#[derive(Clone, Copy, PartialEq, Eq, Debug)]
+pub struct Walked {
+    pub refusal: u8,
+    pub count: usize,
+    pub fault_offset: usize,
+}
+
+/// What ANSWER tells, its number among it: the offset of the faulty field's tag in the opened data, or 255. Beside it what it decided: the
+/// status word, whether it was sealed, and the comparison that was made.
 #[derive(Clone, Copy, PartialEq, Eq, Debug)]
 pub struct Answered {
     pub told: Told,
+    pub fault_offset: usize,
     pub status: Option<u16>,
     pub sealed: bool,
     pub comparison: Option<Comparison>,
@@ -104,6 +117,7 @@ pub fn ask(card: &Card, command: &[u8], buffer: &mut [u8]) -> Asked {
 pub fn answer(card: &mut Card, command: &[u8], supply: &[u8], buffer: &mut [u8]) -> Answered {
     let nothing = |refusal| Answered {
         told: refused(refusal),
+        fault_offset: NO_FAULT,
         status: None,
         sealed: false,
         comparison: None,
@@ -125,6 +139,7 @@ pub fn answer(card: &mut Card, command: &[u8], supply: &[u8], buffer: &mut [u8])
     *card = next;
     Answered {
         told: put(buffer, &response),
+        fault_offset: reply.fault_offset.unwrap_or(NO_FAULT),
         status: Some(reply.status),
         sealed: reply.sealed,
         comparison: reply.comparison,
@@ -151,13 +166,15 @@ pub fn unseal(session: &mut Session, response: &[u8], buffer: &mut [u8]) -> Told
     }
 }
 
-pub fn walk(input: &[u8]) -> Told {
+pub fn walk(input: &[u8]) -> Walked {
+    let walked = |refusal, count, fault_offset| Walked {
+        refusal,
+        count,
+        fault_offset,
+    };
     match template::walk(input) {
-        Ok(count) => Told {
-            refusal: NOT_REFUSED,
-            count,
-        },
-        Err(refusal) => refused(refusal),
+        Ok(count) => walked(NOT_REFUSED, count, 0),
+        Err(fault) => walked(fault.refusal, 0, fault.offset),
     }
 }
 

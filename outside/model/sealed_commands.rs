@@ -3,9 +3,10 @@
 
 use super::card::*;
 use super::commands::*;
+use super::hash::sha256;
 use super::message::open_command;
 use super::status::*;
-use super::template::{der_integer, field, first_field};
+use super::template::{der_integer, field, first_field, walk};
 
 const RANDOM_BYTES: usize = 32;
 const PRIVATE_KEY_BYTES: usize = 32;
@@ -178,18 +179,23 @@ fn unblock(card: &mut Card, data: &[u8]) -> Outcome {
 
 fn load(card: &mut Card, p1: u8, data: &[u8], caller: &Caller) -> Outcome {
     require_pin(card)?;
-    let right = match p1 {
-        0x03 => data.len() == SEED_BYTES,
-        _ => is_key_template(data, p1 == 0x02),
-    };
-    require(right, WRONG_DATA)?;
+    match p1 {
+        0x03 => require(data.len() == SEED_BYTES, WRONG_DATA)?,
+        _ => require_key_template(data, p1 == 0x02)?,
+    }
     let supply = caller.supply(FOR_LOAD, data)?;
     require(supply[0] == YES, WRONG_DATA)?;
     card.key_kind = if p1 == 0x01 { SINGLE_KEY } else { EXTENDED_KEY };
-    card.key_uid.copy_from_slice(&supply[1..]);
+    card.key_uid = sha256(&supply[1..]);
     card.current_path = Path::EMPTY;
     card.pinless_path = Path::EMPTY;
-    Ok(Reply::success(supply[1..].to_vec()))
+    Ok(Reply::success(card.key_uid.to_vec()))
+}
+
+/// The keypair template; the place of a fault is told wherever WALK finds one, whatever else is wrong before it.
+fn require_key_template(data: &[u8], extended: bool) -> Result<(), End> {
+    walk(data).map_err(|fault| End::FaultAt(fault.offset))?;
+    require(is_key_template(data, extended), WRONG_DATA)
 }
 
 /// A1 holding 80 (65 bytes, optional), 81 (32 bytes), and 82 (32 bytes) exactly where extended; nothing else.

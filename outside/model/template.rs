@@ -33,23 +33,33 @@ pub fn first_field(bytes: &[u8]) -> Option<Field<'_>> {
     Some(Field { tag, content, rest })
 }
 
-/// WALK: how many fields are no templates, or the refusal.
-pub fn walk(input: &[u8]) -> Result<usize, u8> {
-    count_fields(input, 1)
+/// Why WALK refuses: the refusal, and how many bytes of the input come before the tag of the faulty field.
+#[derive(Clone, Copy, PartialEq, Eq, Debug)]
+pub struct Fault {
+    pub refusal: u8,
+    pub offset: usize,
 }
 
-/// The fields of one sequence, which are at this depth.
-fn count_fields(sequence: &[u8], depth: usize) -> Result<usize, u8> {
+/// WALK: how many fields are no templates, or the fault.
+pub fn walk(input: &[u8]) -> Result<usize, Fault> {
+    count_fields(input, 0, 1)
+}
+
+/// The fields of one sequence, which are at this depth; so many bytes of the input come before it.
+fn count_fields(sequence: &[u8], before: usize, depth: usize) -> Result<usize, Fault> {
     let mut count = 0;
     let mut left = sequence;
     while !left.is_empty() {
-        let field = first_field(left).ok_or(MALFORMED)?;
+        let offset = before + sequence.len() - left.len();
+        let fault = |refusal| Fault { refusal, offset };
+        let field = first_field(left).ok_or(fault(MALFORMED))?;
         if field.tag & TEMPLATE_BIT == 0 {
             count += 1;
         } else if depth > MAX_DEPTH {
-            return Err(TOO_DEEP);
+            return Err(fault(TOO_DEEP));
         } else {
-            count += count_fields(field.content, depth + 1)?;
+            let head_bytes = left.len() - field.content.len() - field.rest.len();
+            count += count_fields(field.content, offset + head_bytes, depth + 1)?;
         }
         left = field.rest;
     }

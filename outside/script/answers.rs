@@ -38,9 +38,9 @@ pub fn supply_text(kind: u8) -> &'static str {
         1 => "INIT: 33 bytes: flag, AES key 32",
         2 => "OPEN: 113 bytes: flag, enc key 32, MAC key 32, salt 32, IV 16",
         3 => "MUTUAL: 32 bytes: random",
-        4 => "PAIR first: 96 bytes: cryptogram 32, challenge 32, expected client cryptogram 32",
-        5 => "PAIR final: 64 bytes: salt 32, pairing key 32",
-        6 => "LOAD: 33 bytes: flag, key UID 32",
+        4 => "PAIR first: 32 bytes: challenge 32",
+        5 => "PAIR final: 32 bytes: salt 32",
+        6 => "LOAD: 66 bytes: flag, public key 65",
         7 => "DERIVE: 1 byte: flag",
         8 => "SIGN: 129 bytes: public key 65, r 32, s 32",
         9 => "EXPORT: 98 bytes: flag, public key 65, private key 32",
@@ -94,6 +94,14 @@ pub fn card_text(card: &[u8]) -> String {
         length_text(byte("pinless.len").into()),
         length_text(byte("tap.len").into()),
     )
+}
+
+/// Where the faulty field begins, and its tag where the bytes are at hand.
+pub fn fault_text(offset: usize, bytes: Option<&[u8]>) -> String {
+    match bytes {
+        Some(bytes) => format!("  field at byte {offset}: {:02X}", bytes[offset]),
+        None => format!("  field at byte {offset}"),
+    }
 }
 
 pub fn count_text(fields: usize) -> String {

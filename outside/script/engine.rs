@@ -4,7 +4,7 @@
 use outside::ciphers::plain::KEY_BYTES;
 use outside::ffi::treadlewisp::{self, CARD_BYTES, SESSION_BYTES};
 use outside::model::card::{Card, Session, POINT_BYTES, UID_BYTES};
-use outside::model::engine::{self, Asked, Source, Tapped, Told};
+use outside::model::engine::{self, Asked, Source, Tapped, Told, Walked};
 use outside::model::message::HEADER_BYTES;
 
 pub trait Engine {
@@ -19,10 +19,11 @@ pub trait Engine {
     /// RESET's refusal.
     fn reset(&mut self) -> u8;
     fn ask(&self, command: &[u8], buffer: &mut [u8]) -> Asked;
-    fn answer(&mut self, command: &[u8], supply: &[u8], buffer: &mut [u8]) -> Told;
+    /// What ANSWER tells, and its number.
+    fn answer(&mut self, command: &[u8], supply: &[u8], buffer: &mut [u8]) -> (Told, usize);
     fn seal(&mut self, header: [u8; HEADER_BYTES], data: &[u8], buffer: &mut [u8]) -> Told;
     fn unseal(&mut self, response: &[u8], buffer: &mut [u8]) -> Told;
-    fn walk(&self, input: &[u8]) -> Told;
+    fn walk(&self, input: &[u8]) -> Walked;
     fn write(&self, buffer: &mut [u8]) -> Told;
     /// READ's refusal.
     fn read(&mut self, record: &[u8]) -> u8;
@@ -81,8 +82,9 @@ impl Engine for Model {
         engine::ask(&self.card, command, buffer)
     }
 
-    fn answer(&mut self, command: &[u8], supply: &[u8], buffer: &mut [u8]) -> Told {
-        engine::answer(&mut self.card, command, supply, buffer).told
+    fn answer(&mut self, command: &[u8], supply: &[u8], buffer: &mut [u8]) -> (Told, usize) {
+        let answered = engine::answer(&mut self.card, command, supply, buffer);
+        (answered.told, answered.fault_offset)
     }
 
     fn seal(&mut self, header: [u8; HEADER_BYTES], data: &[u8], buffer: &mut [u8]) -> Told {
@@ -93,7 +95,7 @@ impl Engine for Model {
         engine::unseal(&mut self.session, response, buffer)
     }
 
-    fn walk(&self, input: &[u8]) -> Told {
+    fn walk(&self, input: &[u8]) -> Walked {
         engine::walk(input)
     }
 
@@ -170,8 +172,13 @@ impl Engine for Library {
         Asked { refusal, kind, count }
     }
 
-    fn answer(&mut self, command: &[u8], supply: &[u8], buffer: &mut [u8]) -> Told {
-        told(treadlewisp::answer(&mut self.card, command, supply, buffer))
+    fn answer(&mut self, command: &[u8], supply: &[u8], buffer: &mut [u8]) -> (Told, usize) {
+        let treadlewisp::Answered {
+            refusal,
+            count,
+            fault_offset,
+        } = treadlewisp::answer(&mut self.card, command, supply, buffer);
+        (Told { refusal, count }, fault_offset)
     }
 
     fn seal(&mut self, header: [u8; HEADER_BYTES], data: &[u8], buffer: &mut [u8]) -> Told {
@@ -182,8 +189,17 @@ impl Engine for Library {
         told(treadlewisp::unseal(&mut self.session, response, buffer))
     }
 
-    fn walk(&self, input: &[u8]) -> Told {
-        told(treadlewisp::walk(input))
+    fn walk(&self, input: &[u8]) -> Walked {
+        let treadlewisp::Walked {
+            refusal,
+            count,
+            fault_offset,
+        } = treadlewisp::walk(input);
+        Walked {
+            refusal,
+            count,
+            fault_offset,
+        }
     }
 
     fn write(&self, buffer: &mut [u8]) -> Told {

@@ -6,6 +6,8 @@ mod answers;
 mod bytes;
 mod call;
 mod engine;
+#[cfg(test)]
+mod fault_tests;
 mod fields;
 mod lines;
 mod play;

@@ -76,7 +76,7 @@ impl<'a> Player<'a> {
             Call::Reset => self.reset(),
             Call::Ask(command, room) => drop(self.ask(&command, room)),
             Call::Answer(command, supply, room) => {
-                self.answer(&command, &supply, room);
+                self.answer(&command, &supply, room, None);
                 self.say_card();
             }
             Call::Seal(header, data, room) => drop(self.seal(header, &data, room)),
@@ -152,11 +152,15 @@ impl<'a> Player<'a> {
         }
     }
 
-    fn answer(&mut self, command: &[u8], supply: &[u8], room: usize) -> Option<Vec<u8>> {
+    /// The data are those that were sealed, where they are known.
+    fn answer(&mut self, command: &[u8], supply: &[u8], room: usize, data: Option<&[u8]>) -> Option<Vec<u8>> {
         let mut buffer = vec![UNWRITTEN; room];
-        let told = self.engine.answer(command, supply, &mut buffer);
+        let (told, fault_offset) = self.engine.answer(command, supply, &mut buffer);
         let answer = self.told("answer", told, buffer, ANSWER_ROOM_BYTES);
         self.say_status(&answer);
+        if fault_offset != NO_FAULT {
+            self.say(&fault_text(fault_offset, data));
+        }
         answer
     }
 
@@ -181,7 +185,9 @@ impl<'a> Player<'a> {
             return;
         };
         let asked = self.ask(&command, ASK_ROOM_BYTES);
-        let answer = asked.then(|| self.answer(&command, supply, ANSWER_ROOM_BYTES)).flatten();
+        let answer = asked
+            .then(|| self.answer(&command, supply, ANSWER_ROOM_BYTES, Some(data)))
+            .flatten();
         let Some(answer) = answer else {
             self.engine.put_session(&session);
             self.say("  session: as before");
@@ -192,10 +198,13 @@ impl<'a> Player<'a> {
     }
 
     fn walk(&mut self, input: &[u8]) {
-        let told = self.engine.walk(input);
-        match told.refusal {
-            NOT_REFUSED => self.say(&format!("walk: {}", count_text(told.count))),
-            refusal => self.say_refusal("walk", refusal, 0),
+        let walked = self.engine.walk(input);
+        match walked.refusal {
+            NOT_REFUSED => self.say(&format!("walk: {}", count_text(walked.count))),
+            refusal => {
+                self.say_refusal("walk", refusal, 0);
+                self.say(&fault_text(walked.fault_offset, Some(input)));
+            }
         }
     }
 

@@ -21,7 +21,7 @@ fn call(line: &str) -> Call {
 }
 
 /// All that is written for a script, on the model and the same on the library.
-fn played(script: &str) -> String {
+pub fn played(script: &str) -> String {
     let [model, library] = [&mut Model::new() as &mut dyn Engine, &mut Library::new()].map(|engine| {
         let mut player = Player::new(engine);
         assert_eq!(player.play(script.as_bytes()), Ok(()));
@@ -308,12 +308,12 @@ fn the_last_bytes_are_those_that_were_written() {
         &record,
         "\n> write room 772\nwrite: refusal 2, the buffer has fewer than 773 bytes\n> read last\nread: done\n",
         CARD_OF_ZEROS,
-        "> ask 80F20000\nask: kind 0, no supply is read\n> walk last\nwalk: refusal 4, malformed\n",
+        "> ask 80F20000\nask: kind 0, no supply is read\n> walk last\nwalk: refusal 4, malformed\n  field at byte 90: 00\n",
         "> answer - -\nanswer: 2 bytes: 6700\n  status word 6700, wrong length\n",
         CARD_OF_ZEROS,
         "> sound\nsound: yes\n> read 80.last\nread: refusal 8, the bytes are no stored record, the card is FRESH of zeros\n",
         CARD_OF_ZEROS,
-        "> walk last\nwalk: 0 fields\n> walk 80.last\nwalk: refusal 4, malformed\n",
+        "> walk last\nwalk: 0 fields\n> walk 80.last\nwalk: refusal 4, malformed\n  field at byte 0: 80\n",
     ];
     assert_eq!(played(script), wanted.concat());
 }
