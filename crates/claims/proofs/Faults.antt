@@ -129,34 +129,33 @@ deep-bytes = (
   (omega arith, (omega arith, (omega arith, (omega arith, (omega arith, (omega arith, (omega arith, (omega arith, (omega arith, tt))))))))),
 )
 
+abbrev noFields : List ℕ
+noFields = 0xA1 ∷ 0x00 ∷ []
+
+abbrev cutBehind : List ℕ
+cutBehind = 0x80 ∷ 0x00 ∷ 0x81 ∷ []
+
 -- what WALK says of them
 walks : (WALK pastEnd ≡ record { refusal = 4; count = 0; offset = 2 })
     × (WALK fiveDeep ≡ record { refusal = 5; count = 0; offset = 8 })
-    × (WALK (0xA1 ∷ 0x00 ∷ []) ≡ record { refusal = 0; count = 0; offset = 0 })
+    × (WALK noFields ≡ record { refusal = 0; count = 0; offset = 0 })
+    × (WALK cutBehind ≡ record { refusal = 4; count = 0; offset = 2 })
 unfolding fieldsOf fieldWith templateOf
-walks = (refl, refl, refl)
+walks = (refl, refl, refl, refl)
 
-refuses : (d : List ℕ) (n k : ℕ) → WALK d ≡ record { refusal = n; count = 0; offset = k } → (n ≡ 0 → ⊥) → WALK d .refusal ≡ 0 → ⊥
-refuses d n k e m z = m (sym (ap (λ (r : WalkOut). r .refusal) e) ∙ z)
+at-fault : (form : KeyForm) → (form ≡ key.Seed → ⊥) → (d : List ℕ) → Bytes d → length d ≤ 223 → (n k : ℕ)
+    → WALK d ≡ record { refusal = n; count = 0; offset = k } → (n ≡ 0 → ⊥) → Example form d k
+at-fault form template d bytes fits n k e m =
+    ends-so form d bytes fits k
+    (subst (λ (r : WalkOut). LoadFails verifiedCard (turn form d bytes fits) (0x6A ∷ 0x80 ∷ []) (r .offset)) e
+    (refused verifiedCard (turn form d bytes fits) form (supposed form d bytes fits) refl template
+    (λ z. m (sym (ap (λ (r : WalkOut). r .refusal) e) ∙ z)) .0))
 
 inside : Example key.Keypair pastEnd 2
-inside =
-    let fits : length pastEnd ≤ 223 = omega arith in
-    let it = refused verifiedCard (turn key.Keypair pastEnd past-bytes fits) key.Keypair (supposed key.Keypair pastEnd past-bytes fits) refl distinct
-    (refuses pastEnd 4 2 (walks .0) (λ z. omega (arith, z))) .0 in
-    ends-so key.Keypair pastEnd past-bytes fits 2
-    (subst (λ (r : WalkOut). LoadFails verifiedCard (turn key.Keypair pastEnd past-bytes fits) (0x6A ∷ 0x80 ∷ []) (r .offset)) (walks .0) it)
+inside = at-fault key.Keypair distinct pastEnd past-bytes (omega arith) 4 2 (walks .0) (λ z. omega (arith, z))
 
 deep : Example key.Extended fiveDeep 8
-deep =
-    let fits : length fiveDeep ≤ 223 = omega arith in
-    let it = refused verifiedCard (turn key.Extended fiveDeep deep-bytes fits) key.Extended (supposed key.Extended fiveDeep deep-bytes fits) refl
-    distinct′ (refuses fiveDeep 5 8 (walks .1) (λ z. omega (arith, z))) .0 in
-    ends-so key.Extended fiveDeep deep-bytes fits 8
-    (subst (λ (r : WalkOut). LoadFails verifiedCard (turn key.Extended fiveDeep deep-bytes fits) (0x6A ∷ 0x80 ∷ []) (r .offset)) (walks .1) it)
-
-abbrev noFields : List ℕ
-noFields = 0xA1 ∷ 0x00 ∷ []
+deep = at-fault key.Extended distinct′ fiveDeep deep-bytes (omega arith) 5 8 (walks .1) (λ z. omega (arith, z))
 
 empty : Example key.Keypair noFields 255
 empty =
@@ -171,6 +170,10 @@ as-seed =
     let fits : length pastEnd ≤ 223 = omega arith in
     ends-so key.Seed pastEnd past-bytes fits 255
     (seed verifiedCard (turn key.Seed pastEnd past-bytes fits) (supposed key.Seed pastEnd past-bytes fits) refl (λ z. omega (arith, z)))
+
+behind : Example key.Keypair cutBehind 2
+behind =
+    at-fault key.Keypair distinct cutBehind (omega arith, (omega arith, (omega arith, tt))) (omega arith) 4 2 (walks .3) (λ z. omega (arith, z))
 
 pub faults : Faults
 faults = record {
@@ -194,4 +197,5 @@ faults = record {
   deep = deep;
   empty = empty;
   asseed = as-seed;
+  behind = behind;
 }

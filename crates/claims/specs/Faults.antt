@@ -75,8 +75,9 @@ pub record Faults : Type 0 where
   pub unverified : (c : Card) (t : Turn) (form : KeyForm) → Supposed c t form → isVerified (c .pins) ≡ false
       → LoadFails c t (0x69 ∷ 0x85 ∷ []) 255
   -- and these occur: a field at byte 2 whose length passes its template's end; a template at byte 8 that is the fifth level; a template that WALK
-  -- takes; and the first of these with P1 03
+  -- takes; the first of these with P1 03; and a field with a cut length at byte 2, behind one that is no keypair template
   pub inside : Example key.Keypair (0xA1 ∷ 0x03 ∷ 0x80 ∷ 0x05 ∷ 0x00 ∷ []) 2
   pub deep : Example key.Extended (0xA1 ∷ 0x08 ∷ 0xA1 ∷ 0x06 ∷ 0xA1 ∷ 0x04 ∷ 0xA1 ∷ 0x02 ∷ 0xA1 ∷ 0x00 ∷ []) 8
   pub empty : Example key.Keypair (0xA1 ∷ 0x00 ∷ []) 255
   pub asseed : Example key.Seed (0xA1 ∷ 0x03 ∷ 0x80 ∷ 0x05 ∷ 0x00 ∷ []) 255
+  pub behind : Example key.Keypair (0x80 ∷ 0x00 ∷ 0x81 ∷ []) 2
