@@ -79,8 +79,8 @@ fn gives(both: &mut Both, random: &mut Random, p1: u8, data: &[u8], status: u16,
     }
 }
 
-/// Every other byte in place of each byte of a head. It is never right: where the template can still be walked through, another tag or length
-/// stands there.
+/// Every other byte in place of each byte of a head. It is never right: where WALK still takes the template, another tag or length stands
+/// there.
 fn heads(both: &mut Both, random: &mut Random, template: &Template) {
     gives(both, random, template.p1, &template.bytes, SUCCESS, NO_FAULT);
     for at in template.head_bytes() {
@@ -149,8 +149,8 @@ fn long_ends(both: &mut Both, random: &mut Random, template: &Template) {
     }
 }
 
-/// The fifth template is too deep, after four heads, each of two bytes or of three, and the fields before it; what is in it is not looked at. A
-/// broken field before it is found first.
+/// The fifth template is too deep, after four heads, each of two bytes or of three, and the fields before it; what is in it is not looked at.
+/// A broken field before it is found first.
 fn deep_templates(both: &mut Both, random: &mut Random) {
     for p1 in [0x01, 0x02] {
         for templates in 1..=10 {
@@ -279,7 +279,8 @@ fn other_commands(both: &mut Both, random: &mut Random) {
     }
 }
 
-/// The number of a refused call is 255, also for LOAD with a fault: an unsound card, a short buffer. A wrong supply for right data is the same.
+/// The number of a refused call is 255, also for LOAD with a fault: an unsound card, a short buffer; and a wrong supply for right data. So is
+/// that of a command which does not open.
 fn refused_calls(both: &mut Both, random: &mut Random) {
     let template = Template::of(random, 0x02, true);
     let broken = [&template.bytes[..], &BROKEN].concat();

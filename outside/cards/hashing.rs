@@ -130,8 +130,8 @@ fn is_refused(both: &mut Both, random: &mut Random, card: &Card, cryptogram: &[u
     require(is_right && next == wanted, &format!("{what} was not refused"), cryptogram);
 }
 
-/// Cryptograms that are not the client's: each with one bit changed, the secret after the challenge, another secret, the challenge itself, the
-/// hash of only one of the two, and the awaited one with the client's own challenge.
+/// Cryptograms that are not the client's: one bit changed in each byte, the secret after the challenge, another secret or challenge, the
+/// challenge itself, the hash of only one of the two, and some more.
 fn wrong_cryptograms(both: &mut Both, random: &mut Random, card: &Card, client: &Client, card_challenge: &[u8; 32]) {
     let right = client.hash(card_challenge);
     for at in 0..CRYPTOGRAM_BYTES {
@@ -218,8 +218,8 @@ fn secret_by_hand(both: &mut Both, random: &mut Random) {
     finish(both, random, &mut card, &before.hash(&card_challenge), &now);
 }
 
-/// LOAD on a card with another key: the key UID is the hash of the 65 supplied bytes, for each first byte of them, whatever key the template
-/// has. Flag 00 is 6A80 and keeps the key; other flags are refused.
+/// LOAD on a card with another key: the key UID is the hash of the 65 supplied bytes, for each first byte of them, whatever key the
+/// template has. Flag 00 is 6A80 and keeps the key; other flags are refused.
 fn loads(both: &mut Both, random: &mut Random, p1: u8, with_public_key: bool) {
     let data = match p1 {
         0x03 => random.bytes(SEED_BYTES),

@@ -1,5 +1,6 @@
 //! Parts joined and resets repeated, on library and model: WALK of accepted parts joined counts the sum of their fields, and with a refused
-//! part after them gives that one's refusal, at its offset after them (RULES 9.7); RESET twice is RESET once (RULES 3.9). Lengths are in bytes.
+//! part after them gives that one's refusal, at its offset after them (RULES 9.7); RESET twice is RESET once (RULES 3.9). Lengths are in
+//! bytes.
 
 use crate::both::{hex, Both};
 use crate::directed::ready_card;

@@ -195,49 +195,24 @@ impl Tally {
 
     /// Answers, passages, kinds, opened responses, slots, loads and faults that the tables do not have.
     pub fn too_many(&self) -> Vec<String> {
-        let rows = every_row();
-        let answers = self
-            .answers
-            .keys()
-            .filter(|row| !rows.contains(row))
-            .map(|row| format!("answer {row:x?}"));
-        let asked = self.kinds.keys().filter(|(situation, kind)| !kinds(*situation).contains(kind));
-        let can_be = |(lr, refusal): &(Lr, u8)| RESPONSES.iter().any(|row| row.0 == *lr && row.1.contains(refusal));
-        let opened = self.responses.keys().filter(|row| !can_be(row));
-        let opened = opened.map(|row| format!("response {row:?}"));
-        let verified_rows = every_verified_row();
-        let verified = self.verified.keys().filter(|row| !verified_rows.contains(row));
-        let verified = verified.map(|row| format!("answer to a verified card {row:x?}"));
+        let (rows, verified, slotted, loaded) = (every_row(), every_verified_row(), every_slotted(), every_loaded());
         let can_pass = |(before, after): &(Standing, Standing)| PASSAGES.iter().any(|row| row.0 == *before && row.1.contains(after));
-        let passed = self.passages.keys().filter(|row| !can_pass(row));
-        let passed = passed.map(|row| format!("passage {row:?}"));
-        let asked = asked.map(|row| format!("kind {row:?}"));
-        let exported = self
-            .exports
-            .keys()
-            .filter(|(exported, status)| !export_words(*exported).contains(status));
-        let exported = exported.map(|row| format!("export {row:x?}"));
-        let tapped = self.taps.keys().filter(|(recorded, tapped)| tapped_of(*recorded) != *tapped);
-        let tapped = tapped.map(|row| format!("tap read {row:?}"));
-        let can_slot = every_slotted();
-        let slots = self.slots.keys().filter(|row| !can_slot.contains(row));
-        let slots = slots.map(|row| format!("slots {row:?}"));
-        let can_load = every_loaded();
-        let loads = self.loads.keys().filter(|row| !can_load.contains(row));
-        let loads = loads.map(|row| format!("load {row:x?}"));
-        let walks = self.walks.keys().filter(|row| !EVERY_FAR.contains(row));
-        let walks = walks.map(|row| format!("fault of a walk {row:?}"));
-        answers
-            .chain(verified)
-            .chain(passed)
-            .chain(asked)
-            .chain(opened)
-            .chain(exported)
-            .chain(tapped)
-            .chain(slots)
-            .chain(loads)
-            .chain(walks)
-            .collect()
+        let can_be = |(lr, refusal): &(Lr, u8)| RESPONSES.iter().any(|row| row.0 == *lr && row.1.contains(refusal));
+        [
+            beyond("answer", &self.answers, |row| rows.contains(row)),
+            beyond("answer to a verified card", &self.verified, |row| verified.contains(row)),
+            beyond("passage", &self.passages, can_pass),
+            beyond("kind", &self.kinds, |(situation, kind)| kinds(*situation).contains(kind)),
+            beyond("response", &self.responses, can_be),
+            beyond("export", &self.exports, |(exported, status)| {
+                export_words(*exported).contains(status)
+            }),
+            beyond("tap read", &self.taps, |(recorded, tapped)| tapped_of(*recorded) == *tapped),
+            beyond("slots", &self.slots, |row| slotted.contains(row)),
+            beyond("load", &self.loads, |row| loaded.contains(row)),
+            beyond("fault of a walk", &self.walks, |row| EVERY_FAR.contains(row)),
+        ]
+        .concat()
     }
 
     pub fn print(&self) {
@@ -291,6 +266,18 @@ impl Tally {
             print_part(&self.taps, recorded);
         }
         println!("slots: {}", listed(shown(&self.slots)));
+        self.print_faults();
+        println!("EXPORT past its data, by P1, P2 and the place of the path:");
+        for exported in every_exported() {
+            let of_it = self.exports.iter().filter(|((e, _), _)| *e == exported);
+            let parts = listed(of_it.map(|((_, status), count)| format!("{status:04x}: {count}")));
+            let (p1, p2, place) = exported;
+            println!("  {p1:02x} {p2:02x} {:<9}{parts}", format!("{place:?}"));
+        }
+    }
+
+    /// What LOAD and WALK found in templates.
+    fn print_faults(&self) {
         println!("LOAD past its PIN, by P1, the fault of its data, and status word:");
         for (p1, fault, status) in every_loaded() {
             let count = self.loads.get(&(p1, fault, status)).unwrap_or(&0);
@@ -300,13 +287,6 @@ impl Tally {
             );
         }
         println!("faults that WALK found, by how far they are: {}", listed(shown(&self.walks)));
-        println!("EXPORT past its data, by P1, P2 and the place of the path:");
-        for exported in every_exported() {
-            let of_it = self.exports.iter().filter(|((e, _), _)| *e == exported);
-            let parts = listed(of_it.map(|((_, status), count)| format!("{status:04x}: {count}")));
-            let (p1, p2, place) = exported;
-            println!("  {p1:02x} {p2:02x} {:<9}{parts}", format!("{place:?}"));
-        }
     }
 
     /// The answers of each command.
@@ -356,6 +336,12 @@ pub fn every_row() -> Vec<Row> {
 pub fn lacking<K: Ord + Debug>(what: &str, counts: &BTreeMap<K, usize>, wanted: impl IntoIterator<Item = K>) -> Vec<String> {
     let lacks = wanted.into_iter().filter(|key| !counts.contains_key(key));
     lacks.map(|key| format!("{what} {key:x?}")).collect()
+}
+
+/// The keys that were counted and cannot be.
+fn beyond<K: Debug>(what: &str, counts: &BTreeMap<K, usize>, can_be: impl Fn(&K) -> bool) -> Vec<String> {
+    let keys = counts.keys().filter(|key| !can_be(key));
+    keys.map(|key| format!("{what} {key:x?}")).collect()
 }
 
 fn summed<K, S: Ord>(counts: &BTreeMap<K, usize>, by: impl Fn(&K) -> S) -> BTreeMap<S, usize> {
