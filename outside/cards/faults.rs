@@ -1,4 +1,4 @@
-//! Where the first fault of a template lies, found apart from the model, and what ANSWER's number has to be for it (RULES 9.3 and 6.14).
+//! Where the first fault of a template lies, found apart from the model, and what ANSWER's number has to be for it (RULES 9.3 and 5.9).
 //! Every WALK and every ANSWER of a run is held to this. Lengths and offsets are in bytes.
 
 use crate::may_occur::{form_of, name_of, Form};
