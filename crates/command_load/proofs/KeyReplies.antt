@@ -4,9 +4,8 @@ use mathlib.Core.Path.{_≡_, refl, sym, ap, ap₂, _∙_}
 use mathlib.Core.Bool.{true, false}
 use mathlib.Core.List.{List}
 use Prim.Native.Nat.{ℕ}
-use native.Mathlib.Omega.{arith}
-use lib.ListN.{length}
 use Rattle.octets.specs.Bytes.{overwrite}
+use Rattle.sha_rules.proofs.Blocks.{length-sha256}
 use Rattle.card.specs.declared.Keys.{Keys}
 use Rattle.card.specs.declared.Card.{Card}
 use Rattle.card.specs.State.{withKeys}
@@ -14,10 +13,9 @@ use Rattle.rules.specs.declared.KeyForm.{KeyForm}
 use Rattle.rules.specs.declared.Replied.{Replied}
 use Rattle.rules.specs.Words.{success, wrongData, fails}
 use Rattle.rules.specs.Code.{repliedOf, Replies}
-use Rattle.rules.specs.Supplies.{saysYes, loadUid}
-use Rattle.rules.specs.Commands.{kindOf, keyWith, loadReply}
+use Rattle.rules.specs.Supplies.{saysYes, loadPublic}
+use Rattle.rules.specs.Commands.{kindOf, keyWith, uidOf, loadReply}
 use Rattle.command_parts.specs.Replies.{said}
-use Rattle.command_parts.proofs.SupplyFacts.{part-length}
 use Rattle.command_parts.proofs.ReplyFacts.{put-replies, silent}
 
 -- ---- loadReply: uid, kind, keys, next, r and b are what the calls that make them give
@@ -26,13 +24,13 @@ module _ (c : Card) (form : KeyForm) (s : List ℕ) {r : Replied} {a : List ℕ}
   unfolding loadReply
   load-no e er = rw e (silent (fails c wrongData) refl er)
 
-  pub load-yes : {b : List ℕ} (uid : List ℕ) (kind : ℕ) (keys : Keys) (next : Card) → length s ≡ 33 → saysYes s ≡ true → uid ≡ loadUid s
+  pub load-yes : {b : List ℕ} (uid : List ℕ) (kind : ℕ) (keys : Keys) (next : Card) → saysYes s ≡ true → uid ≡ uidOf s
       → b ≡ overwrite a 0 uid → kind ≡ kindOf form → keys ≡ keyWith kind uid → next ≡ withKeys c keys → r ≡ said success 32 next
       → Replies (loadReply c form s) r a b
   unfolding loadReply
-  load-yes uid kind keys next l e eu eb ek ey en er =
+  load-yes uid kind keys next e eu eb ek ey en er =
       rw e
-      (put-replies (loadUid s) next _
-      (er ∙ ap {B = Replied} (λ (n : ℕ). said success n next) (sym (part-length 1 32 s (omega (arith, l)))))
+      (put-replies (uidOf s) next _
+      (er ∙ ap {B = Replied} (λ (n : ℕ). said success n next) (sym (length-sha256 (loadPublic s))))
       (en ∙ ap (withKeys c) (ey ∙ ap₂ {C = Keys} (λ k u. keyWith k u) ek eu))
       (eb ∙ ap (overwrite a 0) eu))

@@ -1,6 +1,6 @@
-// LOAD (RULES 6.14) and REMOVE (RULES 6.16): for each the verdict of its checks, and its reply where they hold.
-// Every length and count is in bytes.
-// Proved: each verdict, reply and byte of the buffer is what the command's rule gives, for every card, data and supply.
+// LOAD (RULES 6.14) and REMOVE (RULES 6.16): for each the verdict of its checks, and its reply where they hold; and LOAD's fault offset.
+// Every length, count and offset is in bytes.
+// Proved: each verdict, reply, byte of the buffer and offset is what the command's rule gives, for every card, data and supply.
 ghost use mathlib.Core.Bool.{true};
 ghost use mathlib.Core.Path.{_≡_};
 ghost use Prim.Native.Nat.{_≤_};
@@ -9,7 +9,7 @@ ghost use Rattle.rules.specs.Words.{verdict};
 ghost use Rattle.rules.specs.Code.{repliedOf, Replies};
 ghost use Rattle.rules.specs.Supplies.{suits, noSupply, loadSupply};
 ghost use Rattle.rules.specs.Commands.{isKeyData, kindOf, keyWith};
-ghost use Rattle.rules.specs.Commands.{loadChecks, loadReply, removeChecks, removeReply};
+ghost use Rattle.rules.specs.Commands.{loadChecks, loadReply, placeIn, loadPlace, removeChecks, removeReply};
 use card::Card;
 use card::KEY_BYTES;
 use card::KEY_EXTENDED;
@@ -21,7 +21,6 @@ use card::Path;
 use card::Pins;
 use command_parts::done;
 use command_parts::failed;
-use command_parts::key_part;
 use command_parts::must;
 use command_parts::reads;
 use command_parts::reads_none;
@@ -30,19 +29,22 @@ use command_parts::says_yes;
 use command_parts::with_keys;
 use rules::CONDITIONS_NOT_MET;
 use rules::KeyForm;
+use rules::NO_FAULT;
 use rules::Replied;
 use rules::Verdict;
 use rules::WRONG_DATA;
+use template_keypair::PUBLIC_KEY_BYTES;
+use template_walk::Walked;
 
 // LOAD, P1 03: the seed.
 pub const SEED_BYTES: usize = 64;
 
-// LOAD's supply: the flag, then the key UID.
+// LOAD's supply: the flag, then the public key.
 const LOAD_SUPPLY: u8 = 6;
 
-const LOAD_SUPPLY_BYTES: usize = 33;
+const PUBLIC_KEY_AT: usize = 1;
 
-const KEY_UID_AT: usize = 1;
+const LOAD_SUPPLY_BYTES: usize = PUBLIC_KEY_AT + PUBLIC_KEY_BYTES;
 
 // ---- LOAD D0: a keypair, with its chain code or without, or a seed
 // Whether LOAD takes the data under this form.
@@ -99,11 +101,33 @@ pub fn load(card: Card, form: KeyForm, supply: &[u8], out: &mut [u8]) -> Replied
     if !says_yes(supply) {
         return failed(card, WRONG_DATA);
     }
-    let uid = key_part(supply, KEY_UID_AT);
+    let uid = sha_hash::sha256(&supply[PUBLIC_KEY_AT..LOAD_SUPPLY_BYTES]);
     octets::put(out, 0, &uid);
     let keys = key_with(kind_of(form), uid);
     let loaded = with_keys(card, keys);
     replied(loaded, KEY_BYTES)
+}
+
+// The place of the faulty field where WALK refused, NO_FAULT elsewhere.
+fn place_in(walked: Walked) -> usize
+    ensures { λ r. ⌜ r ≡ placeIn walked ⌝ }
+{
+    match walked {
+        Walked::Fields(_) => NO_FAULT,
+        Walked::Refused { fault: _, at } => at,
+    }
+}
+
+// LOAD's fault offset in data that it does not take: WALK's in a template; a seed has none.
+pub fn load_place(form: KeyForm, data: &[u8]) -> usize
+    ensures { λ r. ⌜ r ≡ loadPlace form (now («data» .entry)) ⌝ }
+{
+    let place = place_in(template_walk::walk(data));
+    match form {
+        KeyForm::Keypair => place,
+        KeyForm::Extended => place,
+        KeyForm::Seed => NO_FAULT,
+    }
 }
 
 // ---- REMOVE D3: no key, both paths empty

@@ -1,11 +1,14 @@
-// PAIR (RULES 6.8), first and final, which are plain in every stage: for each the verdict of its checks, and its reply where they hold.
+// PAIR (RULES 6.8), first and final, which are plain in every stage: for each the verdict of its checks, and its reply where they hold. The card
+// computes both cryptograms and the pairing key from its pairing secret.
 // Every length and count is in bytes; a slot's index counts slots from 0.
 // Proved: each verdict, reply and byte of the buffer is what the step's rule gives, for every card, data and supply.
 ghost use mathlib.Core.Path.{_≡_};
 ghost use mathlib.Core.Bool.{true};
+ghost use mathlib.Core.List.{_++_};
 ghost use Prim.Native.Nat.{_≤_, _<_};
 ghost use lib.ListN.{length};
 ghost use Rattle.card.specs.State.{slotCount, notPending};
+ghost use Rattle.sha_rules.specs.Hash.{sha256};
 ghost use Rattle.rules.specs.Words.{verdict};
 ghost use Rattle.rules.specs.Code.{Replies};
 ghost use Rattle.rules.specs.Supplies.{suits, pairFirstSupply, pairFinalSupply};
@@ -35,21 +38,27 @@ use rules::WRONG_PARAMETERS;
 // A client's challenge and its cryptogram, in bytes.
 pub const PAIR_DATA_BYTES: usize = 32;
 
-// The first step's supply, and where its parts begin: cryptogram 32, challenge 32, expected client cryptogram 32.
+// The first step's supply: the card's challenge.
 const FIRST_SUPPLY: u8 = 4;
 
-const FIRST_SUPPLY_BYTES: usize = 96;
+const FIRST_SUPPLY_BYTES: usize = 32;
 
-const CHALLENGE_AT: usize = 32;
-
-const EXPECTED_AT: usize = 64;
-
-// The final step's supply, and where its parts begin: salt 32, pairing key 32.
+// The final step's supply: the salt.
 const FINAL_SUPPLY: u8 = 5;
 
-const FINAL_SUPPLY_BYTES: usize = 64;
+const FINAL_SUPPLY_BYTES: usize = 32;
 
-const PAIRING_KEY_AT: usize = 32;
+// What is hashed: the pairing secret, then a challenge or the salt.
+const HASHED_BYTES: usize = KEY_BYTES + KEY_BYTES;
+
+// What the pairing secret and 32 bytes after it hash to: a cryptogram from the challenge of the other side, the pairing key from the salt.
+fn with_secret(secret: [u8; KEY_BYTES], x: [u8; KEY_BYTES]) -> [u8; KEY_BYTES]
+    ensures { λ r. ⌜ r ≡ sha256 (secret ++ x) ⌝ }
+{
+    let mut message = [0u8; HASHED_BYTES];
+    put_both(&mut message, &secret, &x);
+    sha_hash::sha256(&message)
+}
 
 // ---- PAIR, first
 pub fn pair_first_verdict(pairing: Pairing, stage: u8, data: &[u8]) -> Verdict
@@ -77,15 +86,18 @@ fn pending_with(pairing: Pairing, expected: [u8; KEY_BYTES]) -> Pairing
     next
 }
 
-pub fn pair_first(card: Card, supply: &[u8], out: &mut [u8]) -> Replied
+pub fn pair_first(card: Card, data: &[u8], supply: &[u8], out: &mut [u8]) -> Replied
+    requires { ⌜ length (now «data») ≡ 32 ⌝ }
     requires { ⌜ (suits pairFirstSupply (now supply) ≡ true) × (221 ≤ length (now out)) ⌝ }
-    ensures { λ r. ⌜ Replies (pairFirstReply card (now (supply .entry))) r (now (out .entry)) (now (out .exit)) ⌝ }
+    ensures { λ r. ⌜ Replies (pairFirstReply card (now («data» .entry)) (now (supply .entry))) r (now (out .entry)) (now (out .exit)) ⌝ }
 {
-    let cryptogram = key_part(supply, 0);
-    let challenge = key_part(supply, CHALLENGE_AT);
-    let expected = key_part(supply, EXPECTED_AT);
-    let count = put_both(out, &cryptogram, &challenge);
     let before = card.pairing;
+    let secret = before.secret;
+    let client = key_part(data, 0);
+    let challenge = key_part(supply, 0);
+    let cryptogram = with_secret(secret, client);
+    let expected = with_secret(secret, challenge);
+    let count = put_both(out, &cryptogram, &challenge);
     let pairing = pending_with(before, expected);
     replied(with_pairing(card, pairing), count)
 }
@@ -146,13 +158,14 @@ pub fn pair_final(card: Card, supply: &[u8], out: &mut [u8]) -> Replied
 {
     let before = card.pairing;
     let slots = before.slots;
+    let secret = before.secret;
     let Free::At(i) = card_slots::first_free(slots) else {
         let pairing = not_pending(before);
         return failed(with_pairing(card, pairing), NO_SPACE);
     };
     let index = [index_byte(slots, i)];
     let salt = key_part(supply, 0);
-    let key = key_part(supply, PAIRING_KEY_AT);
+    let key = with_secret(secret, salt);
     let count = put_both(out, &index, &salt);
     let pairing = filled_at(before, i, key);
     replied(with_pairing(card, pairing), count)

@@ -1,6 +1,6 @@
-// Any command, once it is decoded: the verdict of its checks, and its reply.
-// Every length is in bytes.
-// Proved: for every command, verdict and reply are what its rule gives.
+// Any command, once it is decoded: the verdict of its checks, its reply, and its fault offset.
+// Every length and offset is in bytes.
+// Proved: for every command, verdict, reply and fault offset are what its rule gives.
 ghost use mathlib.Core.Path.{_≡_};
 ghost use mathlib.Core.Bool.{true};
 ghost use Prim.Native.Nat.{_≤_};
@@ -8,12 +8,15 @@ ghost use lib.ListN.{length};
 ghost use Rattle.rules.specs.Words.{Hold, verdict};
 ghost use Rattle.rules.specs.Code.{Replies};
 ghost use Rattle.rules.specs.Supplies.{suits};
-ghost use Rattle.rules.specs.Steps.{checksOf, supplyOf, replyOf};
+ghost use Rattle.rules.specs.Commands.{ruleOf};
+ghost use Rattle.rules.specs.Steps.{checksOf, supplyOf, replyOf, faultAt};
 ghost use Rattle.command_table.specs.Fits.{PathsFit};
 use card::Card;
 use rules::Command;
+use rules::NO_FAULT;
 use rules::Replied;
 use rules::Verdict;
+use rules::WRONG_DATA;
 
 // Step 6: the supply that is read where all checks hold, or the status word of the first check that does not.
 pub fn judge(card: Card, k: Command, data: &[u8]) -> Verdict
@@ -60,7 +63,7 @@ pub fn act(card: Card, k: Command, data: &[u8], supply: &[u8], out: &mut [u8]) -
         Command::Init => command_init::init(card, data, supply),
         Command::Open(_) => command_open::open(card, supply, out),
         Command::Mutual => command_mutual::mutual(card, supply, out),
-        Command::PairFirst => command_pair::pair_first(card, supply, out),
+        Command::PairFirst => command_pair::pair_first(card, data, supply, out),
         Command::PairFinal => command_pair::pair_final(card, supply, out),
         Command::Unpair(slot) => command_unpair::unpair(card, slot),
         Command::Status(which) => command_status::status(card, which, out),
@@ -77,4 +80,25 @@ pub fn act(card: Card, k: Command, data: &[u8], supply: &[u8], out: &mut [u8]) -
         }
         Command::SetNdef => command_ndef::ndef(card, data),
     }
+}
+
+// Where the data of a command are at fault, by its rule.
+fn place_of(k: Command, data: &[u8]) -> usize
+    ensures { λ r. ⌜ r ≡ ruleOf k .place (now («data» .entry)) ⌝ }
+{
+    let Command::Load(form) = k else {
+        return NO_FAULT;
+    };
+    command_load::load_place(form, data)
+}
+
+// The fault offset where a command's checks give this status word: its rule's, where that is 6A80.
+pub fn fault_at(k: Command, data: &[u8], status: u16) -> usize
+    ensures { λ r. ⌜ r ≡ faultAt k (now («data» .entry)) status ⌝ }
+{
+    let place = place_of(k, data);
+    if status == WRONG_DATA {
+        return place;
+    }
+    NO_FAULT
 }

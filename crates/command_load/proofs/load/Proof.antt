@@ -1,12 +1,12 @@
--- LOAD by its flag: nothing changes without it; with it the key UID is written and the keys are new, by `load-yes`.
+-- LOAD by its flag: nothing changes without it; with it the key UID is hashed and written and the keys are new, by `load-yes`.
 -- Assumes nothing.
-use mathlib.Core.Path.{refl, sym, _∙_}
+use mathlib.Core.Path.{refl, sym, ap, _∙_}
 use native.Mathlib.Omega.{arith}
 use borrow.Author.Tests.{not-true, not-false}
-use borrow.Author.Needs.{needs}
 use Rattle.rules.specs.Supplies.{loadSupply}
 use Rattle.command_parts.proofs.SupplyFacts.{suits-long, within}
 use Rattle.command_load.proofs.KeyReplies.{load-no, load-yes}
+use borrow.Author.Needs.{needs}
 use Rattle.command_load.proofs.load.Statement.{statement}
 use Rattle.command_load.proofs.load.Tie as tie
 
@@ -21,9 +21,18 @@ returns : tie.Need-returns
 returns c = let b5 = c .before .before .before .before .before in
     load-no (b5 .args .card) (b5 .args .form) (b5 .args .supply .now) (sym (c .before .before .says-yes .ensures) ∙ not-true _ (c .before .if1 .taken)) (c .failed .ensures)
 
-key-part-requires : tie.Need-key-part-requires
-key-part-requires c κs = let b4 = c .before .before .before .before in
+sub-sha256 : tie.Need-sub-sha256
+sub-sha256 c = search needs
+
+part-sha256-start : tie.Need-part-sha256-start
+part-sha256-start c = search needs
+
+part-sha256-end : tie.Need-part-sha256-end
+part-sha256-end c = let b4 = c .before .before .before .before in
     within (suits-long loadSupply (b4 .args .supply .now) refl (b4 .pre .0)) (omega arith)
+
+sha256-requires : tie.Need-sha256-requires
+sha256-requires c κs = search needs
 
 slice-aggregate-put : tie.Need-slice-aggregate-put
 slice-aggregate-put c = search needs
@@ -50,11 +59,10 @@ returns-2 : tie.Need-returns-2
 returns-2 c = let b3 = c .before .before .before in
     let b6 = b3 .before .before .before in
     let b9 = b6 .before .before .before in
-    let b10 = b9 .before in
-    let b11 = b10 .before in
-    let b14 = b11 .before .before .before in
-    load-yes (b14 .args .card) (b14 .args .form) (b14 .args .supply .now) _ _ _ _ (suits-long loadSupply _ refl (b14 .pre .0))
-    (sym (b11 .says-yes .ensures) ∙ not-false _ (b10 .if1 .left)) (b9 .key-part .ensures) (b6 .put .ensures) (b3 .kind-of .ensures)
+    let b12 = b9 .before .before .before in
+    let b15 = b12 .before .before .before in
+    load-yes (b15 .args .card) (b15 .args .form) (b15 .args .supply .now) _ _ _ _
+    (sym (b12 .says-yes .ensures) ∙ not-false _ (b9 .before .before .if1 .left)) (b9 .sha256 .ensures) (b6 .put .ensures) (b3 .kind-of .ensures)
     (c .before .before .key-with .ensures) (c .before .with-keys .ensures) (c .replied .ensures)
 
 pub load-spec : {M : Type 1} → statement M
@@ -64,7 +72,10 @@ load-spec =
     says-yes-requires
     failed-requires
     returns
-    key-part-requires
+    sub-sha256
+    part-sha256-start
+    part-sha256-end
+    sha256-requires
     slice-aggregate-put
     put-requires
     kind-of-requires

@@ -2,10 +2,10 @@
 -- Assumes nothing.
 use mathlib.Core.Path.{refl, sym, _∙_}
 use native.Mathlib.Omega.{arith}
-use borrow.Author.Needs.{needs}
 use Rattle.rules.specs.Supplies.{pairFinalSupply}
 use Rattle.command_parts.proofs.SupplyFacts.{suits-long, within}
 use Rattle.command_pair.proofs.ReplyFacts.{final-replied, final-refused}
+use borrow.Author.Needs.{needs}
 use Rattle.command_pair.proofs.pair_final.Statement.{statement}
 use Rattle.command_pair.proofs.pair_final.Tie as tie
 
@@ -31,21 +31,19 @@ returns : tie.Need-returns
 returns c = let b2 = c .before .before in
     let b3 = b2 .before in
     let b5 = b3 .before .before in
-    let b10 = b5 .before .before .before .before .before in
-    final-refused (b10 .args .card) (b10 .args .supply .now) (b2 .not-pending .result) _ (c .before .with-pairing .ensures)
+    let b11 = b5 .before .before .before .before .before .before in
+    final-refused (b11 .args .card) (b11 .args .supply .now) (b2 .not-pending .result) _ (c .before .with-pairing .ensures)
     (sym (b3 .enum-told .given .1) ∙ b5 .first-free .ensures .0) (b2 .not-pending .ensures) (c .failed .ensures)
 
 index-byte-requires : tie.Need-index-byte-requires
-index-byte-requires c κs = let b3 = c .before .before .before in
-    sym (c .before .i .given .1) ∙ b3 .first-free .ensures .0
+index-byte-requires c κs = sym (c .before .i .given .1) ∙ c .before .before .before .first-free .ensures .0
 
 key-part-requires : tie.Need-key-part-requires
-key-part-requires c κs = let b9 = c .before .before .before .before .before .before .before .before .before in
-    within (suits-long pairFinalSupply (b9 .args .supply .now) refl (b9 .pre .0)) (omega arith)
-
-key-part-requires-2 : tie.Need-key-part-requires-2
-key-part-requires-2 c κs = let b10 = c .before .before .before .before .before .before .before .before .before .before in
+key-part-requires c κs = let b10 = c .before .before .before .before .before .before .before .before .before .before in
     within (suits-long pairFinalSupply (b10 .args .supply .now) refl (b10 .pre .0)) (omega arith)
+
+with-secret-requires : tie.Need-with-secret-requires
+with-secret-requires c κs = search needs
 
 slice-aggregate-put-both : tie.Need-slice-aggregate-put-both
 slice-aggregate-put-both c = search needs
@@ -76,10 +74,10 @@ returns-2 c = let b2 = c .before .before in
     let b11 = b10 .before in
     let b13 = b11 .before .before in
     let b15 = b13 .before .before in
-    let b20 = b15 .before .before .before .before .before in
-    final-replied (b20 .args .card) (b20 .args .supply .now) (b2 .filled-at .result) _ (c .before .with-pairing2 .ensures) (b13 .i .given .0 .0)
-    (b11 .index-byte .result) (b10 .key-part .result) (b9 .key-part2 .result) (sym (b13 .i .given .1) ∙ b15 .first-free .ensures .0)
-    (b11 .index-byte .ensures .0) (b10 .key-part .ensures) (b9 .key-part2 .ensures) (b2 .filled-at .ensures) (b5 .put-both .ensures)
+    let b21 = b15 .before .before .before .before .before .before in
+    final-replied (b21 .args .card) (b21 .args .supply .now) (b2 .filled-at .result) _ (c .before .with-pairing2 .ensures) (b13 .i .given .0 .0)
+    (b11 .index-byte .result) (b10 .key-part .result) (b9 .with-secret .result) (sym (b13 .i .given .1) ∙ b15 .first-free .ensures .0)
+    (b11 .index-byte .ensures .0) (b10 .key-part .ensures) (b9 .with-secret .ensures) (b2 .filled-at .ensures) (b5 .put-both .ensures)
     (c .replied .ensures)
 
 pub pair-final-spec : {M : Type 1} → statement M
@@ -95,7 +93,7 @@ pair-final-spec =
     returns
     index-byte-requires
     key-part-requires
-    key-part-requires-2
+    with-secret-requires
     slice-aggregate-put-both
     slice-aggregate-put-both-2
     put-both-requires

@@ -10,6 +10,7 @@ use Rattle.command_change.proofs.Laws.{change-empty}
 use Rattle.command_unblock.proofs.Laws.{unblock-empty}
 use Rattle.command_unpair.proofs.Laws.{unpair-empty}
 use Rattle.command_init.proofs.Laws.{init-empty}
+use Rattle.command_pair.proofs.Laws.{first-data}
 use Rattle.rules.specs.Commands.{ruleOf}
 use Rattle.command_table.proofs.Facts.{checked, suited}
 use Rattle.command_table.proofs.act.Statement.{statement}
@@ -53,7 +54,8 @@ enum-told-5 c = search needs
 pair-first-requires : tie.Need-pair-first-requires
 unfolding ruleOf
 pair-first-requires c κs = let b6 = c .before .before .before .before .before .before in
-    (suited _ _ (c .before .enum-told5 .given .1) _ (b6 .pre .0 .1), b6 .pre .1 .1)
+    let k = c .before .enum-told5 .given .1 in
+    (first-data _ _ _ (checked _ _ k _ _ (b6 .pre .0 .0)), (suited _ _ k _ (b6 .pre .0 .1), b6 .pre .1 .1))
 
 enum-told-6 : tie.Need-enum-told-6
 enum-told-6 c = search needs
