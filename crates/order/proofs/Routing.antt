@@ -24,6 +24,7 @@ use Rattle.rules.specs.declared.Supply.{Supply}
 use Rattle.rules.specs.declared.Verdict.{Verdict}
 use Rattle.rules.specs.declared.Verdict.the-variants.{Reads, Fails}
 use Rattle.rules.specs.Words.{success, wrongLength, conditionsNotMet, wrongParameters, Check, verdict, Hold, fails}
+use Rattle.rules.specs.Rules.{noFault}
 use Rattle.rules.specs.Channel.{plainly, tell}
 use Rattle.rules.specs.Rows.{rowOf, isPlain}
 use Rattle.rules.specs.Code.{choiceOf}
@@ -33,12 +34,16 @@ use Rattle.order_steps.specs.declared.Form.{Form}
 use Rattle.order_steps.specs.declared.Form.the-variants as form
 use Rattle.order_steps.specs.Form.{DataAt, FormSays}
 use Rattle.order.specs.declared.Way.{Way}
-use Rattle.order.specs.Routes.{fromStep2, fromStep3, fromStep4, fromOpening, fromStep5, endsWith, decisionOf, Routes, RoutesIn}
+use Rattle.order.specs.Routes.{fromStep2, fromStep3, fromStep4, fromOpening, fromStep5, endsWithAt, endsWith, decisionOf, Routes, RoutesIn}
 
--- ---- a route that ends, and the same route for another name of the decision
-pub ends-route : (over : Bool) (c : Card) (w : ℕ) (want : steps.Decision) (d : List ℕ) → want ≡ steps.ends (tell over (fails c w))
-    → Routes want (endsWith over c w) d
-ends-route over c w want d e = record { decides = e; ready = λ t. absurd (false≢true t) }
+-- ---- a route that ends, with a fault offset and with none, and the same route for another name of the decision
+module _ (over : Bool) (c : Card) (w : ℕ) where
+  pub ends-at-route : (n : ℕ) (want : steps.Decision) (d : List ℕ) → want ≡ steps.endsAt n (tell over (fails c w))
+      → Routes want (endsWithAt n over c w) d
+  ends-at-route n want d e = record { decides = e; ready = λ t. absurd (false≢true t) }
+
+  pub ends-route : (want : steps.Decision) (d : List ℕ) → want ≡ steps.ends (tell over (fails c w)) → Routes want (endsWith over c w) d
+  ends-route = ends-at-route noFault
 
 pub plain-ends : (c : Card) (w : ℕ) → steps.ends (plainly (fails c w)) ≡ steps.ends (tell false (fails c w))
 unfolding tell
@@ -59,7 +64,7 @@ module _ (want : steps.Decision) (r : Way) (d plain : List ℕ) (h : Routes want
         ready = λ t. absurd (false≢true (sym g ∙ t));
       }
         where
-          ended : (x : List ℕ) → r .goes ≡ false → decisionOf r x ≡ steps.ends (tell (r .over) (fails (r .card) (r .status)))
+          ended : (x : List ℕ) → r .goes ≡ false → decisionOf r x ≡ steps.endsAt (r .«fault_offset») (tell (r .over) (fails (r .card) (r .status)))
           ended x f = rw (f)
 
 pub at-start : (plain d : List ℕ) → length d ≤ length plain → take (length d) (overwrite plain 0 d) ≡ d
@@ -105,7 +110,8 @@ module _ (over : Bool) (c lost : Card) (d : List ℕ) (k : Command) where
   arrived = record { command = k; data′ = d; card = c; lost = lost; over = over }
 
   pub step6-goes : (s : Supply) → Reads s ≡ verdict (steps.supplyOf k) (steps.checksOf k c d) → PathsFit (c .keys)
-      → Routes (steps.step6 arrived) (record { goes = true; over = over; status = success; count = length d; command = k; supply = s; card = c }) d
+      → Routes (steps.step6 arrived)
+      (record { goes = true; over = over; status = success; count = length d; «fault_offset» = noFault; command = k; supply = s; card = c }) d
   unfolding steps.step6
   step6-goes s e h =
       let r = all-hold (steps.supplyOf k) s (steps.checksOf k c d) e in
@@ -114,10 +120,11 @@ module _ (over : Bool) (c lost : Card) (d : List ℕ) (k : Command) where
         ready = λ _. record { hold = r .1; reads = r .0; long = refl; paths = h };
       }
 
-  pub step6-ends : (w : ℕ) → Fails w ≡ verdict (steps.supplyOf k) (steps.checksOf k c d)
-      → steps.step6 arrived ≡ steps.ends (tell over (fails lost w))
+  -- n is the fault offset that the code found
+  pub step6-ends : (w n : ℕ) → Fails w ≡ verdict (steps.supplyOf k) (steps.checksOf k c d) → n ≡ steps.faultAt k d w
+      → steps.step6 arrived ≡ steps.endsAt n (tell over (fails lost w))
   unfolding steps.step6
-  step6-ends w e = ap (steps.byVerdict arrived) (sym e)
+  step6-ends w n e en = ap (steps.byVerdict arrived) (sym e) ∙ ap (λ (x : ℕ). steps.endsAt x (tell over (fails lost w))) (sym en)
 
 -- ---- step 5
 chosen : (o : Option Command) (k : Command) → choice.Listed k ≡ choiceOf o → o ≡ some k

@@ -9,8 +9,9 @@ use Rattle.rules.specs.declared.Instruction.{Instruction}
 use Rattle.rules.specs.declared.Command.the-variants as command
 use Rattle.rules.specs.Words.{Hold, fails}
 use Rattle.rules.specs.Supplies.{noSupply}
+use Rattle.rules.specs.Rules.{noFault}
 use Rattle.rules.specs.Channel.{tell}
-use Rattle.rules.specs.Steps.{then, Opened, Decision, ends, finish, byOpening, openedBy, step3, step4, step5, pastStep1, checksOf, supplyOf, replyOf}
+use Rattle.rules.specs.Steps.{then, Opened, Decision, endsAt, finish, byOpening, openedBy, step3, step4, step5, pastStep1, checksOf, supplyOf, replyOf}
 use Rattle.command_table.specs.Fits.{PathsFit}
 use Rattle.order.specs.declared.Way.{Way}
 
@@ -30,16 +31,28 @@ fromStep3 cmd c field = finish (then (step3 cmd c) (λ i. then (step4 i cmd c fi
 abbrev pub fromStep2 : List ℕ → Card → Decision
 fromStep2 cmd c = finish (pastStep1 cmd c)
 
--- ---- a route that ends
-abbrev pub endsWith : Bool → Card → ℕ → Way
-endsWith over c w = record { goes = false; over = over; status = w; count = 0; command = command.Select; supply = noSupply; card = c }
+-- ---- a route that ends, with this fault offset; and with none
+abbrev pub endsWithAt : ℕ → Bool → Card → ℕ → Way
+endsWithAt n over c w = record {
+  goes = false;
+  over = over;
+  status = w;
+  count = 0;
+  «fault_offset» = n;
+  command = command.Select;
+  supply = noSupply;
+  card = c;
+}
 
--- the decision that a route and the command's data mean
+abbrev pub endsWith : Bool → Card → ℕ → Way
+endsWith over c w = endsWithAt noFault over c w
+
+-- the decision that a route and the command's data mean; one that goes on has no fault
 abbrev pub decisionOf : Way → List ℕ → Decision
 decisionOf r d =
     cond (r .goes)
-    (record { supply = r .supply; data′ = d; answer = λ s. tell (r .over) (replyOf (r .command) (r .card) d s) })
-    (ends (tell (r .over) (fails (r .card) (r .status))))
+    (record { supply = r .supply; data′ = d; answer = λ s. tell (r .over) (replyOf (r .command) (r .card) d s); fault = noFault })
+    (endsAt (r .«fault_offset») (tell (r .over) (fails (r .card) (r .status))))
 
 -- what a route that goes on rests on: the command's checks hold, its supply and the length of the data are the ones reported, and the paths fit
 pub record GoesOn (r : Way) (d : List ℕ) : Type 0 where

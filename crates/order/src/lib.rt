@@ -1,5 +1,5 @@
 // The order of checks for a command (RULES 5), steps 1 to 6 in order, walked once for ASK and ANSWER alike.
-// Every length, Lc included, is in bytes.
+// Every length, Lc included, and the fault offset are in bytes.
 // Proved: for every card and every command, however short, the route means what the rulebook decides.
 ghost use mathlib.Core.Path.{_≡_};
 ghost use mathlib.Core.Bool.{false, not};
@@ -8,7 +8,7 @@ ghost use lib.ListN.{length};
 ghost use Rattle.command_table.specs.Fits.{PathsFit};
 ghost use Rattle.rules.specs.Rows.{isPlain};
 ghost use Rattle.rules.specs.Steps.{step6, decide};
-ghost use Rattle.order.specs.Routes.{Routes, RoutesIn, endsWith, fromStep2, fromStep3, fromStep4, fromOpening, fromStep5};
+ghost use Rattle.order.specs.Routes.{Routes, RoutesIn, endsWithAt, endsWith, fromStep2, fromStep3, fromStep4, fromOpening, fromStep5};
 use card::Card;
 use channel_rules::Opening;
 use order_steps::Form;
@@ -22,21 +22,23 @@ use rules::Verdict;
 // The most data that a command carries, in bytes.
 pub const DATA_MAX_BYTES: usize = 255;
 
-// Where the order of checks leads: to a command whose checks hold (goes), with the supply that it reads, or to a status word. `over` says that
-// the answer goes over the channel, `count` how many bytes of data the command has, and `card` is the card that the answer starts from.
+// Where the order of checks leads: to a command whose checks hold (goes), with the supply that it reads, or to a status word and its fault offset.
+// `over` says that the answer goes over the channel, `count` how many bytes of data the command has, and `card` is the card that the answer
+// starts from.
 pub struct Way {
     pub goes: bool,
     pub over: bool,
     pub status: u16,
     pub count: usize,
+    pub fault_offset: usize,
     pub command: Command,
     pub supply: Supply,
     pub card: Card,
 }
 
-// A route that ends with a status word.
-fn ends(over: bool, card: Card, status: u16) -> Way
-    ensures { λ r. ⌜ r ≡ endsWith over card status ⌝ }
+// A route that ends with a status word and this fault offset.
+fn ends_at(over: bool, card: Card, status: u16, fault_offset: usize) -> Way
+    ensures { λ r. ⌜ r ≡ endsWithAt «fault_offset» over card status ⌝ }
 {
     let supply = Supply {
         kind: 0,
@@ -48,10 +50,18 @@ fn ends(over: bool, card: Card, status: u16) -> Way
         over,
         status,
         count: 0,
+        fault_offset,
         command: Command::Select,
         supply,
         card,
     }
+}
+
+// A route that ends with a status word before step 6.
+fn ends(over: bool, card: Card, status: u16) -> Way
+    ensures { λ r. ⌜ r ≡ endsWith over card status ⌝ }
+{
+    ends_at(over, card, status, rules::NO_FAULT)
 }
 
 // Steps 1 to 6. The command's data is left at the start of `plain`.
@@ -149,7 +159,7 @@ fn step_5(i: Instruction, over: bool, card: Card, cmd: &[u8], data: &[u8]) -> Wa
     step_6(over, begun, lost, k, data)
 }
 
-// Step 6: the command's checks. Where they hold, the command reads its supply; an error leaves the card `lost`.
+// Step 6: the command's checks. Where they hold, the command reads its supply; an error leaves the card `lost` and tells the fault offset.
 fn step_6(over: bool, card: Card, lost: Card, k: Command, data: &[u8]) -> Way
     requires { ⌜ PathsFit (card .keys) ⌝ }
     ensures { λ r. ⌜ Routes (step6 (record { command = k; data′ = now («data» .entry); card = card; lost = lost; over = over })) r
@@ -162,10 +172,14 @@ fn step_6(over: bool, card: Card, lost: Card, k: Command, data: &[u8]) -> Way
             over,
             status: rules::SUCCESS,
             count: data.len(),
+            fault_offset: rules::NO_FAULT,
             command: k,
             supply,
             card,
         },
-        Verdict::Fails(status) => ends(over, lost, status),
+        Verdict::Fails(status) => {
+            let fault_offset = command_table::fault_at(k, data, status);
+            ends_at(over, lost, status, fault_offset)
+        }
     }
 }
