@@ -1,6 +1,6 @@
 // The engine: ASK says which supply a command will read, ANSWER answers it.
-// Every length, room and count is in bytes.
-// Proved: refusal, kind, count, next card and every byte of the buffer are the rulebook's, for any card, command, supply and buffer.
+// Every length, room, count and offset is in bytes.
+// Proved: refusal, kind, count, fault offset, next card and every byte of the buffer are the rulebook's, for any card, command, supply and buffer.
 ghost use lib.ListN.{length};
 ghost use Rattle.rules.specs.Engine.{askOut, answerOut};
 ghost use Rattle.rules.specs.Reports.{AskDid, AnswerDid};
@@ -12,7 +12,7 @@ use refusals::REFUSAL_UNSOUND;
 use rules::Answered;
 use rules::Asked;
 
-// ANSWER (RULES 3.6): response data then status word from the buffer's start, and the next card.
+// ANSWER (RULES 3.6): response data then status word from the buffer's start, the fault offset, and the next card.
 pub fn answer(card: Card, cmd: &[u8], supply: &[u8], buf: &mut [u8]) -> Answered
     ensures { λ r. ⌜ AnswerDid (answerOut card (now (cmd .entry)) (now (supply .entry)) (length (now (buf .entry)))) r
         (now (buf .entry)) (now (buf .exit)) ⌝ }

@@ -17,9 +17,10 @@ use Rattle.rules.specs.declared.Answered.{Answered}
 use Rattle.refusals.specs.Refusals.{wrongSupply}
 use Rattle.rules.specs.Words.{Reply, fails}
 use Rattle.rules.specs.Supplies.{suits}
-use Rattle.rules.specs.Channel.{tell}
-use Rattle.rules.specs.Steps.{replyOf, Decision, ends}
-use Rattle.rules.specs.Engine.{AskOut, askRefused, asked, AnswerOut, answerRefused, answered, withSupply}
+use Rattle.rules.specs.Rules.{noFault}
+use Rattle.rules.specs.Channel.{Outgoing, tell}
+use Rattle.rules.specs.Steps.{replyOf, Decision, endsAt}
+use Rattle.rules.specs.Engine.{AskOut, askRefused, asked, AnswerOut, answerRefused, answeredAt, answered, withSupply}
 use Rattle.rules.specs.Reports.{AskDid, AnswerDid}
 use Rattle.rules.specs.Code.{replyWith, Replies}
 use Rattle.order.specs.declared.Way.{Way}
@@ -28,8 +29,8 @@ use Rattle.order.specs.Routes.{Routes, RoutesIn}
 -- ---- ANSWER of a sound card, with room enough
 module _ (c : Card) (want : Decision) (r : Way) (d s : List ℕ) (h : Routes want r d) where
   decided : (b : Bool) → r .goes ≡ b → want ≡ cond b
-      (record { supply = r .supply; data′ = d; answer = λ s. tell (r .over) (replyOf (r .command) (r .card) d s) })
-      (ends (tell (r .over) (fails (r .card) (r .status))))
+      (record { supply = r .supply; data′ = d; answer = λ s. tell (r .over) (replyOf (r .command) (r .card) d s); fault = noFault })
+      (endsAt (r .«fault_offset») (tell (r .over) (fails (r .card) (r .status))))
   decided b e = h .decides ∙ rw (e)
 
   pub answer-refused : r .goes ≡ true → suits (r .supply) s ≡ false → withSupply c want s ≡ answerRefused c wrongSupply
@@ -39,7 +40,8 @@ module _ (c : Card) (want : Decision) (r : Way) (d s : List ℕ) (h : Routes wan
       → withSupply c want s ≡ answered (tell (r .over) (replyOf (r .command) (r .card) d s))
   answer-taken g f = ap (λ (x : Decision). withSupply c x s) (decided true g) ∙ rw (f)
 
-  pub answer-ended : r .goes ≡ false → withSupply c want s ≡ answered (tell (r .over) (fails (r .card) (r .status)))
+  pub answer-ended : r .goes ≡ false
+      → withSupply c want s ≡ answeredAt (r .«fault_offset») (tell (r .over) (fails (r .card) (r .status)))
   unfolding suits
   answer-ended g = ap (λ (x : Decision). withSupply c x s) (decided false g)
 
@@ -59,11 +61,20 @@ pub ask-as : (o o′ : AskOut) (r : Asked) (b a : List ℕ) → o′ ≡ o → A
 ask-as o o′ r b a e h = subst (λ (x : AskOut). AskDid x r b a) (sym e) h
 
 -- ---- refusals: nothing is written
-pub answer-nothing : (c : Card) (n : ℕ) (r : Answered) (b : List ℕ) → r ≡ record { refusal = n; count = 0; card = c } → AnswerDid (answerRefused c n) r b b
+pub answer-nothing : (c : Card) (n : ℕ) (r : Answered) (b : List ℕ) → r ≡ record { refusal = n; count = 0; «fault_offset» = noFault; card = c }
+    → AnswerDid (answerRefused c n) r b b
 answer-nothing c n r b e = record { told = e; left = refl }
 
 pub ask-nothing : (n : ℕ) (r : Asked) (b : List ℕ) → r ≡ record { refusal = n; kind = 0; count = 0 } → AskDid (askRefused n) r b b
 ask-nothing n r b e = record { told = e; left = refl }
+
+-- ---- an answer, and the fault offset that is then put into what is told
+abbrev faulted : ℕ → Answered → Answered
+faulted n t = record { refusal = t .refusal; count = t .count; «fault_offset» = n; card = t .card }
+
+pub did-at : (n : ℕ) (o : Outgoing) (t r : Answered) (b a : List ℕ) → AnswerDid (answered o) t b a → r ≡ faulted n t
+    → AnswerDid (answeredAt n o) r b a
+did-at n o t r b a h e = record { told = e ∙ ap (faulted n) (h .told); left = h .left }
 
 -- ---- a reply and the scratch that holds its response data
 module _ (x : Reply) (r : Replied) (b a : List ℕ) (h : Replies x r b a) where

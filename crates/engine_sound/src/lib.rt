@@ -1,12 +1,13 @@
 // ASK and ANSWER of a sound card, with room enough: the route is walked, and a supply that is read must have its form.
-// Every length, room and count is in bytes.
-// Proved: refusal, kind, count, next card and every byte of the buffer are what the rulebook's decision gives.
+// Every length, room, count and offset is in bytes.
+// Proved: refusal, kind, count, fault offset, next card and every byte of the buffer are what the rulebook's decision gives.
 ghost use mathlib.Core.Path.{_≡_};
 ghost use mathlib.Core.Bool.{true};
 ghost use Prim.Native.Nat.{_≤_};
 ghost use lib.ListN.{length};
 ghost use Rattle.rules.specs.Words.{Hold};
 ghost use Rattle.rules.specs.Supplies.{suits};
+ghost use Rattle.rules.specs.Rules.{noFault};
 ghost use Rattle.rules.specs.Channel.{tell};
 ghost use Rattle.rules.specs.Steps.{checksOf, supplyOf, replyOf, decide};
 ghost use Rattle.rules.specs.Engine.{asked, answered, withSupply};
@@ -18,6 +19,7 @@ use refusals::REFUSAL_SUPPLY;
 use rules::Answered;
 use rules::Asked;
 use rules::Command;
+use rules::NO_FAULT;
 use rules::Supply;
 
 // A supply's flag byte: 00 no, 01 yes.
@@ -34,13 +36,23 @@ pub fn ask_refused(refusal: u8) -> Asked
 }
 
 pub fn refused(card: Card, refusal: u8) -> Answered
-    ensures { λ r. ⌜ r ≡ record { refusal = refusal; count = 0; card = card } ⌝ }
+    ensures { λ r. ⌜ r ≡ record { refusal = refusal; count = 0; «fault_offset» = noFault; card = card } ⌝ }
 {
     Answered {
         refusal,
         count: 0,
+        fault_offset: NO_FAULT,
         card,
     }
+}
+
+// What is answered, with this fault offset.
+fn with_fault(told: Answered, fault_offset: usize) -> Answered
+    ensures { λ r. ⌜ r ≡ record { refusal = told .refusal; count = told .count; «fault_offset» = «fault_offset»; card = told .card } ⌝ }
+{
+    let mut r = told;
+    r.fault_offset = fault_offset;
+    r
 }
 
 // Whether a supply has the form that is asked for: its length, and a flag byte of 0 or 1. One that is not read has every form.
@@ -99,7 +111,8 @@ pub fn answer_sound(card: Card, cmd: &[u8], supply: &[u8], buf: &mut [u8]) -> An
         }
         return refused(card, REFUSAL_SUPPLY);
     }
-    engine_responses::tell(way.over, next, way.status, &plain[0..0], buf)
+    let told = engine_responses::tell(way.over, next, way.status, &plain[0..0], buf);
+    with_fault(told, way.fault_offset)
 }
 
 // ASK for a sound card, with room enough: nothing is written where no supply is read.

@@ -1,9 +1,11 @@
-// What the soft card says: status words, refusals and supplies by name.
-// Every length is in bytes and is written with its unit.
+// What the soft card says: status words, refusals and supplies by name, and fault offsets.
+// Every length and offset is in bytes; a length is written with its unit.
 // Proved: every function is safe and ends.
+mod fault;
 mod status;
 mod supply;
 
+pub use fault::say_fault;
 pub use status::say_refusal;
 pub use status::say_status;
 pub use supply::say_supply;

@@ -7,16 +7,14 @@ fn say_first_kinds(kind: u8) {
         1 => say(b"INIT: 33 bytes: flag, AES key 32"),
         2 => say(b"OPEN: 113 bytes: flag, enc key 32, MAC key 32, salt 32, IV 16"),
         3 => say(b"MUTUAL: 32 bytes: random"),
-        _ => say(
-            b"PAIR first: 96 bytes: cryptogram 32, challenge 32, expected client cryptogram 32",
-        ),
+        _ => say(b"PAIR first: 32 bytes: challenge 32"),
     }
 }
 
 fn say_last_kinds(kind: u8) {
     match kind {
-        5 => say(b"PAIR final: 64 bytes: salt 32, pairing key 32"),
-        6 => say(b"LOAD: 33 bytes: flag, key UID 32"),
+        5 => say(b"PAIR final: 32 bytes: salt 32"),
+        6 => say(b"LOAD: 66 bytes: flag, public key 65"),
         7 => say(b"DERIVE: 1 byte: flag"),
         8 => say(b"SIGN: 129 bytes: public key 65, r 32, s 32"),
         _ => say(b"EXPORT: 98 bytes: flag, public key 65, private key 32"),

@@ -6,13 +6,13 @@ use mathlib.Core.List.{List}
 use Prim.Native.Nat.{ℕ}
 use lib.ListN.{take}
 use Rattle.rules.specs.declared.Supply.{Supply}
-use Rattle.rules.specs.Words.{Hold}
+use Rattle.rules.specs.Words.{Hold, fails}
 use Rattle.rules.specs.Supplies.{suits}
 use Rattle.rules.specs.Channel.{tell}
 use Rattle.rules.specs.Steps.{checksOf, replyOf}
 use Rattle.rules.specs.Engine.{answered}
 use Rattle.engine_responses.proofs.Writing.{answer-as}
-use Rattle.engine_sound.proofs.Answers.{answer-nothing, answer-taken, answer-refused, answer-ended, data-part, data-short}
+use Rattle.engine_sound.proofs.Answers.{answer-nothing, did-at, answer-taken, answer-refused, answer-ended, data-part, data-short}
 use borrow.Author.Needs.{needs}
 use Rattle.engine_sound.proofs.answer_sound.Statement.{statement}
 use Rattle.engine_sound.proofs.answer_sound.Tie as tie
@@ -74,14 +74,18 @@ part-tell-end c = search needs
 tell-requires : tie.Need-tell-requires
 tell-requires c κs = search needs
 
+with-fault-requires : tie.Need-with-fault-requires
+with-fault-requires c κs = search needs
+
 same-length-2 : tie.Need-same-length-2
 same-length-2 c = search needs
 
 returns-3 : tie.Need-returns-3
-returns-3 c = let g = c .before .before .before .before .before .before .before .before .before .before .before .before .before .before .args in
-    let w = c .before .before .before .before .before .before .before .before .before .route in
+returns-3 c = let g = c .before .before .before .before .before .before .before .before .before .before .before .before .before .before .before .args in
+    let w = c .before .before .before .before .before .before .before .before .before .before .route in
     let plain = w .last .1 .1 .0 in
-    answer-as _ _ _ _ _ (answer-ended (g .card) _ (w .result) (take (w .result .count) plain) (g .supply .now) (w .ensures) (c .before .before .before .before .before .before .if1 .left)) (c .before .before .tell .ensures)
+    let t = c .before .before .before .tell in
+    answer-as _ _ _ _ _ (answer-ended (g .card) _ (w .result) (take (w .result .count) plain) (g .supply .now) (w .ensures) (c .before .before .before .before .before .before .before .if1 .left)) (did-at (w .result .«fault_offset») (tell (w .result .over) (fails (w .result .card) (w .result .status))) (t .result) _ _ _ (t .ensures) (c .with-fault .ensures))
 
 pub answer-sound-spec : {M : Type 1} → statement M
 answer-sound-spec =
@@ -102,5 +106,6 @@ answer-sound-spec =
     part-tell-start
     part-tell-end
     tell-requires
+    with-fault-requires
     same-length-2
     returns-3)
