@@ -14,19 +14,22 @@ use Rattle.rules.specs.Engine as rules
 use Rattle.rules.specs.declared.Answered as declared
 use Rattle.rules.specs.Reports.{AnswerDid}
 use Rattle.soft_card_bytes.specs.Flat.{cardFlat, sessionFlat}
+use Rattle.soft_byte_calls.specs.declared.CardGiven.{CardGiven}
 use Rattle.soft_byte_calls.specs.declared.CardAnswered.{CardAnswered}
 use Rattle.soft_byte_calls.specs.Calls.{answerFlat, CardDid, SessionDid}
 
 pub answer-flat : {a o : Answer} {card : List ℕ} → a ≡ o → card ≡ cardFlat (a .card)
-    → _≡_ {A = CardAnswered} (record { refusal = a .refusal; count = 0; card = card }) (answerFlat o)
-answer-flat {a} p q = ap {B = CardAnswered} (λ (x : List ℕ). record { refusal = a .refusal; count = 0; card = x }) q ∙ ap answerFlat p
+    → _≡_ {A = CardGiven} (record { refusal = a .refusal; card = card }) (answerFlat o)
+answer-flat {a} p q = ap {B = CardGiven} (λ (x : List ℕ). record { refusal = a .refusal; card = x }) q ∙ ap answerFlat p
+
+-- what is told of an answer, with the card as these bytes
+abbrev toldWith : declared.Answered → List ℕ → CardAnswered
+toldWith a x = record { refusal = a .refusal; count = a .count; «fault_offset» = a .«fault_offset»; card = x }
 
 pub card-did : {o : rules.AnswerOut} {a : declared.Answered} {card before after : List ℕ} → AnswerDid o a before after → card ≡ cardFlat (a .card)
-    → CardDid o (record { refusal = a .refusal; count = a .count; card = card }) before after
+    → CardDid o (toldWith a card) before after
 card-did {o} {a} d q = record {
-  told =
-      ap {B = CardAnswered} (λ (x : List ℕ). record { refusal = a .refusal; count = a .count; card = x }) q
-      ∙ ap {B = CardAnswered} (λ (b : declared.Answered). record { refusal = b .refusal; count = b .count; card = cardFlat (b .card) }) (d .told);
+  told = ap (toldWith a) q ∙ ap (λ (b : declared.Answered). toldWith b (cardFlat (b .card))) (d .told);
   left = d .left;
 }
 

@@ -1,5 +1,5 @@
 // The public operations over a card's bytes and a session's, by value, for the soft card.
-// Every length, room and count is in bytes.
+// Every length, room, count and offset is in bytes; WALK counts fields.
 // Proved: each call is the operation on the card whose bytes are given, by the layout's places (`cardAt`), and its next card is given as its
 // bytes (`cardFlat`); on a session likewise.
 ghost use mathlib.Core.Path.{_≡_};
@@ -21,10 +21,17 @@ use rules::Asked;
 use soft_card_bytes::CARD_BYTES;
 use soft_card_bytes::SESSION_BYTES;
 
-// What ANSWER gives, and RESET and READ with a count of 0: the refusal's number or 0, the bytes written, the next card.
+// What RESET and READ give: the refusal's number or 0, the next card.
+pub struct CardGiven {
+    pub refusal: u8,
+    pub card: [u8; CARD_BYTES],
+}
+
+// What ANSWER gives: the refusal's number or 0, the bytes written, the fault offset or rules::NO_FAULT, the next card.
 pub struct CardAnswered {
     pub refusal: u8,
     pub count: usize,
+    pub fault_offset: usize,
     pub card: [u8; CARD_BYTES],
 }
 
@@ -35,10 +42,17 @@ pub struct Sealed {
     pub session: [u8; SESSION_BYTES],
 }
 
-// What WRITE gives, and WALK, whose count is of fields.
+// What WRITE gives: the refusal's number or 0, the bytes written.
 pub struct CountAnswered {
     pub refusal: u8,
     pub count: usize,
+}
+
+// What WALK gives: the refusal's number or 0, the fields counted, the fault offset or 0.
+pub struct WalkAnswered {
+    pub refusal: u8,
+    pub count: usize,
+    pub fault_offset: usize,
 }
 
 pub fn fresh(
@@ -58,15 +72,14 @@ pub fn sound(bytes: [u8; CARD_BYTES]) -> bool
     sound::sound(found)
 }
 
-pub fn reset(bytes: [u8; CARD_BYTES]) -> CardAnswered
+pub fn reset(bytes: [u8; CARD_BYTES]) -> CardGiven
     ensures { λ r. ⌜ r ≡ answerFlat (resetAnswer (cardAt bytes)) ⌝ }
 {
     let found = soft_card_bytes::card_of(bytes);
     let r = sound::reset(found);
     let card = soft_card_put::record_of(r.card);
-    CardAnswered {
+    CardGiven {
         refusal: r.refusal,
-        count: 0,
         card,
     }
 }
@@ -88,6 +101,7 @@ pub fn answer(bytes: [u8; CARD_BYTES], cmd: &[u8], supply: &[u8], buf: &mut [u8]
     CardAnswered {
         refusal: r.refusal,
         count: r.count,
+        fault_offset: r.fault_offset,
         card: next,
     }
 }
@@ -103,14 +117,13 @@ pub fn write(bytes: [u8; CARD_BYTES], buf: &mut [u8]) -> CountAnswered
     }
 }
 
-pub fn read(stored: &[u8]) -> CardAnswered
+pub fn read(stored: &[u8]) -> CardGiven
     ensures { λ r. ⌜ r ≡ answerFlat (readAnswer (now (stored .entry))) ⌝ }
 {
     let r = record_read::read(stored);
     let card = soft_card_put::record_of(r.card);
-    CardAnswered {
+    CardGiven {
         refusal: r.refusal,
-        count: 0,
         card,
     }
 }
@@ -150,11 +163,17 @@ pub fn unseal(session: [u8; SESSION_BYTES], response: &[u8], buf: &mut [u8]) -> 
     }
 }
 
-pub fn walk(input: &[u8]) -> CountAnswered
-    ensures { λ r. ⌜ (r .refusal ≡ WALK (now (input .entry)) .refusal) × (r .count ≡ WALK (now (input .entry)) .count) ⌝ }
+pub fn walk(input: &[u8]) -> WalkAnswered
+    ensures { λ r. ⌜ (r .refusal ≡ WALK (now (input .entry)) .refusal) × (r .count ≡ WALK (now (input .entry)) .count)
+        × (r .«fault_offset» ≡ WALK (now (input .entry)) .offset) ⌝ }
 {
     let w = template_walk::walk(input);
     let refusal = template_walk::refusal(w);
     let count = template_walk::count(w);
-    CountAnswered { refusal, count }
+    let fault_offset = template_walk::fault_offset(w);
+    WalkAnswered {
+        refusal,
+        count,
+        fault_offset,
+    }
 }

@@ -1,15 +1,25 @@
 // The operations that write to a buffer, and what the soft card says of their results: ASK, ANSWER, SEAL, UNSEAL, WRITE.
-// Every length, room and count is in bytes.
+// Every length, room, count and offset is in bytes.
 // Proved: every function is safe and ends.
 use soft_card_bytes::CARD_BYTES;
 use soft_state::Desk;
 use soft_word_bytes::VALUE_MAX_BYTES;
 use text_print::say;
 
-// Whether a step was done and not refused, and the desk after it.
+// Whether a step was done and not refused, the fault offset that ANSWER told or rules::NO_FAULT, and the desk after it.
 pub struct Step {
     pub done: bool,
+    pub fault_offset: usize,
     pub desk: Desk,
+}
+
+// A step that tells no fault offset.
+fn without_fault(done: bool, desk: Desk) -> Step {
+    Step {
+        done,
+        fault_offset: rules::NO_FAULT,
+        desk,
+    }
 }
 
 fn say_refused(name: &[u8], refusal: u8, room_bytes: usize) {
@@ -62,15 +72,15 @@ fn answer_in(d: Desk, cmd: &[u8], supply: &[u8], buf: &mut [u8]) -> Step {
     let r = soft_byte_calls::answer(found, cmd, supply, buf);
     if r.refusal != 0 {
         say_refused(b"answer:", r.refusal, refusals::ANSWER_ROOM_BYTES);
-        return Step {
-            done: false,
-            desk: d,
-        };
+        return without_fault(false, d);
     }
     let next = wrote(d, b"answer:", buf, r.count, true);
     let card = r.card;
-    let desk = soft_state::with_card(next, card);
-    Step { done: true, desk }
+    Step {
+        done: true,
+        fault_offset: r.fault_offset,
+        desk: soft_state::with_card(next, card),
+    }
 }
 
 // ANSWER.
@@ -85,15 +95,11 @@ fn seal_in(d: Desk, header: [u8; 4], plain: &[u8], buf: &mut [u8]) -> Step {
     let r = soft_byte_calls::seal(found, header, plain, buf);
     if r.refusal != 0 {
         say_refused(b"seal:", r.refusal, refusals::SEAL_ROOM_BYTES);
-        return Step {
-            done: false,
-            desk: d,
-        };
+        return without_fault(false, d);
     }
     let next = wrote(d, b"seal:", buf, r.count, false);
     let session = r.session;
-    let desk = soft_state::with_session(next, session);
-    Step { done: true, desk }
+    without_fault(true, soft_state::with_session(next, session))
 }
 
 // SEAL. The header is CLA INS P1 P2.
@@ -108,15 +114,11 @@ fn unseal_in(d: Desk, response: &[u8], buf: &mut [u8]) -> Step {
     let r = soft_byte_calls::unseal(found, response, buf);
     if r.refusal != 0 {
         say_refused(b"unseal:", r.refusal, refusals::UNSEAL_ROOM_BYTES);
-        return Step {
-            done: false,
-            desk: d,
-        };
+        return without_fault(false, d);
     }
     let next = wrote(d, b"unseal:", buf, r.count, true);
     let session = r.session;
-    let desk = soft_state::with_session(next, session);
-    Step { done: true, desk }
+    without_fault(true, soft_state::with_session(next, session))
 }
 
 // UNSEAL.

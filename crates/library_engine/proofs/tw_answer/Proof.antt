@@ -52,9 +52,9 @@ use Rattle.engine.proofs.answer as g
 use Rattle.engine.proofs.answer.Symbol as g-def
 use Rattle.engine.proofs.answer.Symbol.{name as #g}
 use Rattle.engine.proofs.answer.Met as g-thm
-use Rattle.library_calls.specs.declared.Counted.{Counted}
-use Rattle.library_calls.proofs.Counted as R
-use Rattle.library_calls.proofs.Counted.Laws as R′
+use Rattle.library_calls.specs.declared.AnswerTold.{AnswerTold}
+use Rattle.library_calls.proofs.AnswerTold as R
+use Rattle.library_calls.proofs.AnswerTold.Laws as R′
 use Rattle.library_engine.proofs.tw_answer.Key.{name as #f}
 use Rattle.library_engine.proofs.tw_answer as f
 use Rattle.library_engine.proofs.tw_answer.Statement as stated
@@ -98,14 +98,14 @@ module _ {M : Type 1} (𝓤 : URA M) (H : Heap 𝓤) (A : Atoms 𝓤) (W : Given
   abbrev machS : Answered → Val
   machS r = LL.tuple-val S.the-type S′.the-laws (S.the-type .to r)
 
-  abbrev rep : Answered → Counted
-  rep r = record { refusal = r .refusal; count = r .count }
+  abbrev rep : Answered → AnswerTold
+  rep r = record { refusal = r .refusal; count = r .count; «fault_offset» = r .«fault_offset» }
 
   abbrev machR : Answered → Val
   machR r = LL.tuple-val R.the-type R′.the-laws (R.the-type .to (rep r))
 
   made : (r : Answered) → Is S.the-row r (machS r ∷ []) → Is R.the-row (rep r) (machR r ∷ [])
-  made r is = let fs = LL.owed S.the-type S′.the-laws r _ is in LL.owes R.the-type R′.the-laws (rep r) (fs .0, (fs .1 .0, tt))
+  made r is = let fs = LL.owed S.the-type S′.the-laws r _ is in LL.owes R.the-type R′.the-laws (rep r) (fs .0, (fs .1 .0, (fs .1 .1 .0, tt)))
 
   abbrev Says : Answered → List ℕ → Type 0
   Says r zs = AnswerDid (answerOut h (cmd .now) (sup .now) (length ys)) r ys zs
@@ -163,9 +163,9 @@ module _ {M : Type 1} (𝓤 : URA M) (H : Heap 𝓤) (A : Atoms 𝓤) (W : Given
         -- [what the result owns; the tokens; the last list; the card's cell; the open borrow; obs; auth; _8 at 7; …; _6 at 11; …; _1 at 21; _0 at 23]
         land ! (from ! (stop !)) (init ! 11 refl (LL.lawful S.the-type S′.the-laws 𝓤 H A W .typed r _ is₀ .0)) $
         rewrite ! 11 (λ (u : Val). ‵ (fat fullShare S′.mir l₆ 0 u)) (ap only (LL.tells S.the-type S′.the-laws r (v ∷ []) is₀)) refl $
-        assigns ! (of-opd ! (load ! (from ! (fld ! refl (stop !))) (look-in ! 11 (sub ! 2 refl (whole !))))) (from ! (hop ! (look ! 21 refl) (stop !))) (store-raw ! 3 refl (LL.lawful T.the-type T′.the-laws 𝓤 H A W .typed (r .card) _ (LL.owed S.the-type S′.the-laws r _ is .1 .1 .0) .0)) $
-        assigns ! (agg ! (and-then ! (load ! (from ! (fld ! refl (stop !))) (look-in ! 11 (sub ! 0 refl (whole !)))) (and-then ! (load ! (from ! (fld ! refl (stop !))) (look-in ! 11 (sub ! 1 refl (whole !)))) (no-more !)))) (from ! (stop !)) (init ! 23 refl (LL.lawful R.the-type R′.the-laws 𝓤 H A W .typed (rep r) _ (made r is) .0)) $
-        drop ! $ owned ! T.the-row (Is T.the-row) (LL.makes T.the-type T′.the-plain 𝓤 H A) (r .card) _ (LL.owed S.the-type S′.the-laws r _ is .1 .1 .0) $
+        assigns ! (of-opd ! (load ! (from ! (fld ! refl (stop !))) (look-in ! 11 (sub ! 3 refl (whole !))))) (from ! (hop ! (look ! 21 refl) (stop !))) (store-raw ! 3 refl (LL.lawful T.the-type T′.the-laws 𝓤 H A W .typed (r .card) _ (LL.owed S.the-type S′.the-laws r _ is .1 .1 .1 .0) .0)) $
+        assigns ! (agg ! (and-then ! (load ! (from ! (fld ! refl (stop !))) (look-in ! 11 (sub ! 0 refl (whole !)))) (and-then ! (load ! (from ! (fld ! refl (stop !))) (look-in ! 11 (sub ! 1 refl (whole !)))) (and-then ! (load ! (from ! (fld ! refl (stop !))) (look-in ! 11 (sub ! 2 refl (whole !)))) (no-more !))))) (from ! (stop !)) (init ! 23 refl (LL.lawful R.the-type R′.the-laws 𝓤 H A W .typed (rep r) _ (made r is) .0)) $
+        drop ! $ owned ! T.the-row (Is T.the-row) (LL.makes T.the-type T′.the-plain 𝓤 H A) (r .card) _ (LL.owed S.the-type S′.the-laws r _ is .1 .1 .1 .0) $
         -- [what the new card owns; the tokens; the last list; the card's cell; the open borrow; obs; auth; _8 at 7; …; _0 at 23]
         move ! (3 ∷ 0 ∷ 4 ∷ 5 ∷ 6 ∷ []) $ closes ! tt T.the-row (r .card) (LL.vals T.the-type T′.the-laws (r .card)) b o $
         -- [obs; the borrow; the card's token; the slices' tokens; the last list; _8 at 5; …; _0 at 21; …; supply; cmd]

@@ -15,8 +15,12 @@ refusal-requires c κs = search needs
 count-requires : tie.Need-count-requires
 count-requires c κs = search needs
 
+fault-offset-requires : tie.Need-fault-offset-requires
+fault-offset-requires c κs = search needs
+
 returns : tie.Need-returns
-returns c = (c .before .refusal .ensures ∙ ap (λ (x : WalkOut). x .refusal) (c .before .before .walk .ensures .1), c .count .ensures ∙ ap (λ (x : WalkOut). x .count) (c .before .before .walk .ensures .1))
+returns c = let e = c .before .before .before .walk .ensures .1 in
+    (c .before .before .refusal .ensures ∙ ap (λ (x : WalkOut). x .refusal) e, c .before .count .ensures ∙ ap (λ (x : WalkOut). x .count) e, c .fault-offset .ensures ∙ ap (λ (x : WalkOut). x .offset) e)
 
 pub walk-spec : {M : Type 1} → statement M
-walk-spec = tie.close (tie.spec walk-requires refusal-requires count-requires returns)
+walk-spec = tie.close (tie.spec walk-requires refusal-requires count-requires fault-offset-requires returns)
