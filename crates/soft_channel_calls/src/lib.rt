@@ -1,5 +1,5 @@
 // The soft card's calls of commands and of the terminal's end: ASK, ANSWER, SEAL, UNSEAL, all four in a row, WALK, and the session.
-// Every length, room and count is in bytes.
+// Every length, room, count and offset is in bytes.
 // Proved: every function is safe and ends.
 use soft_card_bytes::SESSION_BYTES;
 use soft_state::Desk;
@@ -29,6 +29,13 @@ fn shown(d: Desk) -> Desk {
     d
 }
 
+// The fault offset of an answer, if it tells one, with the tag where the opened data are known.
+fn say_fault(data: &[u8], fault_offset: usize) {
+    if fault_offset != rules::NO_FAULT {
+        soft_names::say_fault(data, fault_offset);
+    }
+}
+
 // ANSWER with a command; its supply is the line's next word.
 fn answer_to(d: Desk, line: &[u8], cmd: &[u8]) -> Desk {
     let mut supply = [0u8; VALUE_MAX_BYTES];
@@ -42,6 +49,7 @@ fn answer_to(d: Desk, line: &[u8], cmd: &[u8]) -> Desk {
     }
     let n = text_fill::bounded(t.len, &supply);
     let step = soft_steps::answer(d, cmd, &supply[..n], room.len);
+    say_fault(b"", step.fault_offset);
     shown(step.desk)
 }
 
@@ -106,8 +114,8 @@ fn opened(d: Desk) -> Desk {
     shown(step.desk)
 }
 
-// The sealed command, which is the last, is asked about and answered; `before` is the desk before it was sealed.
-fn exchanged(before: Desk, d: Desk, supply: &[u8]) -> Desk {
+// The sealed command, which is the last, is asked about and answered; `before` is the desk before it was sealed, and `data` what was sealed.
+fn exchanged(before: Desk, d: Desk, data: &[u8], supply: &[u8]) -> Desk {
     let last = d.last;
     let bytes = last.bytes;
     let n = text_fill::bounded(last.len, &bytes);
@@ -116,6 +124,7 @@ fn exchanged(before: Desk, d: Desk, supply: &[u8]) -> Desk {
         return session_kept(before, d);
     }
     let step = soft_steps::answer(d, &bytes[..n], supply, refusals::ANSWER_ROOM_BYTES);
+    say_fault(data, step.fault_offset);
     if step.done {
         opened(step.desk)
     } else {
@@ -141,7 +150,7 @@ fn send_with(d: Desk, line: &[u8], header: [u8; 4]) -> Desk {
         return d;
     }
     let m = text_fill::bounded(u.len, &supply);
-    exchanged(d, step.desk, &supply[..m])
+    exchanged(d, step.desk, &plain[..n], &supply[..m])
 }
 
 pub fn send(d: Desk, line: &[u8]) -> Desk {
@@ -153,6 +162,27 @@ pub fn send(d: Desk, line: &[u8]) -> Desk {
 }
 
 // ---- WALK
+fn say_count(n: usize) {
+    text_print::say_size(n);
+    if n == 1 {
+        say(b" field\n");
+    } else {
+        say(b" fields\n");
+    }
+}
+
+fn walk_in(input: &[u8]) {
+    let r = soft_byte_calls::walk(input);
+    say(b"walk: ");
+    if r.refusal != 0 {
+        soft_names::say_refusal(r.refusal, 0);
+        say(b"\n");
+        soft_names::say_fault(input, r.fault_offset);
+    } else {
+        say_count(r.count);
+    }
+}
+
 pub fn walk(d: Desk, line: &[u8]) {
     let mut input = [0u8; VALUE_MAX_BYTES];
     let t = args::take(line, 1, b"BYTES", d.last, &mut input);
@@ -160,19 +190,7 @@ pub fn walk(d: Desk, line: &[u8]) {
         return;
     }
     let n = text_fill::bounded(t.len, &input);
-    let r = soft_byte_calls::walk(&input[..n]);
-    say(b"walk: ");
-    if r.refusal != 0 {
-        soft_names::say_refusal(r.refusal, 0);
-    } else {
-        text_print::say_size(r.count);
-        if r.count == 1 {
-            say(b" field");
-        } else {
-            say(b" fields");
-        }
-    }
-    say(b"\n");
+    walk_in(&input[..n]);
 }
 
 // ---- the session
