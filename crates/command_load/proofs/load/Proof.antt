@@ -1,6 +1,6 @@
 -- LOAD by its flag: nothing changes without it; with it the key UID is hashed and written and the keys are new, by `load-yes`.
 -- Assumes nothing.
-use mathlib.Core.Path.{refl, sym, ap, _∙_}
+use mathlib.Core.Path.{refl, sym, _∙_}
 use native.Mathlib.Omega.{arith}
 use borrow.Author.Tests.{not-true, not-false}
 use Rattle.rules.specs.Supplies.{loadSupply}
