@@ -1,5 +1,5 @@
-// PAIR (RULES 6.8), first and final, which are plain in every stage: for each the verdict of its checks, and its reply where they hold. The card
-// computes both cryptograms and the pairing key from its pairing secret.
+// PAIR (RULES 6.8), first and final, which are plain in every stage: for each the verdict of its checks, and its reply where they hold, with both
+// cryptograms and the pairing key hashed from the pairing secret.
 // Every length and count is in bytes; a slot's index counts slots from 0.
 // Proved: each verdict, reply and byte of the buffer is what the step's rule gives, for every card, data and supply.
 ghost use mathlib.Core.Path.{_≡_};
