@@ -1,15 +1,16 @@
 -- What the checks and the supply of any command say where it is known which command it is; and that no command but LOAD has a fault offset.
 -- Assumes nothing.
-use mathlib.Core.Path.{_≡_, refl, subst}
+use mathlib.Core.Path.{_≡_, sym, subst}
 use mathlib.Core.Bool.{true}
 use mathlib.Core.List.{List, [], _∷_}
+use mathlib.Core.Logic.{⊎-elim}
 use Prim.Native.Nat.{ℕ}
 use types.Run.{OneOf, miss}
 use denote.Enum.Declared.{tagOf}
 use Rattle.card.specs.declared.Card.{Card}
 use Rattle.rules.proofs.Command.{the-type}
+use Rattle.rules.proofs.Places.{unless-load}
 use Rattle.rules.specs.declared.Command.{Command}
-use Rattle.rules.specs.declared.Command.the-variants as command
 use Rattle.rules.specs.Words.{Hold}
 use Rattle.rules.specs.Supplies.{suits}
 use Rattle.rules.specs.Rules.{noFault}
@@ -27,23 +28,6 @@ module _ (k known : Command) (e : k ≡ known) where
 abbrev others : List ℕ
 others = 0 ∷ 1 ∷ 2 ∷ 3 ∷ 4 ∷ 5 ∷ 6 ∷ 7 ∷ 8 ∷ 9 ∷ 10 ∷ 12 ∷ 13 ∷ 14 ∷ 15 ∷ 16 ∷ 17 ∷ []
 
-pub unless-load : (k : Command) (d : List ℕ) → OneOf others (tagOf the-type k) → noFault ≡ ruleOf k .place d
-unfolding ruleOf
-unless-load (command.Load form) d h = absurd (miss others 11 tt h)
-unless-load command.Select d h = refl
-unless-load command.Init d h = refl
-unless-load (command.Open _) d h = refl
-unless-load command.Mutual d h = refl
-unless-load command.PairFirst d h = refl
-unless-load command.PairFinal d h = refl
-unless-load (command.Unpair _) d h = refl
-unless-load (command.Status _) d h = refl
-unless-load command.Verify d h = refl
-unless-load (command.Change _) d h = refl
-unless-load command.Unblock d h = refl
-unless-load command.Derive d h = refl
-unless-load command.Remove d h = refl
-unless-load command.SetPinless d h = refl
-unless-load command.Sign d h = refl
-unless-load (command.Export _ _) d h = refl
-unless-load command.SetNdef d h = refl
+pub no-place : (k : Command) (d : List ℕ) → OneOf others (tagOf the-type k) → noFault ≡ ruleOf k .place d
+no-place k d h =
+    ⊎-elim (λ x. absurd (miss others 11 tt (subst (λ (y : Command). OneOf others (tagOf the-type y)) (x .1) h))) (λ e. sym (e d)) (unless-load k)

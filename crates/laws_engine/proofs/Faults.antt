@@ -1,5 +1,5 @@
--- ANSWER tells a fault offset for a LOAD whose template WALK refuses, and for nothing else: through the order of checks, with one line a command for
--- its rule. WALK accepts each template that LOAD takes, so that where WALK refuses the answer is 6A80.
+-- ANSWER tells a fault offset for a LOAD whose template WALK refuses, and for nothing else: through the order of checks.
+-- WALK accepts each template that LOAD takes, so that where WALK refuses the answer is 6A80.
 -- Assumes nothing.
 use mathlib.Core.Path.{_≡_, refl, sym, ap, _∙_}
 use mathlib.Core.Bool.{Bool, true, false}
@@ -25,33 +25,12 @@ use Rattle.rules.specs.declared.Verdict.{Verdict}
 use Rattle.rules.specs.Words.{wrongData, fails}
 use Rattle.rules.specs.Rules.{noFault}
 use Rattle.rules.specs.Commands.{isVerified, loadChecks, placeIn, loadPlace, ruleOf}
+use Rattle.rules.proofs.Places.{unless-load}
 use Rattle.rules.specs.Channel.{tell}
 use Rattle.rules.specs.Steps.{Step, goes, step1, Arrived, arrival, checksOf, supplyOf, faultAt, endsAt, byVerdict, step6, finish, decide}
 use Rattle.laws_commands.proofs.Checks.{by-verdict}
 use Rattle.laws_commands.proofs.Arrival.{by-step5, by-pastStep1}
 use Rattle.laws_engine.specs.Faults.{LoadFault, offsetOf}
-
--- ---- which rule tells a place: LOAD's alone
-unless-load : (k : Command) → ((form : KeyForm) × (k ≡ command.Load form)) ⊎ ((d : List ℕ) → ruleOf k .place d ≡ noFault)
-unfolding ruleOf
-unless-load command.Select = inr (λ d. refl)
-unless-load command.Init = inr (λ d. refl)
-unless-load (command.Open i) = inr (λ d. refl)
-unless-load command.Mutual = inr (λ d. refl)
-unless-load command.PairFirst = inr (λ d. refl)
-unless-load command.PairFinal = inr (λ d. refl)
-unless-load (command.Unpair i) = inr (λ d. refl)
-unless-load (command.Status which) = inr (λ d. refl)
-unless-load command.Verify = inr (λ d. refl)
-unless-load (command.Change which) = inr (λ d. refl)
-unless-load command.Unblock = inr (λ d. refl)
-unless-load (command.Load form) = inl (form, refl)
-unless-load command.Derive = inr (λ d. refl)
-unless-load command.Remove = inr (λ d. refl)
-unless-load command.SetPinless = inr (λ d. refl)
-unless-load command.Sign = inr (λ d. refl)
-unless-load (command.Export which what) = inr (λ d. refl)
-unless-load command.SetNdef = inr (λ d. refl)
 
 -- ---- a template that WALK refuses
 accepted : (w : Walked) (n : ℕ) → w ≡ Fields n → report w .refusal ≡ 0

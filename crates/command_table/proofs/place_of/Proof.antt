@@ -1,7 +1,7 @@
--- LOAD has its own offset; that no other command has one is `unless-load`.
+-- LOAD has its own offset; that no other command has one is `no-place`.
 -- Assumes nothing.
 use Rattle.rules.specs.Commands.{ruleOf}
-use Rattle.command_table.proofs.Facts.{unless-load}
+use Rattle.command_table.proofs.Facts.{no-place}
 use borrow.Author.Needs.{needs}
 use Rattle.command_table.proofs.place_of.Statement.{statement}
 use Rattle.command_table.proofs.place_of.Tie as tie
@@ -10,7 +10,7 @@ enum-known-k : tie.Need-enum-known-k
 enum-known-k c = search needs
 
 returns : tie.Need-returns
-returns c = unless-load (c .before .before .args .k) (c .before .before .args .«data» .now) (c .match .keys2)
+returns c = no-place (c .before .before .args .k) (c .before .before .args .«data» .now) (c .match .keys2)
 
 load-place-requires : tie.Need-load-place-requires
 load-place-requires c κs = search needs
