@@ -129,7 +129,9 @@ fn more_help() {
     );
     say(b"unseal RESPONSE [room N]       what a sealed response holds\n");
     say(b"send HEADER DATA SUPPLY        seal, ask, answer and unseal\n");
-    say(b"walk BYTES                     how many fields that are no templates\n");
+    say(
+        b"walk BYTES                     how many fields that are no templates, or the faulty field\n",
+    );
     card_help();
 }
 
