@@ -26,7 +26,7 @@ use Rattle.rules.specs.Channel.{tell}
 use Rattle.rules.specs.Steps.{decide}
 use Rattle.rules.specs.Engine.{AnswerOut, answeredAt, answerOut}
 use Rattle.laws_engine.specs.Faults.{LoadFault, offsetOf}
-use Rattle.laws_engine.proofs.Faults.{distinct, distinct′, fault-decides, fault-alone}
+use Rattle.laws_engine.proofs.Faults.{keypair-not-seed, extended-not-seed, fault-decides, fault-alone}
 use Rattle.laws_engine.proofs.Rooms.{Few, arrival-few}
 use Rattle.laws_exchange.specs.Exchange.{Turn}
 use Rattle.laws_two_runs.proofs.Reached.{inChannel, verified-reached}
@@ -38,14 +38,14 @@ use Rattle.claims.proofs.LoadTurns.{unverified, denied, refused, accept
 
 -- ---- every ANSWER
 module _ (c : Card) (cmd s : List ℕ) (room : ℕ) where
-  none-told : decide c cmd .fault ≡ noFault → answerOut c cmd s room .fault ≡ 255
+  none-told : decide c cmd .faultOffset ≡ noFault → answerOut c cmd s room .faultOffset ≡ 255
   unfolding answerOut
   none-told e = by-test None (isSound c)
       (λ _. by-test None (ltb room answerRoom) (λ _. refl) (λ _. by-test None (suits (decide c cmd .supply) s) (λ _. e) (λ _. refl)))
       (λ _. refl)
     where
       None : AnswerOut → Type 0
-      None o = o .fault ≡ 255
+      None o = o .faultOffset ≡ 255
 
   module _ (sound : isSound c ≡ true) (enough : 258 ≤ room) where
     told-out : (x : LoadFault c cmd)
@@ -53,14 +53,14 @@ module _ (c : Card) (cmd s : List ℕ) (room : ℕ) where
     unfolding answerOut suits
     told-out x = rw (sound, le-ltb room 258 enough, fault-decides c cmd x)
 
-    exactly : Bytes cmd → (answerOut c cmd s room .fault ≡ 255 → ⊥) ↔ LoadFault c cmd
+    exactly : Bytes cmd → (answerOut c cmd s room .faultOffset ≡ 255 → ⊥) ↔ LoadFault c cmd
     exactly b = (
       λ n. ⊎-elim (λ e. absurd (n (none-told e))) (λ x. x) (fault-alone c cmd),
       λ x e. omega (
         arith,
         offset-place (x .arrived .data′) (x .refused),
         subst Few (x .there) (arrival-few c cmd b),
-        ap (λ (a : AnswerOut). a .fault) (told-out x),
+        ap (λ (a : AnswerOut). a .faultOffset) (told-out x),
         e,
       ),
     )
@@ -152,10 +152,10 @@ at-fault form template d bytes fits n k e m =
     (λ z. m (sym (ap (λ (r : WalkOut). r .refusal) e) ∙ z)) .0))
 
 inside : Example key.Keypair pastEnd 2
-inside = at-fault key.Keypair distinct pastEnd past-bytes (omega arith) 4 2 (walks .0) (λ z. omega (arith, z))
+inside = at-fault key.Keypair keypair-not-seed pastEnd past-bytes (omega arith) 4 2 (walks .0) (λ z. omega (arith, z))
 
 deep : Example key.Extended fiveDeep 8
-deep = at-fault key.Extended distinct′ fiveDeep deep-bytes (omega arith) 5 8 (walks .1) (λ z. omega (arith, z))
+deep = at-fault key.Extended extended-not-seed fiveDeep deep-bytes (omega arith) 5 8 (walks .1) (λ z. omega (arith, z))
 
 empty : Example key.Keypair noFields 255
 empty =
@@ -173,7 +173,7 @@ as-seed =
 
 behind : Example key.Keypair cutBehind 2
 behind =
-    at-fault key.Keypair distinct cutBehind (omega arith, (omega arith, (omega arith, tt))) (omega arith) 4 2 (walks .3) (λ z. omega (arith, z))
+    at-fault key.Keypair keypair-not-seed cutBehind (omega arith, (omega arith, (omega arith, tt))) (omega arith) 4 2 (walks .3) (λ z. omega (arith, z))
 
 pub faults : Faults
 faults = record {
@@ -184,7 +184,7 @@ faults = record {
           taken = ap (λ (a : AnswerOut). a .refusal) e;
           bytes = ap (λ (a : AnswerOut). a .bytes) e;
           card = ap (λ (a : AnswerOut). a .card) e;
-          fault = ap (λ (a : AnswerOut). a .fault) e;
+          faultOffset = ap (λ (a : AnswerOut). a .faultOffset) e;
         },
         offset-place (x .arrived .data′) (x .refused),
       );

@@ -30,7 +30,7 @@ use Rattle.rules.specs.Commands.{isVerified, isKeyData, kindOf, keyWith, loadCh
 use Rattle.rules.specs.Rows.{rowOf, isPlain}
 use Rattle.rules.specs.Channel.{withMac, plainText}
 use Rattle.rules.specs.Steps.{claOf, insOf, p1Of, p2Of, nameOf, isInitialised, faultAt}
-use Rattle.laws_engine.proofs.Faults.{not-keypair, numbered, place-told}
+use Rattle.laws_engine.proofs.Faults.{not-keypair, number-not-0, place-told}
 use Rattle.laws_exchange.specs.Opens.{outcome, faultOf}
 use Rattle.laws_exchange.specs.Exchange.{Turn, unsealedBy, Names, listed, opened, InStage2}
 use Rattle.laws_exchange.proofs.Exchanges.{known, staged, listed2}
@@ -80,7 +80,7 @@ module _ (c : Card) (t : Turn) (form : KeyForm) (p : Supposed c t form) where
     accepted = turn r .turn .accepted;
     reads = turn r .turn .plain ∙ ap plainText e;
     card = turn r .turn .card ∙ ap (λ (x : Reply). withMac (x .card) (unsealedBy c t .session .iv)) e;
-    fault = turn r .fault ∙ f;
+    faultOffset = turn r .faultOffset ∙ f;
   }
 
   pub unverified : isVerified (c .pins) ≡ false → LoadFails c t (0x69 ∷ 0x85 ∷ []) 255
@@ -121,14 +121,14 @@ module _ (c : Card) (t : Turn) (form : KeyForm) (p : Supposed c t form) where
           accepted = it .turn .accepted;
           reads = it .turn .plain ∙ ap plainText (loads-it o);
           card = it .turn .card ∙ ap (λ (x : Reply). withMac (x .card) (unsealedBy c t .session .iv)) (loads-it o);
-          fault = it .fault ∙ no-fault;
+          faultOffset = it .faultOffset ∙ no-fault;
         }
 
 -- ---- the place, by form: none where WALK takes the data, WALK's offset where it refuses a template's
 module _ (d : List ℕ) where
   in-it : (w : Walked) → report w .refusal ≡ 0 → placeIn w ≡ 255
   in-it (Fields n) e = refl
-  in-it (Refused f at) e = absurd (numbered f e)
+  in-it (Refused f at) e = absurd (number-not-0 f e)
 
   taken-place : (form : KeyForm) → WALK d .refusal ≡ 0 → loadPlace form d ≡ 255
   unfolding loadPlace

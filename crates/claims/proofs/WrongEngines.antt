@@ -47,12 +47,12 @@ abbrev paired : Card
 paired = withPairing card (withSlot (card .pairing) 0 (filledWith pairHash))
 
 first-answer : answerOut card pairFirst (zeros 32) 258
-    ≡ record { refusal = 0; card = pending; bytes = pairHash ++ zeros 32 ++ (0x90 ∷ 0x00 ∷ []); fault = 255 }
+    ≡ record { refusal = 0; card = pending; bytes = pairHash ++ zeros 32 ++ (0x90 ∷ 0x00 ∷ []); faultOffset = 255 }
 unfolding answerOut isSound allOf someOf decide arrival step1 pastStep1 dataOf nameOf step4 step5 step6 ruleOf pairFirstChecks suits pairFirstReply tell
 first-answer = refl
 
 second-answer : answerOut pending pairFinal (zeros 32) 258
-    ≡ record { refusal = 0; card = paired; bytes = 0 ∷ zeros 32 ++ (0x90 ∷ 0x00 ∷ []); fault = 255 }
+    ≡ record { refusal = 0; card = paired; bytes = 0 ∷ zeros 32 ++ (0x90 ∷ 0x00 ∷ []); faultOffset = 255 }
 unfolding isSound allOf someOf pairFinalReply pairInto firstFree
 second-answer = final-answers (card .pairing .slots) refl
 
@@ -74,7 +74,7 @@ first-long = omega (
 )
 
 second-is : answerOut (answerOut card pairFirst (zeros 32) 258 .card) pairFinal (zeros 32) 258
-    ≡ record { refusal = 0; card = paired; bytes = 0 ∷ zeros 32 ++ (0x90 ∷ 0x00 ∷ []); fault = 255 }
+    ≡ record { refusal = 0; card = paired; bytes = 0 ∷ zeros 32 ++ (0x90 ∷ 0x00 ∷ []); faultOffset = 255 }
 second-is = ap (λ (a : AnswerOut). answerOut (a .card) pairFinal (zeros 32) 258) first-answer ∙ second-answer
 
 bytes-are : answerOut (answerOut card pairFirst (zeros 32) 258 .card) pairFinal (zeros 32) 258 .bytes ≡ 0 ∷ zeros 32 ++ (0x90 ∷ 0x00 ∷ [])

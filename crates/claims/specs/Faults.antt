@@ -26,7 +26,7 @@ pub record Tells (a : AnswerOut) (t : Outgoing) (offset : ℕ) : Type 0 where
   pub taken : a .refusal ≡ 0
   pub bytes : a .bytes ≡ t .bytes
   pub card : a .card ≡ t .card
-  pub fault : a .fault ≡ offset
+  pub faultOffset : a .faultOffset ≡ offset
 
 -- ---- a turn with LOAD that ends with this status word and no data, and this fault offset; nothing of the card has moved but the channel's IV
 pub record LoadFails (c : Card) (t : Turn) (word : List ℕ) (offset : ℕ) : Type 0 where
@@ -34,7 +34,7 @@ pub record LoadFails (c : Card) (t : Turn) (word : List ℕ) (offset : ℕ) : Ty
   pub accepted : unsealedBy c t .refusal ≡ 0
   pub reads : unsealedBy c t .bytes ≡ word
   pub card : answeredBy c t .card ≡ withMac c (unsealedBy c t .session .iv)
-  pub fault : answeredBy c t .fault ≡ offset
+  pub faultOffset : answeredBy c t .faultOffset ≡ offset
 
 -- what is supposed of such a turn: the card is sound and in stage 2
 pub record Supposed (c : Card) (t : Turn) (form : KeyForm) : Type 0 where
@@ -55,7 +55,7 @@ pub record Faults : Type 0 where
   -- on a sound card and with room enough, whatever the command and the supply: the number is not 255 exactly for a LOAD with P1 01 or 02 that comes
   -- to the check of its data, and WALK refuses these
   pub exactly : (c : Card) (cmd s : List ℕ) (room : ℕ) → isSound c ≡ true → 258 ≤ room → Bytes cmd
-      → (answerOut c cmd s room .fault ≡ 255 → ⊥) ↔ LoadFault c cmd
+      → (answerOut c cmd s room .faultOffset ≡ 255 → ⊥) ↔ LoadFault c cmd
   -- it is then WALK's offset, that of a byte of the data; and the answer is 6A80, as the rules send it, with the card that an error leaves
   pub told : (c : Card) (cmd s : List ℕ) (room : ℕ) → isSound c ≡ true → 258 ≤ room → (x : LoadFault c cmd)
       → Tells (answerOut c cmd s room) (tell (x .arrived .over) (fails (x .arrived .lost) wrongData)) (offsetOf x)

@@ -80,7 +80,7 @@ pub record Loaded (c : Card) (t : Turn) (form : KeyForm) (public : List ℕ) : T
   pub accepted : unsealedBy c t .refusal ≡ 0
   pub reads : unsealedBy c t .bytes ≡ sha256 public ++ (0x90 ∷ 0x00 ∷ [])
   pub card : answeredBy c t .card ≡ withMac (withKeys c (keyWith (keyKind form) (sha256 public))) (unsealedBy c t .session .iv)
-  pub fault : answeredBy c t .fault ≡ 255
+  pub faultOffset : answeredBy c t .faultOffset ≡ 255
 
 -- ---- an example: from FRESH, calls lead to a card that can be paired; challenges and salt are zeros
 abbrev pub at : List Call → Card

@@ -1,6 +1,7 @@
 // Writing a response: the response data and the status word, in the clear or sealed together, and the card that is left; no fault offset is told.
 // Every length, room and count is in bytes.
-// Proved: the count, the next card and every byte of the buffer are the rulebook's, for any reply that fits and any buffer with room.
+// Proved: the count, the fault offset, the next card and every byte of the buffer are the rulebook's, for any reply that fits and any buffer
+// with room.
 ghost use mathlib.Core.Path.{_≡_};
 ghost use Prim.Native.Nat.{_≤_};
 ghost use lib.ListN.{length};

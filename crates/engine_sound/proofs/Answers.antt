@@ -29,7 +29,7 @@ use Rattle.order.specs.Routes.{Routes, RoutesIn}
 -- ---- ANSWER of a sound card, with room enough
 module _ (c : Card) (want : Decision) (r : Way) (d s : List ℕ) (h : Routes want r d) where
   decided : (b : Bool) → r .goes ≡ b → want ≡ cond b
-      (record { supply = r .supply; data′ = d; answer = λ s. tell (r .over) (replyOf (r .command) (r .card) d s); fault = noFault })
+      (record { supply = r .supply; data′ = d; answer = λ s. tell (r .over) (replyOf (r .command) (r .card) d s); faultOffset = noFault })
       (endsAt (r .«fault_offset») (tell (r .over) (fails (r .card) (r .status))))
   decided b e = h .decides ∙ rw (e)
 

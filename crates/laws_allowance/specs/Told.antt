@@ -27,7 +27,7 @@ pub record Came (c : Card) (cmd : List ℕ) (k : Command) : Type 0 where
 pub record Told (c : Card) (cmd s : List ℕ) (room : ℕ) : Type 0 where
   pub over : Bool
   pub reply : Reply
-  pub fault : ℕ
+  pub faultOffset : ℕ
   pub answer : answerOut c cmd s room ≡ answeredAt fault (tell over reply)
   pub word : isGiven (given c cmd s) ≡ eqb (reply .status) success
   pub came : (k : Command) → given c cmd s ≡ some k → Came c cmd k

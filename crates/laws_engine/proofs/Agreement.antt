@@ -80,7 +80,7 @@ module _ (c : Card) (cmd : List ℕ) (r1 r2 : ℕ) (e : isSound c ≡ true) (a :
   unfolding answerOut
   answer-is s = rw (e, le-ltb r2 258 b)
 
-  taken : askOut c cmd r1 .kind ≡ 0 → (s : List ℕ) → withSupply c (decide c cmd) s ≡ answeredAt (decide c cmd .fault) (decide c cmd .answer s)
+  taken : askOut c cmd r1 .kind ≡ 0 → (s : List ℕ) → withSupply c (decide c cmd) s ≡ answeredAt (decide c cmd .faultOffset) (decide c cmd .answer s)
   unfolding suits
   taken z s = rw (sym (kind-is c cmd r1 e a) ∙ z)
 
@@ -91,7 +91,7 @@ module _ (c : Card) (cmd : List ℕ) (r1 r2 : ℕ) (e : isSound c ≡ true) (a :
   pub unread-same : askOut c cmd r1 .kind ≡ 0 → (s t : List ℕ) → answerOut c cmd s r2 ≡ answerOut c cmd t r2
   unread-same z s t =
       answer-is s ∙ taken z s
-      ∙ ap (answeredAt (decide c cmd .fault)) (decide-regular c cmd .unread (sym (kind-is c cmd r1 e a) ∙ z) s t)
+      ∙ ap (answeredAt (decide c cmd .faultOffset)) (decide-regular c cmd .unread (sym (kind-is c cmd r1 e a) ∙ z) s t)
       ∙ sym (answer-is t ∙ taken z t)
 
   -- ANSWER gives refusal 3 exactly where the supply has not the form of the one that is asked for, and no refusal otherwise

@@ -33,25 +33,25 @@ use Rattle.laws_commands.proofs.Arrival.{by-step5, by-pastStep1}
 use Rattle.laws_engine.specs.Faults.{LoadFault, offsetOf}
 
 -- ---- a template that WALK refuses
-accepted : (w : Walked) (n : ℕ) → w ≡ Fields n → report w .refusal ≡ 0
-accepted w n e = ap (λ (x : Walked). report x .refusal) e
+fields-accepted : (w : Walked) (n : ℕ) → w ≡ Fields n → report w .refusal ≡ 0
+fields-accepted w n e = ap (λ (x : Walked). report x .refusal) e
 
 pub not-keypair : (chain : Bool) (d : List ℕ) → (WALK d .refusal ≡ 0 → ⊥) → keypair chain d ≡ false
 not-keypair chain d n = go (keypair chain d) refl
   where
     go : (b : Bool) → keypair chain d ≡ b → b ≡ false
-    go true e = absurd (⊎-elim (λ f. n (accepted (walkOf d) _ f)) (λ f. n (accepted (walkOf d) _ f)) (keypair-walks chain d e))
+    go true e = absurd (⊎-elim (λ f. n (fields-accepted (walkOf d) _ f)) (λ f. n (fields-accepted (walkOf d) _ f)) (keypair-walks chain d e))
     go false e = refl
 
-pub numbered : (f : Fault) → refusalNumber f ≡ 0 → ⊥
-numbered Malformed e = omega arith
-numbered TooDeep e = omega arith
+pub number-not-0 : (f : Fault) → refusalNumber f ≡ 0 → ⊥
+number-not-0 Malformed e = omega arith
+number-not-0 TooDeep e = omega arith
 
-pub distinct : key.Keypair ≡ key.Seed → ⊥
-distinct e = let z : _≡_ {A = ℕ} 0 1 = cc in omega arith
+pub keypair-not-seed : key.Keypair ≡ key.Seed → ⊥
+keypair-not-seed e = let z : _≡_ {A = ℕ} 0 1 = cc in omega arith
 
-pub distinct′ : key.Extended ≡ key.Seed → ⊥
-distinct′ e = let z : _≡_ {A = ℕ} 0 1 = cc in omega arith
+pub extended-not-seed : key.Extended ≡ key.Seed → ⊥
+extended-not-seed e = let z : _≡_ {A = ℕ} 0 1 = cc in omega arith
 
 pub place-told : (w : Walked) → (report w .refusal ≡ 0 → ⊥) → placeIn w ≡ report w .offset
 place-told (Fields m) n = absurd (n refl)
@@ -72,9 +72,9 @@ unfolding decide
 fault-decides c cmd x = ap finish (x .there) ∙ load-fails (x .arrived) (x .verified) (x .refused) (x .form) (x .template) (x .asks)
 
 -- ---- nothing else
-no-place : (a : Arrived) → ruleOf (a .command) .place (a .data′) ≡ noFault → step6 a .fault ≡ noFault
+no-place : (a : Arrived) → ruleOf (a .command) .place (a .data′) ≡ noFault → step6 a .faultOffset ≡ noFault
 unfolding step6 faultAt
-no-place a e = by-verdict (λ (v : Verdict). byVerdict a v .fault ≡ noFault) (supplyOf (a .command)) (checksOf (a .command) (a .card) (a .data′))
+no-place a e = by-verdict (λ (v : Verdict). byVerdict a v .faultOffset ≡ noFault) (supplyOf (a .command)) (checksOf (a .command) (a .card) (a .data′))
     (λ h. refl) (λ w. by-test (λ (n : ℕ). n ≡ noFault) (eqb w wrongData) (λ _. e) (λ _. refl))
 
 module _ (c : Card) (cmd : List ℕ) where
@@ -82,7 +82,7 @@ module _ (c : Card) (cmd : List ℕ) where
   Told n = (n ≡ noFault) ⊎ LoadFault c cmd
 
   module _ (a : Arrived) (there : arrival c cmd ≡ goes a) (form : KeyForm) (asks : a .command ≡ command.Load form) where
-    not-verified : isVerified (a .card .pins) ≡ false → step6 a .fault ≡ noFault
+    not-verified : isVerified (a .card .pins) ≡ false → step6 a .faultOffset ≡ noFault
     unfolding step6 ruleOf loadChecks faultAt
     not-verified e = rw (asks, e)
 
@@ -91,10 +91,10 @@ module _ (c : Card) (cmd : List ℕ) where
     placed e = rw asks e
 
     -- a template: WALK takes it, or it refuses and the PIN is verified, or the PIN is not verified
-    by-walk : (form ≡ key.Seed → ⊥) → ((w : Walked) → walkOf (a .data′) ≡ w → loadPlace form (a .data′) ≡ placeIn w) → Told (step6 a .fault)
+    by-walk : (form ≡ key.Seed → ⊥) → ((w : Walked) → walkOf (a .data′) ≡ w → loadPlace form (a .data′) ≡ placeIn w) → Told (step6 a .faultOffset)
     by-walk n place = go (isVerified (a .card .pins)) refl (walkOf (a .data′)) refl
       where
-        go : (b : Bool) → isVerified (a .card .pins) ≡ b → (w : Walked) → walkOf (a .data′) ≡ w → Told (step6 a .fault)
+        go : (b : Bool) → isVerified (a .card .pins) ≡ b → (w : Walked) → walkOf (a .data′) ≡ w → Told (step6 a .faultOffset)
         go false v w e = inl (not-verified v)
         go true v (Fields m) e = inl (no-place a (placed (place (Fields m) e)))
         go true v (Refused f at) e = inr (record {
@@ -104,25 +104,25 @@ module _ (c : Card) (cmd : List ℕ) where
           asks = asks;
           template = n;
           verified = v;
-          refused = λ z. numbered f (sym (ap (λ (x : Walked). report x .refusal) e) ∙ z);
+          refused = λ z. number-not-0 f (sym (ap (λ (x : Walked). report x .refusal) e) ∙ z);
         })
 
-    load-told : Told (step6 a .fault)
+    load-told : Told (step6 a .faultOffset)
     unfolding loadPlace
     load-told = go form refl
       where
-        go : (f : KeyForm) → form ≡ f → Told (step6 a .fault)
-        go key.Keypair e = by-walk (λ z. distinct (sym e ∙ z)) (λ w h. rw (e, h))
-        go key.Extended e = by-walk (λ z. distinct′ (sym e ∙ z)) (λ w h. rw (e, h))
+        go : (f : KeyForm) → form ≡ f → Told (step6 a .faultOffset)
+        go key.Keypair e = by-walk (λ z. keypair-not-seed (sym e ∙ z)) (λ w h. rw (e, h))
+        go key.Extended e = by-walk (λ z. extended-not-seed (sym e ∙ z)) (λ w h. rw (e, h))
         go key.Seed e = inl (no-place a (placed (rw e)))
 
-  step6-told : (a : Arrived) → arrival c cmd ≡ goes a → Told (step6 a .fault)
+  step6-told : (a : Arrived) → arrival c cmd ≡ goes a → Told (step6 a .faultOffset)
   step6-told a there = ⊎-elim (λ h. load-told a there (h .0) (h .1)) (λ e. inl (no-place a (e (a .data′)))) (unless-load (a .command))
 
   abbrev After : Step Arrived → Type 0
-  After y = arrival c cmd ≡ y → Told (finish y .fault)
+  After y = arrival c cmd ≡ y → Told (finish y .faultOffset)
 
-  pub fault-alone : (decide c cmd .fault ≡ noFault) ⊎ LoadFault c cmd
+  pub fault-alone : (decide c cmd .faultOffset ≡ noFault) ⊎ LoadFault c cmd
   unfolding decide arrival
   fault-alone = by-pastStep1 After cmd (step1 cmd c) (λ w e. inl refl) (λ e. inl refl)
       (λ x. by-step5 After (x .instruction) cmd (x .opened) (λ e. inl refl) (λ k l e. step6-told _ e)) refl

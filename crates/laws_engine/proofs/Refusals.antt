@@ -50,7 +50,7 @@ module _ (c : Card) (cmd s : List ℕ) (room : ℕ) where
   answer-number : answerOut c cmd s room .refusal ≡ number (isSound c) (ltb room answerRoom) (suits (decide c cmd .supply) s)
   unfolding answerOut
   answer-number =
-      by-tests (isSound c) (ltb room answerRoom) (suits (decide c cmd .supply) s) (decide c cmd .fault) (decide c cmd .answer s)
+      by-tests (isSound c) (ltb room answerRoom) (suits (decide c cmd .supply) s) (decide c cmd .faultOffset) (decide c cmd .answer s)
     where
       by-tests : (a b d : Bool) (n : ℕ) (t : Outgoing)
           → cond a (cond b (answerRefused c 2) (cond d (answeredAt n t) (answerRefused c 3))) (answerRefused c 1) .refusal ≡ number a b d
@@ -61,13 +61,13 @@ module _ (c : Card) (cmd s : List ℕ) (room : ℕ) where
 
   -- a refusal gives back the card that it was given, writes nothing and tells no fault
   pub answer-refused : (answerOut c cmd s room .refusal ≡ 0 → ⊥)
-      → (answerOut c cmd s room .card ≡ c) × (answerOut c cmd s room .bytes ≡ []) × (answerOut c cmd s room .fault ≡ noFault)
+      → (answerOut c cmd s room .card ≡ c) × (answerOut c cmd s room .bytes ≡ []) × (answerOut c cmd s room .faultOffset ≡ noFault)
   unfolding answerOut
   answer-refused =
-      by-tests (isSound c) (ltb room answerRoom) (suits (decide c cmd .supply) s) (decide c cmd .fault) (decide c cmd .answer s)
+      by-tests (isSound c) (ltb room answerRoom) (suits (decide c cmd .supply) s) (decide c cmd .faultOffset) (decide c cmd .answer s)
     where
       Kept : AnswerOut → Type 0
-      Kept o = (o .refusal ≡ 0 → ⊥) → (o .card ≡ c) × (o .bytes ≡ []) × (o .fault ≡ noFault)
+      Kept o = (o .refusal ≡ 0 → ⊥) → (o .card ≡ c) × (o .bytes ≡ []) × (o .faultOffset ≡ noFault)
 
       by-tests : (a b d : Bool) (n : ℕ) (t : Outgoing)
           → Kept (cond a (cond b (answerRefused c 2) (cond d (answeredAt n t) (answerRefused c 3))) (answerRefused c 1))

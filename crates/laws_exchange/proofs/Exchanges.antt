@@ -189,7 +189,7 @@ module _ (c : Card) (t : Turn) (n : Names c (t .header)) (sound : isSound c ≡ 
     sealed2 : InStage2 c t r fault
     sealed2 = record {
       turn = exchanged c t w r told session2 bytes short;
-      fault = ap (λ (a : AnswerOut). a .fault) (answered-is c t w r told session2 bytes short);
+      faultOffset = ap (λ (a : AnswerOut). a .faultOffset) (answered-is c t w r told session2 bytes short);
       stays = ap (λ (a : AnswerOut). a .card .channel .stage) (answered-is c t w r told session2 bytes short)
           ∙ ap (λ (k : Channel). k .stage) channel ∙ in2;
       typed = typed-next c t w r told session2 bytes short sound path;
@@ -339,7 +339,7 @@ module _ (c : Card) (t : Turn) (sound : isSound c ≡ true) (w : Typed c) (in1 :
   to-stage2 = record {
     turn = turn1;
     random = turn1 .plain ∙ reply-random;
-    fault = ap (λ (a : AnswerOut). a .fault) (answered-is c t w replied1 told1 session1 bytes1 short1);
+    faultOffset = ap (λ (a : AnswerOut). a .faultOffset) (answered-is c t w replied1 told1 session1 bytes1 short1);
     stage =
         ap (λ (a : AnswerOut). a .card .channel .stage) (answered-is c t w replied1 told1 session1 bytes1 short1) ∙ reply-stage (opened c t);
     typed = typed-next c t w replied1 told1 session1 bytes1 short1 sound

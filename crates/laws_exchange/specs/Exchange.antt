@@ -20,7 +20,6 @@ use Rattle.rules.specs.declared.Command.{Command}
 use Rattle.rules.specs.declared.Command.the-variants as command
 use Rattle.rules.specs.Words.{success, word, Hold, Reply}
 use Rattle.rules.specs.Supplies.{suits}
-use Rattle.rules.specs.Rules.{noFault}
 use Rattle.rules.specs.Rows.{rowOf, isPlain}
 use Rattle.rules.specs.Channel.{sessionOf, withMac}
 use Rattle.rules.specs.Steps.{dataOf, claOf, insOf, p1Of, p2Of, nameOf, isInitialised, inStage, checksOf, supplyOf, replyOf}
@@ -102,7 +101,7 @@ Exchange c t r = Exchanged r (sealedBy (sessionOf (c .channel)) t) (answeredBy c
 -- the next turn can begin
 pub record InStage2 (c : Card) (t : Turn) (r : Reply) (n : ℕ) : Type 0 where
   pub turn : Exchange c t r
-  pub fault : answeredBy c t .fault ≡ n
+  pub faultOffset : answeredBy c t .faultOffset ≡ n
   pub stays : answeredBy c t .card .channel .stage ≡ 2
   pub typed : Typed (answeredBy c t .card)
 
@@ -129,7 +128,7 @@ pub record Unlisted (c : Card) (t : Turn) : Type 0 where
 pub record ToStage2 (c : Card) (t : Turn) : Type 0 where
   pub turn : Exchange c t (replyOf command.Mutual (opened c t) (t .data′) (t .supply))
   pub random : unsealedBy c t .bytes ≡ t .supply ++ word success
-  pub fault : answeredBy c t .fault ≡ noFault
+  pub faultOffset : answeredBy c t .faultOffset ≡ 255
   pub stage : answeredBy c t .card .channel .stage ≡ 2
   pub typed : Typed (answeredBy c t .card)
 

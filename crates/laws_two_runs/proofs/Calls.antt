@@ -25,7 +25,7 @@ use Rattle.laws_two_runs.proofs.Order.{decide-same, compared-same}
 
 -- ---- what ANSWER gives, without PIN and PUK
 abbrev eraseAnswer : AnswerOut → AnswerOut
-eraseAnswer a = record { refusal = a .refusal; card = erase (a .card); bytes = a .bytes; fault = a .fault }
+eraseAnswer a = record { refusal = a .refusal; card = erase (a .card); bytes = a .bytes; faultOffset = a .faultOffset }
 
 -- what a call does on two cards
 pub record StepSame (c d : Card) (k : Call) : Type 0 where
@@ -49,7 +49,7 @@ module _ (p q : List ℕ) (c : Card) (sound : isSound c ≡ true) (sound′ : is
   -- ---- ANSWER: the room decides, then the supply's form; where neither refuses, the comparison is made
   module _ (cmd s : List ℕ) where
     by : Card → Bool → Bool → AnswerOut
-    by x short fits = cond short (answerRefused x noRoom) (cond fits (answeredAt (decide x cmd .fault) (decide x cmd .answer s)) (answerRefused x wrongSupply))
+    by x short fits = cond short (answerRefused x noRoom) (cond fits (answeredAt (decide x cmd .faultOffset) (decide x cmd .answer s)) (answerRefused x wrongSupply))
 
     abbrev made : Card → AnswerOut → Option Comparison
     made x a = cond (eqb (a .refusal) noRefusal) (comparison x cmd) none
@@ -60,7 +60,7 @@ module _ (p q : List ℕ) (c : Card) (sound : isSound c ≡ true) (sound′ : is
     by-both : (short fits : Bool) → Both (by c short fits) (by other short fits)
     unfolding by
     by-both true fits = (refl, λ _. refl)
-    by-both false true = (compared-same p q c cmd, λ h. ap₂ answeredAt (decide-same p q c cmd .fault) (decide-same p q c cmd .answer h s))
+    by-both false true = (compared-same p q c cmd, λ h. ap₂ answeredAt (decide-same p q c cmd .faultOffset) (decide-same p q c cmd .answer h s))
     by-both false false = (refl, λ _. refl)
 
     answer-both : (room : ℕ) → Both (answerOut c cmd s room) (answerOut other cmd s room)
@@ -80,7 +80,7 @@ module _ (p q : List ℕ) (c : Card) (sound : isSound c ≡ true) (sound′ : is
           ap (λ (o : AnswerOut). o .refusal) e,
           ap (λ (o : AnswerOut). o .bytes) e,
           ap (λ (o : AnswerOut). o .card) e,
-          ap (λ (o : AnswerOut). o .fault) e,
+          ap (λ (o : AnswerOut). o .faultOffset) e,
           both .0,
         );
         next = erase-agree (answerOut c cmd s (length buf) .card) (answerOut other cmd s (length buf) .card)

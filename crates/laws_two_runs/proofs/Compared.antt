@@ -43,11 +43,11 @@ none-made c d k sc sd a e = call-same c d k sc sd a (λ x y i j. never x (sym e 
 
 -- ---- a decision that reads no supply
 abbrev pub deciding : List ℕ → Outgoing → Decision
-deciding d t = record { supply = noSupply; data′ = d; answer = λ _. t; fault = noFault }
+deciding d t = record { supply = noSupply; data′ = d; answer = λ _. t; faultOffset = noFault }
 
 -- ---- step 6: where the checks hold, the command replies; the one that compares replies by how that came out
 abbrev pub replying : Arrived → Command → Decision
-replying a k = record { supply = supplyOf k; data′ = a .data′; answer = λ s. tell (a .over) (replyOf k (a .card) (a .data′) s); fault = noFault }
+replying a k = record { supply = supplyOf k; data′ = a .data′; answer = λ s. tell (a .over) (replyOf k (a .card) (a .data′) s); faultOffset = noFault }
 
 pub step6-replies : (a : Arrived) → Hold (checksOf (a .command) (a .card) (a .data′)) → step6 a ≡ replying a (a .command)
 unfolding step6

@@ -80,7 +80,7 @@ same-compared p p′ x e = sym (past-unverified p x) ∙ ap (λ (q : Pins). comp
 pub record Same (L : Type 0) (x y : Decision) : Type 0 where
   pub supply : x .supply ≡ y .supply
   pub data′ : x .data′ ≡ y .data′
-  pub fault : x .fault ≡ y .fault
+  pub faultOffset : x .faultOffset ≡ y .faultOffset
   pub answer : L → (s : List ℕ) → eraseOut (x .answer s) ≡ eraseOut (y .answer s)
 
 -- comparisons that come out alike come out the same, and where none is made there is nothing to come out
@@ -193,7 +193,7 @@ module _ (p q : List ℕ) where
       record {
         supply = refl;
         data′ = refl;
-        fault = refl;
+        faultOffset = refl;
         answer = λ h s. told-same (a .over) (replyOf (a .command) (a .card) (a .data′) s) (replyOf (a .command) (swap (a .card)) (a .data′) s)
             (l .replyblind p q (outcomeOf (ruleOf (a .command) .compares) (a .card .pins) (a .data′)) (a .card) (a .data′) s
             ∙ ap (λ (b : Bool). eraseReply (ruleOf (a .command) .reply b (swap (a .card)) (a .data′) s))
@@ -205,7 +205,7 @@ module _ (p q : List ℕ) where
       record {
         supply = refl;
         data′ = refl;
-        fault = refl;
+        faultOffset = refl;
         answer = λ _ s. told-same (a .over) (fails (a .lost) w) (fails (swap (a .lost)) w) refl;
       },
       refl,
@@ -220,7 +220,7 @@ module _ (p q : List ℕ) where
   module _ (c : Card) (cmd : List ℕ) where
     steps-both : BothPast (c .pins) (swap c .pins) (arrival c cmd)
     steps-both = by-arrival (BothPast (c .pins) (swap c .pins)) c cmd
-        (λ t. (record { supply = refl; data′ = refl; fault = refl; answer = λ _ _. refl }, refl))
+        (λ t. (record { supply = refl; data′ = refl; faultOffset = refl; answer = λ _ _. refl }, refl))
         (λ x k e.
         let a : Arrived = arrivedAt (x .instruction) cmd (x .opened) k in
         rw (

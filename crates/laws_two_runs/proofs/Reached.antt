@@ -54,7 +54,7 @@ use Rattle.laws_two_runs.proofs.Sealed.{data-filled, header-is, sealed-
 
 -- ---- ANSWER where the order of checks comes to this decision, and the supply suits
 pub answers : (c : Card) (cmd s : List ℕ) (room : ℕ) (u : Supply) (d : List ℕ) (f : List ℕ → Outgoing) → isSound c ≡ true → answerRoom ≤ room
-    → decide c cmd ≡ record { supply = u; data′ = d; answer = f; fault = noFault } → suits u s ≡ true → answerOut c cmd s room ≡ answered (f s)
+    → decide c cmd ≡ record { supply = u; data′ = d; answer = f; faultOffset = noFault } → suits u s ≡ true → answerOut c cmd s room ≡ answered (f s)
 unfolding answerOut
 answers c cmd s room u d f e l m z = rw (e, le-ltb room answerRoom l, m, z)
 
@@ -118,7 +118,7 @@ unfolding initReply initWith allOf
 init-replies = ap (λ (o : Option (List ℕ)). initWith fresh o) init-opens
 
 init-decides : decide fresh initCommand
-    ≡ record { supply = initSupply; data′ = initData; answer = λ s. plainly (initReply fresh initData s); fault = noFault }
+    ≡ record { supply = initSupply; data′ = initData; answer = λ s. plainly (initReply fresh initData s); faultOffset = noFault }
 unfolding decide arrival step1 pastStep1 nameOf step4 step5 step6 ruleOf initChecks tell
 init-decides = rw (init-form, init-long)
 
@@ -202,7 +202,7 @@ final-form =
 
 module _ (slots : List Slot) where
   final-decides : decide (pendingOn slots) pairFinalCommand
-      ≡ record { supply = pairFinalSupply; data′ = pairHash; answer = λ s. plainly (pairFinalReply (pendingOn slots) s); fault = noFault }
+      ≡ record { supply = pairFinalSupply; data′ = pairHash; answer = λ s. plainly (pairFinalReply (pendingOn slots) s); faultOffset = noFault }
   unfolding decide arrival step1 pastStep1 nameOf step4 step5 step6 ruleOf pairFinalChecks tell
   final-decides = rw (final-form, length-sha256 (zeros 32 ++ zeros 32), same-refl pairHash)
 
@@ -292,7 +292,7 @@ module _ (n verified : ℕ) (keys : Keys) (b p1 : ℕ) (b-byte : b < 256) (p1-by
     abbrev arrived : Arrived
     arrived = record { command = k; data′ = d; card = opened; lost = failed (rowOf i .loss) p1 opened; over = true }
 
-    decides : decide c cmd ≡ record { supply = supplyOf k; data′ = d; answer = λ y. tell true (replyOf k opened d y); fault = noFault }
+    decides : decide c cmd ≡ record { supply = supplyOf k; data′ = d; answer = λ y. tell true (replyOf k opened d y); faultOffset = noFault }
     unfolding decide
     decides =
         ap finish (sealed-arrives c c cmd field d i k (first iv (p1 ∷ 0 ∷ lc (length (ciphertext s d)) ∷ field))

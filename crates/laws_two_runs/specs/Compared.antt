@@ -30,4 +30,4 @@ pub record Compared (c : Card) (cmd : List ℕ) (x : Comparison) : Type 0 where
   pub right : x .right ≡ rightBy (x .of) (c .pins) data′
   pub told : Outgoing
   pub tells : told ≡ tell true (replyBy (x .of) (x .right) (withMac (step1 cmd c) (take 16 field)) data′)
-  pub decides : decide c cmd ≡ record { supply = noSupply; data′ = data′; answer = λ _. told; fault = noFault }
+  pub decides : decide c cmd ≡ record { supply = noSupply; data′ = data′; answer = λ _. told; faultOffset = noFault }

@@ -117,7 +117,7 @@ module _ (over : Bool) (c lost : Card) (d : List ℕ) (k : Command) where
       let r = all-hold (steps.supplyOf k) s (steps.checksOf k c d) e in
       record {
         decides = ap (steps.byVerdict arrived) (sym e);
-        ready = λ _. record { hold = r .1; reads = r .0; long = refl; paths = h };
+        ready = λ _. record { hold = r .1; reads = r .0; long = refl; nofault = refl; paths = h };
       }
 
   -- n is the fault offset that the code found

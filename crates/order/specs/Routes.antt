@@ -51,14 +51,16 @@ endsWith over c w = endsWithAt noFault over c w
 abbrev pub decisionOf : Way → List ℕ → Decision
 decisionOf r d =
     cond (r .goes)
-    (record { supply = r .supply; data′ = d; answer = λ s. tell (r .over) (replyOf (r .command) (r .card) d s); fault = noFault })
+    (record { supply = r .supply; data′ = d; answer = λ s. tell (r .over) (replyOf (r .command) (r .card) d s); faultOffset = noFault })
     (endsAt (r .«fault_offset») (tell (r .over) (fails (r .card) (r .status))))
 
--- what a route that goes on rests on: the command's checks hold, its supply and the length of the data are the ones reported, and the paths fit
+-- what a route that goes on rests on: the command's checks hold, its supply and the length of the data are the ones reported, no fault is told,
+-- and the paths fit
 pub record GoesOn (r : Way) (d : List ℕ) : Type 0 where
   pub hold : Hold (checksOf (r .command) (r .card) d)
   pub reads : r .supply ≡ supplyOf (r .command)
   pub long : length d ≡ r .count
+  pub nofault : r .«fault_offset» ≡ noFault
   pub paths : PathsFit (r .card .keys)
 
 -- the route means this decision, the command's data being d

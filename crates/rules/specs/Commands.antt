@@ -1,6 +1,6 @@
 -- The seventeen instructions' commands (RULES 6), in its order, and at the end one rule for each command: the checks of step 6, in order, with
 -- their status words; what is compared and which supply is read past them (Supplies.antt); and the reply, from the card, the data (opened,
--- where the command is sealed) and the supply. Every length is in bytes.
+-- where the command is sealed) and the supply; LOAD's also where its data are at fault. Every length and offset is in bytes.
 use Prim.Native.Nat.{ℕ, _+_, _-_, _%_}
 use mathlib.Core.Bool.{Bool, true, false, _&&_, _||_, not, cond}
 use mathlib.Core.List.{List, [], _∷_, _++_}
@@ -297,7 +297,7 @@ uidOf s = sha256 (loadPublic s)
 unfoldable pub loadReply : Card → KeyForm → List ℕ → Reply
 loadReply c form s = cond (saysYes s) (succeeds (withKeys c (keyWith (kindOf form) (uidOf s))) (uidOf s)) (fails c wrongData)
 
--- the fault offset (RULES 5.9): where WALK refuses a template, how many bytes come before the tag of the faulty field; a seed is none
+-- the fault offset (RULES 5.9): where WALK refuses a template, how many bytes come before the tag of the faulty field; a seed is no template
 abbrev pub placeIn : Walked → ℕ
 placeIn (Fields n) = noFault
 placeIn (Refused f at) = at

@@ -36,20 +36,20 @@ pub record AnswerOut : Type 0 where
   pub refusal : ℕ
   pub card : Card
   pub bytes : List ℕ
-  pub fault : ℕ
+  pub faultOffset : ℕ
 
 abbrev pub answerRefused : Card → ℕ → AnswerOut
-answerRefused c n = record { refusal = n; card = c; bytes = []; fault = noFault }
+answerRefused c n = record { refusal = n; card = c; bytes = []; faultOffset = noFault }
 
 -- not refused (RULES 3.6), with this fault offset; and with none
 abbrev pub answeredAt : ℕ → Outgoing → AnswerOut
-answeredAt n t = record { refusal = noRefusal; card = t .card; bytes = t .bytes; fault = n }
+answeredAt n t = record { refusal = noRefusal; card = t .card; bytes = t .bytes; faultOffset = n }
 
 abbrev pub answered : Outgoing → AnswerOut
 answered t = answeredAt noFault t
 
 abbrev pub withSupply : Card → Decision → List ℕ → AnswerOut
-withSupply c d s = cond (suits (d .supply) s) (answeredAt (d .fault) (d .answer s)) (answerRefused c wrongSupply)
+withSupply c d s = cond (suits (d .supply) s) (answeredAt (d .faultOffset) (d .answer s)) (answerRefused c wrongSupply)
 
 unfoldable pub answerOut : Card → List ℕ → List ℕ → ℕ → AnswerOut
 answerOut c cmd s room =

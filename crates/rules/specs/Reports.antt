@@ -22,7 +22,7 @@ pub record AskDid (o : AskOut) (r : Asked) (before after : List ℕ) : Type 0 wh
 
 -- ---- ANSWER likewise, with the fault offset and the next card
 abbrev pub answerReport : AnswerOut → Answered
-answerReport o = record { refusal = o .refusal; count = length (o .bytes); «fault_offset» = o .fault; card = o .card }
+answerReport o = record { refusal = o .refusal; count = length (o .bytes); «fault_offset» = o .faultOffset; card = o .card }
 
 abbrev pub answerLeaves : AnswerOut → List ℕ → List ℕ
 answerLeaves o before = written (o .bytes) before

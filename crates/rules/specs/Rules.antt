@@ -1,4 +1,4 @@
--- What a rule of a command is (RULES 6.2): its checks, then a comparison or a supply, and its reply.
+-- What a rule of a command is (RULES 6.2): its checks, then a comparison or a supply, and its reply; and the fault offset in its data (RULES 5.9).
 use Prim.Native.Nat.{ℕ}
 use mathlib.Core.Bool.{Bool, true}
 use mathlib.Core.List.{List}

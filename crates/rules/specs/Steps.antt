@@ -213,11 +213,11 @@ pub record Decision : Type 0 where
   pub supply : Supply
   pub data′ : List ℕ
   pub answer : List ℕ → Outgoing
-  pub fault : ℕ
+  pub faultOffset : ℕ
 
 -- an answer that reads no supply, and its fault offset
 abbrev pub endsAt : ℕ → Outgoing → Decision
-endsAt n t = record { supply = noSupply; data′ = []; answer = λ _. t; fault = n }
+endsAt n t = record { supply = noSupply; data′ = []; answer = λ _. t; faultOffset = n }
 
 -- an answer before step 6
 abbrev pub ends : Outgoing → Decision
@@ -228,7 +228,7 @@ byVerdict a (Reads k) = record {
   supply = k;
   data′ = a .data′;
   answer = λ s. tell (a .over) (replyOf (a .command) (a .card) (a .data′) s);
-  fault = noFault;
+  faultOffset = noFault;
 }
 byVerdict a (Fails w) = endsAt (faultAt (a .command) (a .data′) w) (tell (a .over) (fails (a .lost) w))
 

@@ -25,7 +25,7 @@ writtenOf r = record { refusal = r .refusal; count = r .count }
 
 -- ANSWER: refusal, count, fault offset, next card, and every byte of the buffer
 abbrev pub reportFlat : rules.AnswerOut → CardAnswered
-reportFlat o = record { refusal = o .refusal; count = length (o .bytes); «fault_offset» = o .fault; card = cardFlat (o .card) }
+reportFlat o = record { refusal = o .refusal; count = length (o .bytes); «fault_offset» = o .faultOffset; card = cardFlat (o .card) }
 
 pub record CardDid (o : rules.AnswerOut) (r : CardAnswered) (before after : List ℕ) : Type 0 where
   pub told : r ≡ reportFlat o
