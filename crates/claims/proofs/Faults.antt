@@ -33,7 +33,7 @@ use Rattle.laws_two_runs.proofs.Reached.{inChannel, verified-reached}
 use Rattle.laws_walk.proofs.Walking.{offset-place}
 use Rattle.claims.specs.Hashing.{p1Byte, loadHeader}
 use Rattle.claims.specs.Faults.{LoadFails, Supposed, Example, Faults}
-use Rattle.claims.proofs.RowsMet.{channel-typed}
+use Rattle.claims.proofs.VerifiedLoads.{verifiedCard, turnWith, supposed-with}
 use Rattle.claims.proofs.LoadTurns.{unverified, denied, refused, accepted, seed}
 
 -- ---- every ANSWER
@@ -65,45 +65,13 @@ module _ (c : Card) (cmd s : List ℕ) (room : ℕ) where
       ),
     )
 
--- ---- examples, on a card with a verified PIN that a list of calls reaches
-abbrev verifiedCard : Card
-verifiedCard = inChannel 2 (verified-reached .iv) 1 noKeys
-
-verified-sound : (iv : List ℕ) → isSound (inChannel 2 iv 1 noKeys) ≡ true
-unfolding isSound allOf someOf
-verified-sound iv = refl
-
-p1-small : (form : KeyForm) → p1Byte form < 256
-p1-small key.Keypair = omega arith
-p1-small key.Extended = omega arith
-p1-small key.Seed = omega arith
-
+-- ---- examples
 module _ (form : KeyForm) (d : List ℕ) (bytes : Bytes d) (fits : length d ≤ 223) where
   abbrev turn : Turn
-  turn = record {
-    header = loadHeader form;
-    data′ = d;
-    supply = [];
-    sealroom = 261;
-    answerroom = 258;
-    unsealroom = 223;
-    four = refl;
-    most = fits;
-    headerbytes = (omega arith, (omega arith, (p1-small form, (omega arith, tt))));
-    databytes = bytes;
-    supplybytes = tt;
-    sealenough = omega arith;
-    answerenough = omega arith;
-    unsealenough = omega arith;
-  }
+  turn = turnWith form d [] bytes tt fits
 
   supposed : Supposed verifiedCard turn form
-  supposed = record {
-    sound = verified-sound (verified-reached .iv);
-    typed = channel-typed (verified-reached .iv) (verified-reached .block) 1 0 (zeros 32) refl;
-    stage = refl;
-    header = refl;
-  }
+  supposed = supposed-with form d [] bytes tt fits
 
   ends-so : (n : ℕ) → LoadFails verifiedCard turn (0x6A ∷ 0x80 ∷ []) n → Example form d n
   ends-so n h = record {

@@ -22,6 +22,7 @@ pub mod SlotCommands
 pub mod Slots
 pub mod Pairing
 pub mod LoadTurns
+pub mod VerifiedLoads
 pub mod Hashing
 pub mod Faults
 pub mod Secrecy

@@ -1,19 +1,21 @@
 -- Turns of SEAL, ANSWER and UNSEAL with LOAD in stage 2, by the law of sealed turns: the reply, and the fault offset beside it.
 -- Assumes nothing.
 use mathlib.Core.Path.{_≡_, refl, sym, ap, _∙_}
-use mathlib.Core.Bool.{true, false, false≢true}
+use mathlib.Core.Bool.{Bool, true, false, _&&_, cond, false≢true}
 use mathlib.Core.List.{List, [], _∷_}
+use mathlib.Core.Logic.{_↔_, _⊎_, inl, inr, ⊎-elim}
 use mathlib.Core.Option.{some}
-use Prim.Native.Nat.{ℕ, _<_}
+use Prim.Native.Nat.{ℕ, _≤_, _<_}
 use native.Mathlib.Omega.{arith}
-use borrow.Author.Tests.{eqb-true, ne-eqb, not-true}
-use lib.Dec.{eqb}
-use lib.ListN.{length}
+use borrow.Author.Tests.{eqb-true, eqb-false, leb-true, leb-false, le-ltb, ne-eqb, not-true}
+use lib.Dec.{leb, eqb}
+use lib.ListN.{length, getD}
 use lib.Seq.{take-all}
 use Rattle.sha_rules.specs.Hash.{sha256}
 use Rattle.template_walk.specs.declared.Walked.{Walked}
 use Rattle.template_walk.specs.declared.Walked.the-variants.{Fields, Refused}
 use Rattle.template_walk.specs.Walk.{walkOf, report, WALK}
+use Rattle.refusals.specs.Refusals.{wrongSupply}
 use Rattle.card.specs.declared.Card.{Card}
 use Rattle.card.specs.State.{withKeys}
 use Rattle.card.specs.Slots.{isZero}
@@ -29,13 +31,14 @@ use Rattle.rules.specs.Supplies.{loadSupply, suits}
 use Rattle.rules.specs.Commands.{isVerified, isKeyData, kindOf, keyWith, loadChecks, loadReply, placeIn, loadPlace, ruleOf}
 use Rattle.rules.specs.Rows.{rowOf, isPlain}
 use Rattle.rules.specs.Channel.{withMac, plainText}
-use Rattle.rules.specs.Steps.{claOf, insOf, p1Of, p2Of, nameOf, isInitialised, faultAt}
+use Rattle.rules.specs.Steps.{claOf, insOf, p1Of, p2Of, nameOf, Arrived, isInitialised, faultAt, Decision, step6, finish, decide}
+use Rattle.rules.specs.Engine.{AnswerOut, answerRefused, askOut, answerOut}
 use Rattle.laws_engine.proofs.Faults.{not-keypair, number-not-0, place-told}
 use Rattle.laws_exchange.specs.Opens.{outcome, faultOf}
 use Rattle.laws_exchange.specs.Exchange.{Turn, unsealedBy, Names, listed, opened, InStage2}
 use Rattle.laws_exchange.proofs.Exchanges.{known, staged, listed2}
 use Rattle.laws_walk.proofs.Walking.{offset-place}
-use Rattle.claims.specs.Hashing.{p1Byte, keyKind, Loaded}
+use Rattle.claims.specs.Hashing.{p1Byte, keyKind, Asks, Loading, Loaded}
 use Rattle.claims.specs.Faults.{LoadFails, Supposed}
 
 load-sealed : isPlain ins.Load ≡ false
@@ -161,3 +164,51 @@ seed c t p v n = wrong c t key.Seed p v (ne-eqb (length (t .data′)) 64 n) 255 
 pub verified-in2 : (c : Card) → isSound c ≡ true → isVerified (c .pins) ≡ true → c .channel .stage ≡ 2
 verified-in2 c sound v = eqb-true (c .channel .stage) 2
     (the-second _ (eqb (c .channel .stage) 2) (not-true (isZero (c .pins .verified)) v) (verified-stage c sound))
+
+-- ---- LOAD past its checks: its supply
+load-decides : (a : Arrived) (form : KeyForm) → a .command ≡ command.Load form → isVerified (a .card .pins) ≡ true
+    → isKeyData form (a .data′) ≡ true
+    → (step6 a .supply ≡ loadSupply) × (step6 a .data′ ≡ a .data′)
+unfolding step6 ruleOf loadChecks
+load-decides a form e v k = (rw (e, v, k), rw (e, v, k))
+
+abbrev number : Bool → ℕ
+number b = cond b 0 3
+
+refusal-by : (b : Bool) (t : AnswerOut) (c : Card) → t .refusal ≡ 0 → cond b t (answerRefused c wrongSupply) .refusal ≡ number b
+refusal-by true t c e = e
+refusal-by false t c e = refl
+
+module _ (c : Card) (cmd : List ℕ) (sound : isSound c ≡ true) (x : Loading c cmd) where
+  abbrev a : Arrived
+  a = x .arrived
+
+  is-step6 : decide c cmd ≡ step6 a
+  unfolding decide
+  is-step6 = ap finish (x .there)
+
+  supply-is : decide c cmd .supply ≡ loadSupply
+  supply-is = ap (λ (d : Decision). d .supply) is-step6 ∙ load-decides a (x .form) (x .asks) (x .verified) (x .formed) .0
+
+  data-is : decide c cmd .data′ ≡ a .data′
+  data-is = ap (λ (d : Decision). d .data′) is-step6 ∙ load-decides a (x .form) (x .asks) (x .verified) (x .formed) .1
+
+  pub asks-load : (room : ℕ) → 255 ≤ room → Asks c cmd room 6 (a .data′)
+  unfolding askOut
+  asks-load room l = rw (sound, le-ltb room 255 l, supply-is, data-is)
+
+  refusal-is : (s : List ℕ) (room : ℕ) → 258 ≤ room → answerOut c cmd s room .refusal ≡ number (suits loadSupply s)
+  unfolding answerOut
+  refusal-is s room l = rw (sound, le-ltb room 258 l, supply-is) (refusal-by (suits loadSupply s) _ c refl)
+
+  pub takes-load : (s : List ℕ) (room : ℕ) → 258 ≤ room → answerOut c cmd s room .refusal ≡ 3 ↔ ((length s ≡ 66 → ⊥) ⊎ (1 < getD s 0 0))
+  unfolding suits
+  takes-load s room l = rw (refusal-is s room l) (by (eqb (length s) 66) (leb (getD s 0 0) 1) refl refl)
+    where
+      by : (m n : Bool) → eqb (length s) 66 ≡ m → leb (getD s 0 0) 1 ≡ n → number (m && n) ≡ 3 ↔ ((length s ≡ 66 → ⊥) ⊎ (1 < getD s 0 0))
+      by true true e f = (
+        λ r. absurd (omega (arith, r)),
+        λ o. ⊎-elim (λ h. absurd (h (eqb-true (length s) 66 e))) (λ h. absurd (omega (arith, h, leb-true (getD s 0 0) 1 f))) o,
+      )
+      by true false e f = (λ r. inr (leb-false (getD s 0 0) 1 f), λ o. refl)
+      by false n e f = (λ r. inl (eqb-false (length s) 66 e), λ o. refl)

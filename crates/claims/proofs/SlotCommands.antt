@@ -42,7 +42,7 @@ use Rattle.rules.specs.Commands.{applicationId, freeSlots, selectChecks, select
 use Rattle.rules.specs.Rows.{slot, rowOf, isPlain}
 use Rattle.rules.specs.Channel.{plainly, plainText, tell}
 use Rattle.rules.specs.Steps.{goes, stops, begins, step1, claOf, insOf, p1Of, p2Of, nameOf, isInitialised, step4, step5, pastStep1, arrival, Arrived, checksOf, supplyOf, replyOf, faultAt, step6, decide}
-use Rattle.rules.specs.Engine.{AnswerOut, answerRefused, answeredAt, answered, withSupply, answerOut}
+use Rattle.rules.specs.Engine.{AnswerOut, askOut, answerRefused, answeredAt, answered, withSupply, answerOut}
 use Rattle.laws_commands.proofs.Checks.{held}
 use Rattle.laws_commands.proofs.Arrival.{lostAt, arrivedAt}
 use Rattle.laws_commands.proofs.PendingSlot.{pending-slot}
@@ -94,13 +94,18 @@ module _ (c : Card) (cmd d s : List ℕ) (room : ℕ) (i : Instruction) (p : Sup
     unfolding answerOut decide
     decided = rw (p .sound, le-ltb room 258 (p .enough), goes-there)
 
+    pub asks-it : (r : ℕ) → 255 ≤ r → Hold (checksOf k (at6 .card) d)
+        → askOut c cmd r ≡ record { refusal = 0; kind = supplyOf k .kind; bytes = cond (eqb (supplyOf k .kind) 0) [] d }
+    unfolding askOut decide step6
+    asks-it r e h = rw (p .sound, le-ltb r 255 e, goes-there, held (supplyOf k) (checksOf k (at6 .card) d) h)
+
     pub fails-with : (w : ℕ) → verdict (supplyOf k) (checksOf k (at6 .card) d) ≡ Fails w
         → answerOut c cmd s room ≡ answeredAt (faultAt k d w) (plainly (fails (at6 .lost) w))
     unfolding step6 suits tell
     fails-with w v = decided ∙ rw (v, plain)
 
     -- where the checks hold, the supply is read
-    reads-it : Hold (checksOf k (at6 .card) d)
+    pub reads-it : Hold (checksOf k (at6 .card) d)
         → answerOut c cmd s room ≡ cond (suits (supplyOf k) s) (answered (plainly (replyOf k (at6 .card) d s))) (answerRefused c wrongSupply)
     unfolding step6 tell
     reads-it h = decided ∙ rw (held (supplyOf k) (checksOf k (at6 .card) d) h, plain)

@@ -19,7 +19,8 @@ use Rattle.rules.specs.Engine.{AnswerOut, answerOut}
 use Rattle.laws_engine.specs.Faults.{LoadFault, offsetOf}
 use Rattle.laws_exchange.specs.Exchange.{Typed, Turn, answeredBy, unsealedBy}
 use Rattle.laws_two_runs.specs.Runs.{Call}
-use Rattle.claims.specs.Hashing.{loadHeader, at}
+use Rattle.claims.specs.Slots.{at}
+use Rattle.claims.specs.Hashing.{loadHeader}
 
 -- ---- ANSWER's report is this answer, and this fault offset beside it
 pub record Tells (a : AnswerOut) (t : Outgoing) (offset : ℕ) : Type 0 where

@@ -15,7 +15,7 @@ use Rattle.card.specs.State.{zeros, freeSlot, freshOf, withPairing, notPending,
 use Rattle.card.specs.Sound.{isSound}
 use Rattle.card.specs.Shape.{Shaped}
 use Rattle.card_slots.specs.Free.{LeastFree}
-use Rattle.rules.specs.Commands.{isVerified, applicationId, freeSlots, withSlot, filledWith}
+use Rattle.rules.specs.Commands.{isVerified, applicationId, freeSlots, withSlot}
 use Rattle.rules.specs.Channel.{withMac}
 use Rattle.rules.specs.Steps.{dataOf, isInitialised}
 use Rattle.rules.specs.Engine.{AnswerOut, answerOut}
@@ -74,7 +74,7 @@ pub record Paired (c : Card) (salt key : List ℕ) (a : AnswerOut) : Type 0 wher
   pub under : index < 8
   pub least : LeastFree (c .pairing .slots) index
   pub says : Says a (index ∷ (salt ++ (0x90 ∷ 0x00 ∷ [])))
-  pub card : a .card ≡ withPairing c (withSlot (notPending (c .pairing)) index (filledWith key))
+  pub card : a .card ≡ withPairing c (withSlot (notPending (c .pairing)) index (record { filled = 1; key = key }))
 
 -- ---- a turn of SEAL, ANSWER and UNSEAL with UNPAIR: its header, 80 13 P1 P2
 abbrev pub unpairWith : ℕ → ℕ → List ℕ
