@@ -4,7 +4,7 @@ use mathlib.Core.Path.{_≡_, refl, sym, ap, _∙_, subst}
 use mathlib.Core.Bool.{true}
 use mathlib.Core.List.{List, [], _∷_}
 use mathlib.Core.Logic.{_↔_, ⊎-elim}
-use Prim.Native.Nat.{ℕ, _≤_, _<_}
+use Prim.Native.Nat.{ℕ, _≤_}
 use native.Mathlib.Omega.{arith}
 use borrow.Author.Tests.{le-ltb}
 use lib.Dec.{ltb}
@@ -14,8 +14,6 @@ use Rattle.refusals.specs.Refusals.{answerRoom}
 use Rattle.template_rules.proofs.HeadFacts.{by-test}
 use Rattle.template_walk.specs.Walk.{fieldWith, fieldsOf, templateOf, WalkOut, WALK}
 use Rattle.card.specs.declared.Card.{Card}
-use Rattle.card.specs.State.{zeros, noKeys}
-use Rattle.card.specs.Slots.{allOf, someOf}
 use Rattle.card.specs.Sound.{isSound}
 use Rattle.rules.specs.declared.KeyForm.{KeyForm}
 use Rattle.rules.specs.declared.KeyForm.the-variants as key
@@ -29,9 +27,8 @@ use Rattle.laws_engine.specs.Faults.{LoadFault, offsetOf}
 use Rattle.laws_engine.proofs.Faults.{keypair-not-seed, extended-not-seed, fault-decides, fault-alone}
 use Rattle.laws_engine.proofs.Rooms.{Few, arrival-few}
 use Rattle.laws_exchange.specs.Exchange.{Turn}
-use Rattle.laws_two_runs.proofs.Reached.{inChannel, verified-reached}
+use Rattle.laws_two_runs.proofs.Reached.{verified-reached}
 use Rattle.laws_walk.proofs.Walking.{offset-place}
-use Rattle.claims.specs.Hashing.{p1Byte, loadHeader}
 use Rattle.claims.specs.Faults.{LoadFails, Supposed, Example, Faults}
 use Rattle.claims.proofs.VerifiedLoads.{verifiedCard, turnWith, supposed-with}
 use Rattle.claims.proofs.LoadTurns.{unverified, denied, refused, accepted, seed}

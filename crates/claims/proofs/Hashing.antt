@@ -11,7 +11,7 @@ use Rattle.card.specs.State.{zeros}
 use Rattle.rules.specs.declared.KeyForm.the-variants as key
 use Rattle.laws_exchange.specs.Exchange.{Turn}
 use Rattle.laws_two_runs.proofs.Reached.{verified-reached}
-use Rattle.claims.specs.Hashing.{loadHeader, Loaded, ownKey, suppliedKey, LoadExample, Hashing}
+use Rattle.claims.specs.Hashing.{Loaded, ownKey, suppliedKey, LoadExample, Hashing}
 use Rattle.claims.proofs.Pairing.{pairing, pair-example}
 use Rattle.claims.proofs.LoadTurns.{loaded, verified-in2, asks-load, takes-load}
 use Rattle.claims.proofs.VerifiedLoads.{verifiedCard, turnWith, supposed-with}

@@ -20,7 +20,7 @@ use Rattle.rules.specs.Supplies.{suits}
 use Rattle.rules.specs.Rules.{noFault}
 use Rattle.rules.specs.Channel.{Outgoing, tell}
 use Rattle.rules.specs.Steps.{replyOf, Decision, endsAt}
-use Rattle.rules.specs.Engine.{AskOut, askRefused, asked, AnswerOut, answerRefused, answeredAt, answered, withSupply}
+use Rattle.rules.specs.Engine.{AskOut, askRefused, asked, answerRefused, answeredAt, answered, withSupply}
 use Rattle.rules.specs.Reports.{AskDid, AnswerDid}
 use Rattle.rules.specs.Code.{replyWith, Replies}
 use Rattle.order.specs.declared.Way.{Way}

@@ -28,6 +28,6 @@ pub record Told (c : Card) (cmd s : List ℕ) (room : ℕ) : Type 0 where
   pub over : Bool
   pub reply : Reply
   pub faultOffset : ℕ
-  pub answer : answerOut c cmd s room ≡ answeredAt fault (tell over reply)
+  pub answer : answerOut c cmd s room ≡ answeredAt faultOffset (tell over reply)
   pub word : isGiven (given c cmd s) ≡ eqb (reply .status) success
   pub came : (k : Command) → given c cmd s ≡ some k → Came c cmd k

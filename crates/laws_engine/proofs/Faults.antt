@@ -19,7 +19,6 @@ use Rattle.template_keypair.proofs.Walks.{keypair-walks}
 use Rattle.card.specs.declared.Card.{Card}
 use Rattle.rules.specs.declared.KeyForm.{KeyForm}
 use Rattle.rules.specs.declared.KeyForm.the-variants as key
-use Rattle.rules.specs.declared.Command.{Command}
 use Rattle.rules.specs.declared.Command.the-variants as command
 use Rattle.rules.specs.declared.Verdict.{Verdict}
 use Rattle.rules.specs.Words.{wrongData, fails}
