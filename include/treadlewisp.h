@@ -448,7 +448,7 @@ tw_told tw_unseal(tw_session *session, const uint8_t *response, size_t response_
 
 /* WALK: how many fields that are not templates the input holds; the count is in fields. Templates are read to depth 4, input of any
    length. Refusals: TW_MALFORMED, TW_TOO_DEEP, by the first fault from left to right. The fault offset is then in bytes, from the input's
-   start to the tag of the field at fault: the one whose length is cut off or badly formed, or whose end lies beyond its template or the
+   start to the tag of the faulty field: the one whose length is cut off or badly formed, or whose end lies beyond its template or the
    input, or that is a template at depth 5. Inside a template it is the inner field's tag. It may be any number under input_bytes, over 255
    too. Where the call is not refused it is 0, which means nothing: look at the refusal first.
    Parts that it accepts, joined, count the sum of their fields. Long input may therefore be cut between two fields at the top.
