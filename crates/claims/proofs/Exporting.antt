@@ -41,9 +41,9 @@ use Rattle.sha_rules.proofs.Blocks.{length-sha256}
 use Rattle.laws_exchange.specs.Opens.{outcomeBy, outcome, faultOf}
 use Rattle.laws_exchange.specs.Exchange.{Typed, Turn, answeredBy, unsealedBy, Names, listed, opened, Exchange, InStage2}
 use Rattle.laws_exchange.proofs.Exchanges.{known, staged, listed2}
+use Rattle.laws_allowance.proofs.Reached.{typed}
 use Rattle.laws_two_runs.proofs.Reached.{inChannel, keyHash, kind2-reached, reached-sound}
 use Rattle.claims.specs.Export.{chatNode, askedPath, p1Byte, p2Byte, exportHeader, Supposed, cardAfter, Ended, exported, failed, Reads, besideNode}
-use Rattle.claims.proofs.RowsMet.{channel-typed}
 use Rattle.claims.proofs.Elsewhere.{asked-is, begun-so}
 
 -- ---- the command that the header names
@@ -202,7 +202,7 @@ module _ (which : ExportPath) (what : ExportPart) (d : List ℕ) (h : Bytes (exp
     answers =
         ap (λ (x : Card). unsealedBy x example .bytes) (kind2-reached .reached .ends)
         ∙ turn card2 example which what (reached-sound (kind2-reached .iv) .2)
-        (channel-typed (kind2-reached .iv) (kind2-reached .block) 1 2 keyHash (length-sha256 (zeros 65))) refl refl supplied .turn .plain
+        (typed (kind2-reached .iv) (kind2-reached .block) 1 2 keyHash (length-sha256 (zeros 65))) refl refl supplied .turn .plain
         ∙ e;
   }
 

@@ -2,42 +2,39 @@
 -- Assumes nothing.
 use mathlib.Core.Path.{_≡_, refl, sym, ap, _∙_, subst}
 use mathlib.Core.Bool.{true, false}
-use mathlib.Core.List.{List, [], _∷_, _++_}
+use mathlib.Core.List.{List, [], _∷_}
 use mathlib.Core.Option.{some}
 use Prim.Native.Nat.{ℕ, _≤_}
 use native.Mathlib.Omega.{arith}
 use borrow.Author.Tests.{leb-true}
 use lib.Dec.{leb}
-use lib.ListN.{length, replicate}
-use Rattle.octets.specs.Bytes.{Bytes, Block}
-use Rattle.octets.proofs.Lists.{bytes-replicate}
+use lib.ListN.{length}
+use Rattle.octets.specs.Bytes.{Bytes}
 use Rattle.channel_rules.specs.Terminal.{Out, sealedCommand}
 use Rattle.card.specs.declared.Card.{Card}
-use Rattle.card.specs.State.{zeros, noKeys, freeSlot, slotCount}
+use Rattle.card.specs.State.{zeros, noKeys}
 use Rattle.card.specs.Slots.{allOf}
 use Rattle.card.specs.Sound.{isSound, isDigit}
 use Rattle.card.proofs.Tests.{both}
 use Rattle.card.proofs.Rules.{pins-rules, parts-rules}
 use Rattle.card.proofs.SoundFacts.{fresh-sound}
-use Rattle.card.proofs.ShapeFacts.{keys-long-replicate}
 use Rattle.rules.specs.declared.Instruction.the-variants as ins
 use Rattle.rules.specs.declared.StatusKind.the-variants as status
 use Rattle.rules.specs.declared.Command.the-variants as command
 use Rattle.rules.specs.Supplies.{suits}
-use Rattle.rules.specs.Commands.{filledWith, keyWith, statusReply, ruleOf}
+use Rattle.rules.specs.Commands.{statusReply, ruleOf}
 use Rattle.rules.specs.Rows.{rowOf, isPlain}
 use Rattle.rules.specs.Channel.{sessionOf}
 use Rattle.rules.specs.Steps.{isInitialised}
 use Rattle.rules.specs.Engine.{answerOut}
-use Rattle.laws_commands.proofs.Changed.{keys-set}
 use Rattle.laws_engine.proofs.Sound.{answer-sound}
-use Rattle.sha_rules.proofs.Blocks.{length-sha256}
 use Rattle.laws_exchange.specs.Opens.{outcome, faultOf}
 use Rattle.laws_exchange.specs.Exchange.{Typed, Turn, answeredBy, unsealedBy, Names, opened, InStage2}
 use Rattle.laws_exchange.proofs.Seals.{gives, is-after}
 use Rattle.laws_exchange.proofs.Exchanges.{opens2, listed2, names}
 use Rattle.laws_two_runs.specs.Runs.{nextAt}
-use Rattle.laws_two_runs.proofs.Reached.{fresh, initCommand, initialisedCard, init-reaches, pairHash, inChannel, session-keyed, stage2-reached, reached-sound}
+use Rattle.laws_allowance.proofs.Reached.{typed}
+use Rattle.laws_two_runs.proofs.Reached.{fresh, initCommand, initialisedCard, init-reaches, inChannel, stage2-reached, reached-sound}
 use Rattle.claims.specs.Rows.{Entry, after, RightThen, Initialises}
 use Rattle.claims.specs.RowsMet.{RowsMet}
 use Rattle.claims.proofs.InitSays.{init-initialises}
@@ -164,29 +161,6 @@ initialises = record {
   done = ap isInitialised init-is;
 }
 
--- the cards in stage 2 that lists of calls reach have what the types say
-pub channel-typed : (iv : List ℕ) → Block iv → (verified kind : ℕ) (uid : List ℕ) → length uid ≡ 32
-    → Typed (inChannel 2 iv verified (keyWith kind uid))
-channel-typed iv block verified kind uid long = record {
-  shaped = record {
-    uid = refl;
-    «public_key» = refl;
-    pin = refl;
-    puk = refl;
-    secret = refl;
-    slots = refl;
-    keys = keys-set (replicate slotCount freeSlot) 0 (filledWith pairHash) (keys-long-replicate slotCount freeSlot refl)
-        (length-sha256 (zeros 32 ++ zeros 32));
-    expected = refl;
-    keyuid = long;
-    current = refl;
-    pinless = refl;
-    tap = refl;
-  };
-  keyed = session-keyed iv block;
-  path = bytes-replicate 40 0 (omega arith);
-}
-
 abbrev statusCard : Card
 statusCard = inChannel 2 (stage2-reached .iv) 0 noKeys
 
@@ -198,7 +172,7 @@ reads : unsealedBy statusCard statusTurn .bytes
 unfolding ruleOf suits statusReply
 reads =
     listed2 statusCard statusTurn (names statusCard ins.Status 0 0 (reached-sound (stage2-reached .iv) .0) refl refl)
-    (reached-sound (stage2-reached .iv) .0) (channel-typed (stage2-reached .iv) (stage2-reached .block) 0 0 (zeros 32) refl) refl (command.Status status.Application) refl (λ v. refl) .turn .plain
+    (reached-sound (stage2-reached .iv) .0) (typed (stage2-reached .iv) (stage2-reached .block) 0 0 (zeros 32) refl) refl (command.Status status.Application) refl (λ v. refl) .turn .plain
 
 pub rows-met : RowsMet
 rows-met = record {

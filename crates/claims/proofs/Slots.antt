@@ -32,10 +32,10 @@ use Rattle.laws_exchange.specs.Opens.{outcome}
 use Rattle.laws_exchange.specs.Exchange.{Typed, Turn, answeredBy, unsealedBy, Names, listed, opened, Exchange}
 use Rattle.laws_exchange.proofs.Exchanges.{known, staged, listed2, unlisted2}
 use Rattle.laws_two_runs.specs.Runs.{Call, nextAt, endOf}
+use Rattle.laws_allowance.proofs.Reached.{typed}
 use Rattle.laws_two_runs.proofs.Reached.{initCall, initialisedCard, init-reaches, pairHash, pairFirstCall, pairFinalCall, pendingOn, final-next, inChannel, verified-reached}
 use Rattle.claims.specs.TapRecord.{Fails}
 use Rattle.claims.specs.Slots.{flagAt, unpairWith, Freed, at, Selects, Opens, Pairs, AllFilled, OneFilled, Slots}
-use Rattle.claims.proofs.RowsMet.{channel-typed}
 use Rattle.claims.proofs.SlotCounts.{counted, after-init}
 use Rattle.claims.proofs.SlotCommands.{slot-listed, slot-over, select-told, open-over, open-free, open-filled, pair-full, pair-final}
 
@@ -193,7 +193,7 @@ one-filled : OneFilled
 one-filled =
     let r = verified-reached .reached in
     let iv = verified-reached .iv in
-    let w : Typed (oneCard iv) = channel-typed iv (verified-reached .block) 1 0 (zeros 32) refl in
+    let w : Typed (oneCard iv) = typed iv (verified-reached .block) 1 0 (zeros 32) refl in
     let back : at (r .calls) ≡ oneCard iv = r .ends in
     record {
       calls = r .calls;

@@ -42,9 +42,9 @@ use Rattle.laws_engine.proofs.Tapped.{answer-tap}
 use Rattle.laws_exchange.specs.Opens.{outcome}
 use Rattle.laws_exchange.specs.Exchange.{Typed, Turn, sealedBy, answeredBy, unsealedBy, Names, listed, opened, Exchange}
 use Rattle.laws_exchange.proofs.Exchanges.{known, staged, listed2, unlisted2}
+use Rattle.laws_allowance.proofs.Reached.{typed}
 use Rattle.laws_two_runs.proofs.Reached.{inChannel, verified-reached}
 use Rattle.claims.specs.TapRecord.{Counted, ndefWith, ndefHeader, Stored, Fails, before, Example, TapRecord}
-use Rattle.claims.proofs.RowsMet.{channel-typed}
 
 -- ---- what SET NDEF takes
 counts : (d : List ℕ) → isNdef d ≡ true → Counted d
@@ -202,7 +202,7 @@ unfolding isSound allOf someOf
 verified-sound iv = refl
 
 verified-typed : Typed verifiedCard
-verified-typed = channel-typed (verified-reached .iv) (verified-reached .block) 1 0 (zeros 32) refl
+verified-typed = typed (verified-reached .iv) (verified-reached .block) 1 0 (zeros 32) refl
 
 one-stored : Stored verifiedCard oneTurn
 one-stored = stored verifiedCard oneTurn (verified-sound (verified-reached .iv)) verified-typed refl refl one-counted

@@ -14,10 +14,10 @@ use Rattle.card.specs.Sound.{isSound}
 use Rattle.rules.specs.declared.KeyForm.{KeyForm}
 use Rattle.rules.specs.declared.KeyForm.the-variants as key
 use Rattle.laws_exchange.specs.Exchange.{Turn}
+use Rattle.laws_allowance.proofs.Reached.{typed}
 use Rattle.laws_two_runs.proofs.Reached.{inChannel, verified-reached}
 use Rattle.claims.specs.Hashing.{p1Byte, loadHeader}
 use Rattle.claims.specs.Faults.{Supposed}
-use Rattle.claims.proofs.RowsMet.{channel-typed}
 
 abbrev pub verifiedCard : Card
 verifiedCard = inChannel 2 (verified-reached .iv) 1 noKeys
@@ -53,7 +53,7 @@ module _ (form : KeyForm) (d supply : List ℕ) (bytes : Bytes d) (supply-bytes 
   pub supposed-with : Supposed verifiedCard turnWith form
   supposed-with = record {
     sound = verified-sound (verified-reached .iv);
-    typed = channel-typed (verified-reached .iv) (verified-reached .block) 1 0 (zeros 32) refl;
+    typed = typed (verified-reached .iv) (verified-reached .block) 1 0 (zeros 32) refl;
     stage = refl;
     header = refl;
   }

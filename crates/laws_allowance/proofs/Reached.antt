@@ -58,7 +58,8 @@ reachable-historic : (c : Card) → isInitialised c ≡ true → Reachable c →
 reachable-historic c i r = subst Historic (r .ends)
     (in-history (r .calls) fresh (fresh-sound (zeros 16) (zeros 65)) refl (ap isInitialised (r .ends) ∙ i))
 
-typed : (iv : List ℕ) → Block iv → (verified kind : ℕ) (uid : List ℕ) → length uid ≡ 32 → Typed (inChannel 2 iv verified (keyWith kind uid))
+-- the cards in stage 2 that lists of calls reach have what the types say
+pub typed : (iv : List ℕ) → Block iv → (verified kind : ℕ) (uid : List ℕ) → length uid ≡ 32 → Typed (inChannel 2 iv verified (keyWith kind uid))
 typed iv block verified kind uid long = record {
   shaped = record {
     uid = refl;

@@ -1,7 +1,9 @@
 -- The chain is that of LOAD's checks.
 -- Assumes nothing.
 use borrow.Author.Needs.{needs}
-use Rattle.rules.specs.Commands.{loadChecks}
+use Rattle.rules.specs.Words.{conditionsNotMet, wrongData}
+use Rattle.rules.specs.Commands.{isVerified, isKeyData, loadChecks}
+use Rattle.command_load.proofs.KeyReplies.{two-checks}
 use Rattle.command_load.proofs.load_verdict.Statement.{statement}
 use Rattle.command_load.proofs.load_verdict.Tie as tie
 
@@ -20,7 +22,8 @@ must-requires-2 c κs = search needs
 returns : tie.Need-returns
 unfolding loadChecks
 returns c = let b3 = c .before .before .before in
-    rw (← b3 .is-key-data .ensures, ← c .before .before .reads .ensures, ← c .before .must .ensures) (c .must2 .ensures)
+    let g = b3 .before .before .before .args in
+    two-checks conditionsNotMet wrongData (isVerified (g .pins)) (b3 .is-key-data .result) (isKeyData (g .form) (g .«data» .now)) (c .must2 .ensures) (c .before .must .ensures) (b3 .is-key-data .ensures) (c .before .before .reads .ensures)
 
 pub load-verdict-spec : {M : Type 1} → statement M
 load-verdict-spec =
