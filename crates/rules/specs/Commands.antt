@@ -1,4 +1,4 @@
--- The seventeen instructions' commands (RULES 6), in its order, and at the end one rule for each command: the checks of step 6, in order, with
+-- The eighteen instructions' commands (RULES 6), in its order, and at the end one rule for each command: the checks of step 6, in order, with
 -- their status words; what is compared and which supply is read past them (Supplies.antt); and the reply, from the card, the data (opened,
 -- where the command is sealed) and the supply; LOAD's also where its data are at fault. Every length and offset is in bytes.
 use Prim.Native.Nat.{ℕ, _+_, _-_, _%_}
@@ -12,6 +12,7 @@ use Rattle.aes_rules.specs.Aes.{invAes256}
 use Rattle.aes_cbc.specs.Mode.{cbcDecrypt}
 use Rattle.aes_padding.specs.Padding.{unpad}
 use Rattle.sha_rules.specs.Hash.{sha256}
+use Rattle.phrase_rules.specs.Numbers.{numbersOf}
 use Rattle.card.specs.declared.Identity.{Identity}
 use Rattle.card.specs.declared.Pins.{Pins}
 use Rattle.card.specs.declared.Slot.{Slot}
@@ -44,7 +45,8 @@ use Rattle.rules.specs.declared.ExportPart.the-variants as exportPart
 use Rattle.rules.specs.declared.Command.{Command}
 use Rattle.rules.specs.declared.Command.the-variants as command
 use Rattle.rules.specs.Words.{triesLeft, securityNotMet, referenceInvalid, conditionsNotMet, wrongData, notFound, noSpace, wrongParameters, Check, must, Reply, succeeds, fails}
-use Rattle.rules.specs.Supplies.{noSupply, initSupply, openSupply, mutualSupply, pairFirstSupply, pairFinalSupply, loadSupply, deriveSupply, signSupply, exportSupply, saysYes, part, initKey, openEncKey, openMacKey, openSalt, openIv, mutualRandom, pairChallenge, pairSalt, loadPublic, signKey, signR, signS, exportPublic, exportPrivate}
+use Rattle.rules.specs.Supplies.{noSupply, initSupply, openSupply, mutualSupply, pairFirstSupply, pairFinalSupply, loadSupply, deriveSupply, signSupply, exportSupply, mnemonicSupply, saysYes, part, initKey, openEncKey, openMacKey, openSalt, openIv, mutualRandom, pairChallenge, pairSalt, loadPublic, signKey, signR, signS, exportPublic, exportPrivate, mnemonicEntropy}
+use Rattle.rules.specs.Rows.{checksumBits}
 use Rattle.rules.specs.Rules.{Secret, pin, puk, noFault, Rule, rule, placing, comparing}
 
 -- ---- what several commands ask (RULES 6.2)
@@ -400,6 +402,13 @@ ndefChecks p d = must (isVerified p) conditionsNotMet ∷ must (isNdef d) wrongD
 unfoldable pub ndefReply : Card → List ℕ → Reply
 ndefReply c d = succeeds (withTap c (tapOf d)) []
 
+-- ---- GENERATE MNEMONIC D2 (RULES 6.22), without a PIN: no data; the word numbers of the supplied entropy, 2 bytes each
+unfoldable pub mnemonicChecks : List ℕ → List Check
+mnemonicChecks d = must (isZero (length d)) wrongData ∷ []
+
+unfoldable pub mnemonicReply : Card → ℕ → List ℕ → Reply
+mnemonicReply c bits s = succeeds c (numbersOf (mnemonicEntropy bits s))
+
 -- ---- the rules (RULES 6.2): for each command its checks, the supply that is read past them or the secret that is compared, and its reply
 unfoldable pub ruleOf : Command → Rule
 ruleOf command.Select = rule (λ c d. selectChecks d) noSupply (λ c d s. selectReply c)
@@ -422,3 +431,5 @@ ruleOf command.Sign = rule (λ c d. signChecks (c .pins) (c .keys) d) signSupply
 ruleOf (command.Export which what) =
     rule (λ c d. exportChecks (c .pins) (c .keys) which what d) exportSupply (λ c d s. exportReply c which what d s)
 ruleOf command.SetNdef = rule (λ c d. ndefChecks (c .pins) d) noSupply (λ c d s. ndefReply c d)
+ruleOf (command.Mnemonic x) =
+    rule (λ c d. mnemonicChecks d) (mnemonicSupply (checksumBits x)) (λ c d s. mnemonicReply c (checksumBits x) s)

@@ -1,4 +1,4 @@
--- The seventeen instructions, one row each (RULES 6.1): the byte, where the instruction is offered, the stage of
+-- The eighteen instructions, one row each (RULES 6.1): the byte, where the instruction is offered, the stage of
 -- the channel that it needs, the P1 and P2 that it lists with the command that each names, and what it gives up.
 use Prim.Native.Nat.{ℕ}
 use mathlib.Core.Bool.{Bool, true, not, cond}
@@ -19,6 +19,8 @@ use Rattle.rules.specs.declared.KeyForm.the-variants as key
 use Rattle.rules.specs.declared.ExportPath.the-variants as exportPath
 use Rattle.rules.specs.declared.ExportPart.{ExportPart}
 use Rattle.rules.specs.declared.ExportPart.the-variants as exportPart
+use Rattle.rules.specs.declared.Phrase.{Phrase}
+use Rattle.rules.specs.declared.Phrase.the-variants as phrase
 use Rattle.rules.specs.declared.Command.{Command}
 use Rattle.rules.specs.declared.Command.the-variants as command
 
@@ -54,6 +56,17 @@ exports what =
     ∷ (0x01, command.Export exportPath.Given what)
     ∷ (0x02, command.Export exportPath.MakeCurrent what)
     ∷ []
+
+-- P1 of GENERATE MNEMONIC: the size of the phrase's checksum in bits, one for each 3 words
+abbrev pub checksumBits : Phrase → ℕ
+checksumBits phrase.Words12 = 4
+checksumBits phrase.Words15 = 5
+checksumBits phrase.Words18 = 6
+checksumBits phrase.Words21 = 7
+checksumBits phrase.Words24 = 8
+
+abbrev pub ofPhrase : Phrase → ℕ × Command
+ofPhrase x = (checksumBits x, command.Mnemonic x)
 
 -- ---- the rows (RULES 6.1). Stage 0 is said of SELECT, INIT, OPEN and PAIR, which are plain in every stage; MUTUAL goes in stage 1 or 2, the
 -- others in stage 2
@@ -92,6 +105,9 @@ rowOf ins.SetPinless = sealedRow 0xC1 (only 0x00 command.SetPinless)
 rowOf ins.Sign = sealedRow 0xC0 (only 0x00 command.Sign)
 rowOf ins.Export = sealedRow 0xC2 (oneOfEach (exports exportPart.PrivateAndPublic) (exports exportPart.PublicOnly))
 rowOf ins.SetNdef = sealedRow 0xF3 (only 0x00 command.SetNdef)
+rowOf ins.Mnemonic =
+    sealedRow 0xD2
+    (oneOf (ofPhrase phrase.Words12 ∷ ofPhrase phrase.Words15 ∷ ofPhrase phrase.Words18 ∷ ofPhrase phrase.Words21 ∷ ofPhrase phrase.Words24 ∷ []))
 
 -- those of class 80 (RULES 5.3): all but SELECT
 abbrev pub class80 : List Instruction
@@ -112,6 +128,7 @@ class80 =
     ∷ ins.Sign
     ∷ ins.Export
     ∷ ins.SetNdef
+    ∷ ins.Mnemonic
     ∷ []
 
 -- ---- what a row says

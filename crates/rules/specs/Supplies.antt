@@ -1,5 +1,5 @@
--- The nine supplies (RULES 4). Every length is in bytes.
-use Prim.Native.Nat.{ℕ}
+-- The ten supplies (RULES 4). Every length is in bytes.
+use Prim.Native.Nat.{ℕ, _*_}
 use mathlib.Core.Bool.{Bool, true, false, _&&_, _||_, not}
 use mathlib.Core.List.{List}
 use lib.Dec.{leb, eqb}
@@ -40,6 +40,10 @@ signSupply = supply 8 129 false
 
 abbrev pub exportSupply : Supply
 exportSupply = supply 9 98 true
+
+-- 4 bytes of entropy for each bit of the checksum
+abbrev pub mnemonicSupply : ℕ → Supply
+mnemonicSupply checksumBits = supply 10 (4 * checksumBits) false
 
 -- ---- the form that refusal 3 asks for (RULES 4.1): the length, and a flag byte of 00 or 01. A supply that is not read has every form
 abbrev pub flagOf : List ℕ → ℕ
@@ -106,3 +110,7 @@ exportPublic s = part 1 65 s
 
 abbrev pub exportPrivate : List ℕ → List ℕ
 exportPrivate s = part 66 32 s
+
+-- kind 10: entropy, 4 for each bit of the checksum
+abbrev pub mnemonicEntropy : ℕ → List ℕ → List ℕ
+mnemonicEntropy checksumBits s = part 0 (4 * checksumBits) s

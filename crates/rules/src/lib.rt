@@ -69,6 +69,8 @@ pub const INS_EXPORT: u8 = 0xC2;
 
 pub const INS_SET_NDEF: u8 = 0xF3;
 
+pub const INS_MNEMONIC: u8 = 0xD2;
+
 // The fault offset where there is none: opened data have at most 223 bytes.
 pub const NO_FAULT: usize = 255;
 
@@ -94,6 +96,7 @@ pub enum Instruction {
     Sign,
     Export,
     SetNdef,
+    Mnemonic,
 }
 
 // Where an instruction is offered: on every card, on one before INIT, or on one after INIT.
@@ -152,8 +155,17 @@ pub enum ExportPart {
     PublicOnly,
 }
 
-// A command whose P1 and P2 are listed. OPEN and UNPAIR carry the slot's index; GET STATUS, CHANGE and LOAD the choice that P1 makes; EXPORT
-// those that P1 and P2 make.
+// GENERATE MNEMONIC, P1 04 to 08: a recovery phrase of 12, 15, 18, 21 or 24 words.
+pub enum Phrase {
+    Words12,
+    Words15,
+    Words18,
+    Words21,
+    Words24,
+}
+
+// A command whose P1 and P2 are listed. OPEN and UNPAIR carry the slot's index; GET STATUS, CHANGE, LOAD and GENERATE MNEMONIC the choice that
+// P1 makes; EXPORT those that P1 and P2 make.
 pub enum Command {
     Select,
     Init,
@@ -173,6 +185,7 @@ pub enum Command {
     Sign,
     Export(ExportPath, ExportPart),
     SetNdef,
+    Mnemonic(Phrase),
 }
 
 // Step 5: the command, or that its P1 and P2 are not listed.
