@@ -135,6 +135,7 @@ module _ (c : Card) where
     row-keeps ins.Sign p1 p2 e = absurd (false≢true e)
     row-keeps ins.Export p1 p2 e = absurd (false≢true e)
     row-keeps ins.SetNdef p1 p2 e = absurd (false≢true e)
+    row-keeps ins.Mnemonic p1 p2 e = absurd (false≢true e)
 
   -- through the order of checks
   abbrev SameAt : Decision → Type 0

@@ -28,7 +28,7 @@ use Rattle.rules.specs.declared.Verdict.{Verdict}
 use Rattle.rules.specs.Words.{wrongParameters, Reply, fails}
 use Rattle.rules.specs.Supplies.{suits, saysYes, initKey}
 use Rattle.rules.specs.Rows.{rowOf, isPlain}
-use Rattle.rules.specs.Commands.{selectReply, isContent, initContent, initWith, initReply, openReply, mutualReply, pairFirstReply, pairInto, pairFinalReply, unpairReply, statusReply, verifyReply, changeReply, unblockReply, loadReply, deriveReply, removeReply, pinlessReply, signReply, exportReply, ndefReply, ruleOf}
+use Rattle.rules.specs.Commands.{selectReply, isContent, initContent, initWith, initReply, openReply, mutualReply, pairFirstReply, pairInto, pairFinalReply, unpairReply, statusReply, verifyReply, changeReply, unblockReply, loadReply, deriveReply, removeReply, pinlessReply, signReply, exportReply, ndefReply, mnemonicReply, ruleOf}
 use Rattle.rules.specs.Channel.{Outgoing, tell}
 use Rattle.rules.specs.Steps.{Step, step1, p1Of, isInitialised, Opened, Arrived, arrival, checksOf, supplyOf, replyOf, byVerdict, step6, finish, decide}
 use Rattle.rules.specs.Engine.{AnswerOut, answerOut}
@@ -92,7 +92,7 @@ pair-leaves c s (free.At i) = refl
 pair-leaves c s free.Full = refl
 
 replies : (k : Command) → Replies k
-unfolding ruleOf selectReply openReply mutualReply pairFirstReply pairFinalReply unpairReply verifyReply unblockReply loadReply deriveReply removeReply pinlessReply signReply exportReply ndefReply
+unfolding ruleOf selectReply openReply mutualReply pairFirstReply pairFinalReply unpairReply verifyReply unblockReply loadReply deriveReply removeReply pinlessReply signReply exportReply ndefReply mnemonicReply
 replies command.Select = leaves command.Select (λ b c d s. refl)
 replies command.Init = init-replies
 replies (command.Open i) = leaves (command.Open i) (λ b c d s. flagged (c .initialised) s _ _ refl refl)
@@ -111,6 +111,7 @@ replies command.SetPinless = leaves command.SetPinless (λ b c d s. refl)
 replies command.Sign = leaves command.Sign (λ b c d s. refl)
 replies (command.Export which what) = leaves (command.Export which what) (λ b c d s. flagged (c .initialised) s _ _ refl refl)
 replies command.SetNdef = leaves command.SetNdef (λ b c d s. refl)
+replies (command.Mnemonic x) = leaves (command.Mnemonic x) (λ b c d s. refl)
 
 -- ---- through the steps
 tell-init : (g : Option Command) (over : Bool) (r : Reply) → ByInit g (r .card) → ByInit g (tell over r .card)

@@ -27,7 +27,7 @@ use Rattle.rules.specs.declared.Verdict.the-variants.{Reads, Fails}
 use Rattle.rules.specs.Words.{success, Check, verdict, Hold, Reply}
 use Rattle.rules.specs.Supplies.{saysYes, initKey}
 use Rattle.rules.specs.Rules.{Secret, pin, puk}
-use Rattle.rules.specs.Commands.{selectChecks, selectReply, initChecks, isContent, initContent, initWith, initReply, openChecks, openReply, mutualChecks, mutualReply, pairFirstChecks, pairFirstReply, pairFinalChecks, pairInto, pairFinalReply, unpairChecks, unpairReply, statusReply, verifyChecks, verifyReply, changeChecks, changeReply, unblockChecks, unblockReply, loadChecks, loadReply, deriveChecks, deriveReply, removeChecks, removeReply, pinlessChecks, pinlessReply, signChecks, signReply, exportChecks, exportReply, ndefChecks, ndefReply, ruleOf}
+use Rattle.rules.specs.Commands.{selectChecks, selectReply, initChecks, isContent, initContent, initWith, initReply, openChecks, openReply, mutualChecks, mutualReply, pairFirstChecks, pairFirstReply, pairFinalChecks, pairInto, pairFinalReply, unpairChecks, unpairReply, statusReply, verifyChecks, verifyReply, changeChecks, changeReply, unblockChecks, unblockReply, loadChecks, loadReply, deriveChecks, deriveReply, removeChecks, removeReply, pinlessChecks, pinlessReply, signChecks, signReply, exportChecks, exportReply, ndefChecks, ndefReply, mnemonicChecks, mnemonicReply, ruleOf}
 use Rattle.rules.specs.Steps.{checksOf}
 use Rattle.rules.specs.Comparison.{Comparison}
 use Rattle.laws_commands.proofs.Checks.{never}
@@ -167,7 +167,7 @@ abbrev same : {m n : ℕ} → (m ≡ m) × (n ≡ n)
 same = (refl, refl)
 
 pub replies : (k : Command) → Replies k
-unfolding ruleOf selectReply openReply mutualReply pairFirstReply pairFinalReply unpairReply loadReply deriveReply removeReply pinlessReply signReply exportReply ndefReply
+unfolding ruleOf selectReply openReply mutualReply pairFirstReply pairFinalReply unpairReply loadReply deriveReply removeReply pinlessReply signReply exportReply ndefReply mnemonicReply
 replies command.Select = stays command.Select refl refl (λ b c d s. same)
 replies command.Init = λ b c d s h. init-replies c d s
 replies (command.Open i) = stays (command.Open i) refl refl (λ b c d s. (flagged-kept (c .pins) s _ _ same same))
@@ -186,6 +186,7 @@ replies command.SetPinless = stays command.SetPinless refl refl (λ b c d s. sam
 replies command.Sign = stays command.Sign refl refl (λ b c d s. same)
 replies (command.Export which what) = stays (command.Export which what) refl refl (λ b c d s. (flagged-kept (c .pins) s _ _ same same))
 replies command.SetNdef = stays command.SetNdef refl refl (λ b c d s. same)
+replies (command.Mnemonic x) = stays (command.Mnemonic x) refl refl (λ b c d s. same)
 
 -- ---- the checks: no status word of theirs is 9000
 abbrev pub Errors : List Check → Type 0
@@ -199,7 +200,7 @@ by-verdict-errors P s (k ∷ more) e h f =
     by-test P (k .holds) (λ t. by-verdict-errors P s more (e .1) (λ x. h (t, x)) f) (λ t. f (k .otherwise) (e .0))
 
 pub errors : (k : Command) (c : Card) (d : List ℕ) → Errors (checksOf k c d)
-unfolding ruleOf selectChecks initChecks openChecks mutualChecks pairFirstChecks pairFinalChecks unpairChecks verifyChecks changeChecks unblockChecks loadChecks deriveChecks removeChecks pinlessChecks signChecks exportChecks ndefChecks
+unfolding ruleOf selectChecks initChecks openChecks mutualChecks pairFirstChecks pairFinalChecks unpairChecks verifyChecks changeChecks unblockChecks loadChecks deriveChecks removeChecks pinlessChecks signChecks exportChecks ndefChecks mnemonicChecks
 errors command.Select c d = (refl, tt)
 errors command.Init c d = (refl, tt)
 errors (command.Open i) c d = (refl, (refl, tt))
@@ -218,3 +219,4 @@ errors command.SetPinless c d = (refl, (refl, tt))
 errors command.Sign c d = (refl, (refl, tt))
 errors (command.Export which what) c d = (refl, (refl, (refl, tt)))
 errors command.SetNdef c d = (refl, (refl, tt))
+errors (command.Mnemonic x) c d = (refl, tt)

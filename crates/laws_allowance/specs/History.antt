@@ -58,6 +58,7 @@ setBy command.SetPinless = []
 setBy command.Sign = []
 setBy (command.Export which what) = []
 setBy command.SetNdef = []
+setBy (command.Mnemonic x) = []
 
 abbrev pub isAmong : Secret → List Secret → Bool
 isAmong s [] = false

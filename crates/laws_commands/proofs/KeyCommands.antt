@@ -1,10 +1,10 @@
--- LOAD, DERIVE, REMOVE, SET PIN-LESS PATH, SIGN, EXPORT and SET NDEF are lawful.
+-- LOAD, DERIVE, REMOVE, SET PIN-LESS PATH, SIGN, EXPORT, SET NDEF and GENERATE MNEMONIC are lawful.
 -- Assumes nothing.
 use mathlib.Core.Path.{_≡_, refl}
 use mathlib.Core.Bool.{Bool, true, false, _||_, cond, false≢true}
 use mathlib.Core.List.{List, []}
 use mathlib.Core.Option.{none}
-use Prim.Native.Nat.{ℕ, _-_, _≤_, _<_}
+use Prim.Native.Nat.{ℕ, _-_, _*_, _≤_, _<_}
 use native.Mathlib.Omega.{arith}
 use lib.Dec.{eqb}
 use lib.ListN.{length}
@@ -24,19 +24,21 @@ use Rattle.rules.specs.declared.ExportPath.{ExportPath}
 use Rattle.rules.specs.declared.ExportPath.the-variants as exportPath
 use Rattle.rules.specs.declared.ExportPart.{ExportPart}
 use Rattle.rules.specs.declared.ExportPart.the-variants as exportPart
+use Rattle.rules.specs.declared.Phrase.{Phrase}
+use Rattle.rules.specs.declared.Phrase.the-variants as phrase
 use Rattle.rules.specs.declared.Command.the-variants as command
 use Rattle.rules.specs.Words.{success, referenceInvalid, wrongData, Hold, Reply, succeeds, fails}
 use Rattle.sha_rules.proofs.Blocks.{length-sha256, bytes-sha256}
-use Rattle.rules.specs.Supplies.{saysYes, loadPublic, signKey, signR, signS, exportPublic, exportPrivate}
-use Rattle.rules.specs.Commands.{isVerified, isSet, isPath, kindOf, keyWith, loadChecks, uidOf, loadReply, withCurrent, deriveChecks, deriveReply, removeChecks, removeReply, withPinless, pinlessChecks, pinlessReply, signChecks, signReply, isExportData, exportChecks, exportedKeys, keysAfterExport, exportReply, ndefChecks, ndefReply, ruleOf}
-use Rattle.rules.specs.Rows.{rowOf}
+use Rattle.rules.specs.Supplies.{saysYes, loadPublic, signKey, signR, signS, exportPublic, exportPrivate, mnemonicEntropy}
+use Rattle.rules.specs.Commands.{isVerified, isSet, isPath, kindOf, keyWith, loadChecks, uidOf, loadReply, withCurrent, deriveChecks, deriveReply, removeChecks, removeReply, withPinless, pinlessChecks, pinlessReply, signChecks, signReply, isExportData, exportChecks, exportedKeys, keysAfterExport, exportReply, ndefChecks, ndefReply, mnemonicChecks, mnemonicReply, ruleOf}
+use Rattle.rules.specs.Rows.{checksumBits, rowOf}
 use Rattle.rules.specs.Steps.{isInitialised}
 use Rattle.laws_commands.proofs.Checks.{never, open-two, part-most}
 use Rattle.laws_commands.proofs.Parts.{after-init, keys-kept, keys-shaped, tap-kept, tap-shaped}
 use Rattle.laws_commands.proofs.Changed.{loaded-rules, removed-rules, derived-rules, pinless-rules, path-of-bytes}
 use Rattle.laws_commands.proofs.Erasure.{cond-same}
 use Rattle.laws_commands.specs.Lawful.{Fit, eraseReply, Verifies, Plain, Lawful}
-use Rattle.laws_commands.proofs.Texts.{Short, SameChannel, PathBytes, bare, nothing, signature-bytes, exported-public-bytes, exported-pair-bytes, part-bytes}
+use Rattle.laws_commands.proofs.Texts.{Short, SameChannel, PathBytes, bare, nothing, signature-bytes, exported-public-bytes, exported-pair-bytes, numbers-short, numbers-bytes, part-bytes}
 
 -- the current path of 40 zeros, and that of a command's data
 empty : Bytes (zeros 40)
@@ -302,6 +304,34 @@ ndef-lawful = record {
     channel = λ c d s h v. refl;
     texts = λ c d s t p h. bare success (omega arith);
     words = λ c d. (omega arith, (omega arith, tt));
+    path = λ c d s h p. p;
+  };
+  fresh = λ e. absurd (false≢true e);
+}
+
+-- ---- GENERATE MNEMONIC: the entropy has at most 32 bytes
+most-entropy : (x : Phrase) (s : List ℕ) → length (mnemonicEntropy (checksumBits x) s) ≤ 32
+most-entropy phrase.Words12 s = omega (arith, part-most 0 16 s)
+most-entropy phrase.Words15 s = omega (arith, part-most 0 20 s)
+most-entropy phrase.Words18 s = omega (arith, part-most 0 24 s)
+most-entropy phrase.Words21 s = omega (arith, part-most 0 28 s)
+most-entropy phrase.Words24 s = omega (arith, part-most 0 32 s)
+
+pub mnemonic-lawful : (x : Phrase) → Lawful ins.Mnemonic (command.Mnemonic x)
+unfolding ruleOf mnemonicReply mnemonicChecks
+mnemonic-lawful x = record {
+  keeps = λ g c d s f r v u. f;
+  short = λ c d s h. numbers-short (mnemonicEntropy (checksumBits x) s) (most-entropy x s);
+  unread = λ c d s t e. absurd (omega arith);
+  unflagged = λ c d s t f. absurd (false≢true f);
+  checksblind = λ p q c d. refl;
+  replyblind = λ p q b c d s. refl;
+  compares = λ x e. never x e;
+  verifies = λ b c d s e o v t. (open-two (c .channel .stage) t, refl);
+  over = λ _. record {
+    channel = λ c d s h v. refl;
+    texts = λ c d s t p h. record { status = omega arith; response = numbers-bytes (mnemonicEntropy (checksumBits x) s) (most-entropy x s) };
+    words = λ c d. (omega arith, tt);
     path = λ c d s h p. p;
   };
   fresh = λ e. absurd (false≢true e);

@@ -10,6 +10,8 @@ use lib.ListN.{length, take, drop}
 use Rattle.card.specs.declared.Card.{Card}
 use Rattle.rules.specs.declared.ExportPath.{ExportPath}
 use Rattle.rules.specs.declared.ExportPart.the-variants as exportPart
+use Rattle.rules.specs.declared.Phrase.{Phrase}
+use Rattle.rules.specs.declared.Phrase.the-variants as phrase
 use Rattle.rules.specs.declared.Supply.{Supply}
 use Rattle.rules.specs.declared.Command.{Command}
 use Rattle.rules.specs.declared.Command.the-variants as command
@@ -69,3 +71,8 @@ module _ (c : Card) (d s t : List ℕ) (l : length s ≡ 98) (m : length t ≡ 9
   unless-private (command.Export which exportPart.PrivateAndPublic) p = absurd (p which refl)
   unless-private (command.Export which exportPart.PublicOnly) p = (rw (flag-same, l, m), λ h. rw (flag-same, public-same))
   unless-private command.SetNdef p = (refl, λ h. refl)
+  unless-private (command.Mnemonic phrase.Words12) p = other (command.Mnemonic phrase.Words12) refl refl
+  unless-private (command.Mnemonic phrase.Words15) p = other (command.Mnemonic phrase.Words15) refl refl
+  unless-private (command.Mnemonic phrase.Words18) p = other (command.Mnemonic phrase.Words18) refl refl
+  unless-private (command.Mnemonic phrase.Words21) p = other (command.Mnemonic phrase.Words21) refl refl
+  unless-private (command.Mnemonic phrase.Words24) p = other (command.Mnemonic phrase.Words24) refl refl

@@ -19,16 +19,17 @@ use Rattle.rules.specs.declared.KeyForm.the-variants as key
 use Rattle.rules.specs.declared.ExportPath.the-variants as exportPath
 use Rattle.rules.specs.declared.ExportPart.{ExportPart}
 use Rattle.rules.specs.declared.ExportPart.the-variants as exportPart
+use Rattle.rules.specs.declared.Phrase.the-variants as phrase
 use Rattle.rules.specs.declared.Command.{Command}
 use Rattle.rules.specs.declared.Command.the-variants as command
 use Rattle.rules.specs.Rules.{Secret, pin, puk}
 use Rattle.rules.specs.Commands.{ruleOf}
-use Rattle.rules.specs.Rows.{atP1, oneOf, slot, oneOfEach, exports, rowOf, isPlain}
+use Rattle.rules.specs.Rows.{atP1, oneOf, slot, oneOfEach, exports, ofPhrase, rowOf, isPlain}
 use Rattle.rules.specs.Steps.{nameOf, inStage}
 use Rattle.laws_commands.specs.Lawful.{Lawful, Each, LawfulRow}
 use Rattle.laws_commands.proofs.ChannelCommands.{select-lawful, init-lawful, open-lawful, mutual-lawful, pair-first-lawful, pair-final-lawful, unpair-lawful}
 use Rattle.laws_commands.proofs.PinCommands.{status-lawful, verify-lawful, change-lawful, unblock-lawful}
-use Rattle.laws_commands.proofs.KeyCommands.{load-lawful, derive-lawful, remove-lawful, pinless-lawful, sign-lawful, export-lawful, ndef-lawful}
+use Rattle.laws_commands.proofs.KeyCommands.{load-lawful, derive-lawful, remove-lawful, pinless-lawful, sign-lawful, export-lawful, ndef-lawful, mnemonic-lawful}
 
 -- ---- what holds of each command that is listed holds of the one that P1 and P2 name
 module _ (P : Command → Type 0) where
@@ -89,6 +90,7 @@ row-lawful ins.SetPinless = sealed-row ins.SetPinless refl refl refl (one-of (La
 row-lawful ins.Sign = sealed-row ins.Sign refl refl refl (one-of (Lawful ins.Sign) ((0x00, command.Sign) ∷ []) (sign-lawful, tt))
 row-lawful ins.Export = sealed-row ins.Export refl refl refl (one-of-each (Lawful ins.Export) (exports exportPart.PrivateAndPublic) (exports exportPart.PublicOnly) (exports-lawful exportPart.PrivateAndPublic) (exports-lawful exportPart.PublicOnly))
 row-lawful ins.SetNdef = sealed-row ins.SetNdef refl refl refl (one-of (Lawful ins.SetNdef) ((0x00, command.SetNdef) ∷ []) (ndef-lawful, tt))
+row-lawful ins.Mnemonic = sealed-row ins.Mnemonic refl refl refl (one-of (Lawful ins.Mnemonic) (ofPhrase phrase.Words12 ∷ ofPhrase phrase.Words15 ∷ ofPhrase phrase.Words18 ∷ ofPhrase phrase.Words21 ∷ ofPhrase phrase.Words24 ∷ []) (mnemonic-lawful phrase.Words12, (mnemonic-lawful phrase.Words15, (mnemonic-lawful phrase.Words18, (mnemonic-lawful phrase.Words21, (mnemonic-lawful phrase.Words24, tt))))))
 
 pub lawful : (i : Instruction) (p1 p2 : ℕ) (k : Command) → rowOf i .lists p1 p2 ≡ some k → Lawful i k
 lawful i p1 p2 k e = subst (Each (Lawful i)) e (row-lawful i .lists p1 p2)
@@ -122,6 +124,7 @@ only command.SetPinless = tt
 only command.Sign = tt
 only (command.Export which what) = tt
 only command.SetNdef = tt
+only (command.Mnemonic x) = tt
 
 pub only-compares : (k : Command) (s : Secret) → ruleOf k .compares ≡ some s → k ≡ commandOf s
 only-compares k s e = subst (Only k) e (only k)

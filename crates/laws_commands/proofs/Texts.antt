@@ -1,14 +1,21 @@
 -- What is said of a reply: that it is short, that it keeps the channel, that its path is bytes. What commands answer is bytes: status words,
--- and templates whose parts are bytes. And replies without response data.
+-- templates whose parts are bytes, and word numbers. And replies without response data.
 -- Assumes nothing.
 use mathlib.Core.Path.{_≡_}
 use mathlib.Core.Bool.{Bool, true, false}
 use mathlib.Core.List.{List, [], _++_}
-use Prim.Native.Nat.{ℕ, _+_, _≤_, _<_}
+use Prim.Native.Nat.{ℕ, _+_, _*_, _/_, _≤_, _<_}
 use native.Mathlib.Omega.{arith}
 use lib.ListN.{length, drop, length-append}
+use lib.Seq.{length-take-le}
 use Rattle.octets.specs.Bytes.{Bytes}
 use Rattle.octets.proofs.Lists.{bytes-take, bytes-drop, bytes-append}
+use Rattle.sha_rules.specs.Hash.{sha256}
+use Rattle.sha_rules.proofs.Blocks.{length-sha256}
+use Rattle.phrase_rules.specs.Bits.{bits}
+use Rattle.phrase_rules.specs.Numbers.{checksumSize, checksum, wordNumbers, numbersOf}
+use Rattle.phrase_rules.proofs.Bits.{length-bits, length-cut, below-cut}
+use Rattle.phrase_rules.proofs.Numbers.{length-inTwoBytes, bytes-inTwoBytes, below-joined}
 use Rattle.template_rules.specs.Template.{field, fieldHead}
 use Rattle.template_rules.specs.Der.{leadingZeros, needsZero, derContent, derInteger}
 use Rattle.template_rules.proofs.HeadFacts.{by-test, bytes-head, short-field}
@@ -93,3 +100,23 @@ exported-pair-bytes key private k p hk hp =
 
 pub part-bytes : (at n : ℕ) (s : List ℕ) → Bytes s → Bytes (part at n s)
 part-bytes at n s h = bytes-take n (drop at s) (bytes-drop at s h)
+
+-- ---- the word numbers of an entropy of at most 32 bytes
+module _ (e : List ℕ) (l : length e ≤ 32) where
+  pub numbers-short : length (numbersOf e) ≤ 221
+  unfolding numbersOf wordNumbers
+  numbers-short = omega (arith, length-inTwoBytes (wordNumbers e), length-cut 11 (3 * checksumSize e) (bits 8 e ++ checksum e))
+
+  joined-long : 3 * checksumSize e * 11 ≤ length (bits 8 e ++ checksum e)
+  unfolding checksum
+  joined-long =
+      omega (
+        arith,
+        length-append (bits 8 e) (checksum e),
+        length-bits 8 e,
+        length-take-le (checksumSize e) (bits 8 (sha256 e)) (omega (arith, length-bits 8 (sha256 e), length-sha256 e)),
+      )
+
+  pub numbers-bytes : Bytes (numbersOf e)
+  unfolding numbersOf wordNumbers
+  numbers-bytes = bytes-inTwoBytes (wordNumbers e) (below-cut 11 (3 * checksumSize e) (bits 8 e ++ checksum e) joined-long (below-joined e))

@@ -25,7 +25,7 @@ use Rattle.rules.specs.declared.Verdict.{Verdict}
 use Rattle.rules.specs.Words.{wrongParameters, Hold, Reply, fails}
 use Rattle.rules.specs.Supplies.{suits, saysYes, initKey}
 use Rattle.rules.specs.Rules.{pin, puk, rightBy}
-use Rattle.rules.specs.Commands.{isVerified, selectReply, isContent, initContent, initWith, initReply, openReply, mutualReply, pairFirstReply, pairInto, pairFinalReply, unpairReply, statusReply, verifyReply, changeReply, unblockReply, loadReply, deriveReply, removeReply, pinlessReply, signReply, exportReply, ndefChecks, ndefReply, ruleOf}
+use Rattle.rules.specs.Commands.{isVerified, selectReply, isContent, initContent, initWith, initReply, openReply, mutualReply, pairFirstReply, pairInto, pairFinalReply, unpairReply, statusReply, verifyReply, changeReply, unblockReply, loadReply, deriveReply, removeReply, pinlessReply, signReply, exportReply, ndefChecks, ndefReply, mnemonicReply, ruleOf}
 use Rattle.rules.specs.Rows.{rowOf, isPlain}
 use Rattle.rules.specs.Channel.{Outgoing, tell}
 use Rattle.rules.specs.Steps.{Step, goes, step1, p1Of, Opened, Arrived, arrival, checksOf, supplyOf, replyOf, byVerdict, step6, finish, decide}
@@ -62,7 +62,7 @@ module _ (c : Card) (d s : List ℕ) where
   change-keeps secret.Pairing = refl
 
   pub unless-ndef : (k : Command) → (k ≡ command.SetNdef) ⊎ (replyOf k c d s .card .tap ≡ c .tap)
-  unfolding ruleOf selectReply initReply openReply mutualReply pairFirstReply pairFinalReply unpairReply verifyReply unblockReply loadReply deriveReply removeReply pinlessReply signReply exportReply
+  unfolding ruleOf selectReply initReply openReply mutualReply pairFirstReply pairFinalReply unpairReply verifyReply unblockReply loadReply deriveReply removeReply pinlessReply signReply exportReply mnemonicReply
   unless-ndef command.Select = inr refl
   unless-ndef command.Init = inr (by-test Keeps (saysYes s) (λ _. init-with (initContent (initKey s) d)) (λ _. refl))
   unless-ndef (command.Open i) = inr (by-test Keeps (saysYes s) (λ _. refl) (λ _. refl))
@@ -81,6 +81,7 @@ module _ (c : Card) (d s : List ℕ) where
   unless-ndef command.Sign = inr refl
   unless-ndef (command.Export which what) = inr (by-test Keeps (saysYes s) (λ _. refl) (λ _. refl))
   unless-ndef command.SetNdef = inl refl
+  unless-ndef (command.Mnemonic x) = inr refl
 
 -- SET NDEF, where its checks hold
 pub ndef-held : (c : Card) (d : List ℕ) → Hold (checksOf command.SetNdef c d) → (isVerified (c .pins) ≡ true) × (isNdef d ≡ true)
