@@ -14,6 +14,8 @@ use Rattle.claims.proofs.TapRecord.{tap-record}
 use Rattle.claims.proofs.Slots.{slots}
 use Rattle.claims.proofs.Hashing.{hashing}
 use Rattle.claims.proofs.Faults.{faults}
+use Rattle.claims.proofs.Phrases.{phrases}
+use Rattle.claims.proofs.Mnemonic.{mnemonic}
 use Rattle.claims.proofs.Rows.{rows}
 use Rattle.claims.proofs.RowsMet.{rows-met}
 use Rattle.claims.proofs.WrongEngines.{wrong-engines}
@@ -34,6 +36,8 @@ claims = record {
   slots = slots;
   hashing = hashing;
   faults = faults;
+  phrases = phrases;
+  mnemonic = mnemonic;
   rows = rows;
   rowsmet = rows-met;
   wrongengines = wrong-engines;

@@ -6,6 +6,8 @@ pub mod RowsMet
 pub mod WrongEngines
 pub mod Untouched
 pub mod Genuine
+pub mod Phrases
+pub mod EntropyRefusals
 pub mod Refusals
 pub mod WalkReads
 pub mod Ciphers
@@ -25,5 +27,6 @@ pub mod LoadTurns
 pub mod VerifiedLoads
 pub mod Hashing
 pub mod Faults
+pub mod Mnemonic
 pub mod Secrecy
 pub mod Claims

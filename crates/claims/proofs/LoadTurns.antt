@@ -172,10 +172,10 @@ load-decides : (a : Arrived) (form : KeyForm) → a .command ≡ command.Load fo
 unfolding step6 ruleOf loadChecks
 load-decides a form e v k = (rw (e, v, k), rw (e, v, k))
 
-abbrev number : Bool → ℕ
+abbrev pub number : Bool → ℕ
 number b = cond b 0 3
 
-refusal-by : (b : Bool) (t : AnswerOut) (c : Card) → t .refusal ≡ 0 → cond b t (answerRefused c wrongSupply) .refusal ≡ number b
+pub refusal-by : (b : Bool) (t : AnswerOut) (c : Card) → t .refusal ≡ 0 → cond b t (answerRefused c wrongSupply) .refusal ≡ number b
 refusal-by true t c e = e
 refusal-by false t c e = refl
 

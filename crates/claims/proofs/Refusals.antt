@@ -4,11 +4,11 @@ use mathlib.Core.Path.{_≡_, refl, sym, ap, _∙_}
 use mathlib.Core.Bool.{Bool, true, false, false≢true}
 use mathlib.Core.List.{List}
 use mathlib.Core.Logic.{_⊎_, inl, inr, ⊎-elim}
-use Prim.Native.Nat.{ℕ, zero, suc, _*_}
+use Prim.Native.Nat.{ℕ}
 use native.Mathlib.Omega.{arith}
 use borrow.Author.Tests.{ltb-true, ltb-false}
 use lib.Dec.{ltb}
-use lib.ListN.{length, drop}
+use lib.ListN.{length}
 use Rattle.record_rules.specs.Lengths.{writeRoom}
 use Rattle.channel_rules.specs.declared.Session.{Session}
 use Rattle.channel_rules.specs.Terminal.{sealOut}
@@ -18,7 +18,6 @@ use Rattle.template_walk.specs.declared.Walked.the-variants as walked
 use Rattle.template_walk.specs.Walk.{walkOf, report}
 use Rattle.card.specs.declared.Card.{Card}
 use Rattle.card.specs.Sound.{isSound}
-use Rattle.card.specs.Shape.{Shaped}
 use Rattle.sound.specs.declared.Answer.{Answer}
 use Rattle.sound.specs.Reset.{resetAnswer}
 use Rattle.record_rules.specs.Parse.{cardOf}
@@ -30,6 +29,7 @@ use Rattle.laws_engine.proofs.Refusals.{ask-unsound, ask-room, ask-numbers, ans
 use Rattle.claims.specs.Refusals.{ResetRefuses, WriteRefuses, IsRecord, ReadRefuses, SealRefuses, WalkRefuses, Refusals}
 use Rattle.claims.proofs.Untouched.{ask-nothing, answer-nothing, write-nothing, seal-nothing}
 use Rattle.claims.proofs.Genuine.{unseal-refuses}
+use Rattle.claims.proofs.EntropyRefusals.{entropy-refuses}
 
 never : {b : Bool} {A : Type 0} → b ≡ true → b ≡ false → A
 never t f = absurd (false≢true (sym f ∙ t))
@@ -181,4 +181,5 @@ refusals = record {
   seal = seal-refuses;
   unseal = unseal-refuses;
   walk = walk-refuses;
+  entropy = entropy-refuses;
 }

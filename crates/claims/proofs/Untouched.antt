@@ -29,7 +29,7 @@ use Rattle.rules.specs.Reports.{AskDid, AnswerDid}
 use Rattle.laws_engine.proofs.Refusals.{ask-refused, answer-refused}
 
 -- no bytes written
-as-it-was : {bytes before after : List ℕ} → bytes ≡ [] → after ≡ written bytes before → after ≡ before
+pub as-it-was : {bytes before after : List ℕ} → bytes ≡ [] → after ≡ written bytes before → after ≡ before
 as-it-was {before = before} e left = left ∙ ap (λ (x : List ℕ). written x before) e
 
 -- ---- ASK

@@ -14,6 +14,8 @@ use Rattle.claims.specs.TapRecord.{TapRecord}
 use Rattle.claims.specs.Slots.{Slots}
 use Rattle.claims.specs.Hashing.{Hashing}
 use Rattle.claims.specs.Faults.{Faults}
+use Rattle.claims.specs.Phrases.{Phrases}
+use Rattle.claims.specs.Mnemonic.{Mnemonic}
 use Rattle.claims.specs.Rows.{Rows}
 use Rattle.claims.specs.RowsMet.{RowsMet}
 use Rattle.claims.specs.WrongEngines.{WrongEngines}
@@ -43,6 +45,9 @@ pub record Claims : Type 0 where
   -- what the card hashes (RULES 6.8, 6.14), and where LOAD's data are at fault (RULES 5.9)
   pub hashing : Hashing
   pub faults : Faults
+  -- word numbers and entropy undo each other (RULES 7.12), and GENERATE MNEMONIC (RULES 6.22)
+  pub phrases : Phrases
+  pub mnemonic : Mnemonic
   -- the rows to settle and that what they suppose is met (RULES 11.4); and the wrong engines that the rules shut out (RULES 11.5)
   pub rows : Rows
   pub rowsmet : RowsMet

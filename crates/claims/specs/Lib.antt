@@ -1,3 +1,4 @@
+pub mod Phrases
 pub mod Refusals
 pub mod WalkReads
 pub mod Ciphers
@@ -11,6 +12,7 @@ pub mod Rows
 pub mod Slots
 pub mod Hashing
 pub mod Faults
+pub mod Mnemonic
 pub mod RowsMet
 pub mod WrongEngines
 pub mod Secrecy

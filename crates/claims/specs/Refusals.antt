@@ -15,6 +15,9 @@ use Rattle.channel_rules.specs.Terminal.{sealOut, sealedResponse, unsealOut}
 use Rattle.channel_terminal.specs.declared.Outcome.{Outcome}
 use Rattle.channel_terminal.specs.Did.{Did}
 use Rattle.template_walk.specs.Walk.{WALK}
+use Rattle.phrase_rules.specs.Reverse.{reverseRefusal}
+use Rattle.phrase_reverse.specs.declared.Entropy.{Entropy}
+use Rattle.phrase_reverse.specs.Reversed.{Reversed}
 use Rattle.card.specs.declared.Card.{Card}
 use Rattle.card.specs.State.{zeros, freshOf}
 use Rattle.card.specs.Sound.{isSound}
@@ -31,6 +34,7 @@ use Rattle.rules.specs.Supplies.{suits}
 use Rattle.rules.specs.Steps.{decide}
 use Rattle.rules.specs.Engine.{askOut, answerOut}
 use Rattle.rules.specs.Reports.{AskDid, AnswerDid}
+use Rattle.claims.specs.Phrases.{IsCount, TooLarge, IsPhrase}
 
 -- ---- ASK: 1, 2
 pub record AskRefuses (c : Card) (cmd : List ℕ) (room : ℕ) : Type 0 where
@@ -101,6 +105,20 @@ pub record WalkRefuses (s : List ℕ) : Type 0 where
   pub numbers : (WALK s .refusal ≡ 0) ⊎ ((WALK s .refusal ≡ 4) ⊎ (WALK s .refusal ≡ 5))
   pub nothing : (WALK s .refusal ≡ 0 → ⊥) → WALK s .count ≡ 0
 
+-- ---- ENTROPY: 2, 9, 10, 11. What is taken are the numbers of an entropy
+pub record EntropyRefuses (words : List ℕ) (room : ℕ) : Type 0 where
+  pub small : reverseRefusal words room ≡ 2 ↔ room < 32
+  pub count : reverseRefusal words room ≡ 9 ↔ (32 ≤ room) × (IsCount words → ⊥)
+  pub large : reverseRefusal words room ≡ 10 ↔ (32 ≤ room) × (IsCount words × TooLarge words)
+  pub checksum : Bytes words
+      → reverseRefusal words room ≡ 11 ↔ (32 ≤ room) × (IsCount words × ((TooLarge words → ⊥) × (IsPhrase words → ⊥)))
+  pub taken : Bytes words → reverseRefusal words room ≡ 0 ↔ (32 ≤ room) × IsPhrase words
+  pub others : (reverseRefusal words room ≡ 0)
+      ⊎ ((reverseRefusal words room ≡ 2)
+      ⊎ ((reverseRefusal words room ≡ 9) ⊎ ((reverseRefusal words room ≡ 10) ⊎ (reverseRefusal words room ≡ 11))))
+  pub nothing : (before after : List ℕ) (r : Entropy) → Reversed words r before after → (r .refusal ≡ 0 → ⊥)
+      → (r .count ≡ 0) × (after ≡ before)
+
 pub record Refusals : Type 0 where
   pub ask : (c : Card) (cmd : List ℕ) (room : ℕ) → AskRefuses c cmd room
   pub answer : (c : Card) (cmd supply : List ℕ) (room : ℕ) → AnswerRefuses c cmd supply room
@@ -110,3 +128,4 @@ pub record Refusals : Type 0 where
   pub seal : (s : Session) (header d : List ℕ) (room : ℕ) → SealRefuses s header d room
   pub unseal : (s : Session) (response : List ℕ) (room : ℕ) → UnsealRefuses s response room
   pub walk : (s : List ℕ) → WalkRefuses s
+  pub entropy : (words : List ℕ) (room : ℕ) → EntropyRefuses words room

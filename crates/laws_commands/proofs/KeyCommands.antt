@@ -4,7 +4,7 @@ use mathlib.Core.Path.{_≡_, refl}
 use mathlib.Core.Bool.{Bool, true, false, _||_, cond, false≢true}
 use mathlib.Core.List.{List, []}
 use mathlib.Core.Option.{none}
-use Prim.Native.Nat.{ℕ, _-_, _*_, _≤_, _<_}
+use Prim.Native.Nat.{ℕ, _-_, _≤_, _<_}
 use native.Mathlib.Omega.{arith}
 use lib.Dec.{eqb}
 use lib.ListN.{length}
@@ -31,7 +31,7 @@ use Rattle.rules.specs.Words.{success, referenceInvalid, wrongData, Hold, Reply
 use Rattle.sha_rules.proofs.Blocks.{length-sha256, bytes-sha256}
 use Rattle.rules.specs.Supplies.{saysYes, loadPublic, signKey, signR, signS, exportPublic, exportPrivate, mnemonicEntropy}
 use Rattle.rules.specs.Commands.{isVerified, isSet, isPath, kindOf, keyWith, loadChecks, uidOf, loadReply, withCurrent, deriveChecks, deriveReply, removeChecks, removeReply, withPinless, pinlessChecks, pinlessReply, signChecks, signReply, isExportData, exportChecks, exportedKeys, keysAfterExport, exportReply, ndefChecks, ndefReply, mnemonicChecks, mnemonicReply, ruleOf}
-use Rattle.rules.specs.Rows.{checksumBits, rowOf}
+use Rattle.rules.specs.Rows.{checksumBits}
 use Rattle.rules.specs.Steps.{isInitialised}
 use Rattle.laws_commands.proofs.Checks.{never, open-two, part-most}
 use Rattle.laws_commands.proofs.Parts.{after-init, keys-kept, keys-shaped, tap-kept, tap-shaped}

@@ -2,7 +2,7 @@
 -- in flag and public key, the first 66, have the form for it both or neither, and then it gives both the same reply.
 -- Assumes nothing.
 use mathlib.Core.Path.{_≡_, refl, sym, ap, _∙_}
-use mathlib.Core.Bool.{Bool, true, false, _&&_, _||_, false≢true}
+use mathlib.Core.Bool.{true, false, false≢true}
 use mathlib.Core.List.{List, [], _∷_}
 use Prim.Native.Nat.{ℕ}
 use lib.Dec.{eqb}
@@ -10,7 +10,6 @@ use lib.ListN.{length, take, drop}
 use Rattle.card.specs.declared.Card.{Card}
 use Rattle.rules.specs.declared.ExportPath.{ExportPath}
 use Rattle.rules.specs.declared.ExportPart.the-variants as exportPart
-use Rattle.rules.specs.declared.Phrase.{Phrase}
 use Rattle.rules.specs.declared.Phrase.the-variants as phrase
 use Rattle.rules.specs.declared.Supply.{Supply}
 use Rattle.rules.specs.declared.Command.{Command}
