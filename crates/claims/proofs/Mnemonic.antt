@@ -29,6 +29,7 @@ use Rattle.rules.specs.Words.{wrongData, Hold, Reply, succeeds, fails}
 use Rattle.rules.specs.Supplies.{mnemonicSupply, suits}
 use Rattle.rules.specs.Commands.{isVerified, hasKey, mnemonicChecks, mnemonicReply, ruleOf}
 use Rattle.rules.specs.Rows.{checksumBits, rowOf, isPlain}
+use Rattle.rules.proofs.Phrases.{bits-least, bits-most}
 use Rattle.rules.specs.Channel.{sessionOf, withMac, plainText}
 use Rattle.rules.specs.Steps.{claOf, insOf, p1Of, p2Of, nameOf, isInitialised, goes, Arrived, arrival, Decision, step6, finish, decide}
 use Rattle.rules.specs.Engine.{askOut, answerOut}
@@ -80,13 +81,6 @@ phrase-of (suc (suc (suc (suc (suc (suc zero)))))) l m = (phrase.Words18, refl)
 phrase-of (suc (suc (suc (suc (suc (suc (suc zero))))))) l m = (phrase.Words21, refl)
 phrase-of (suc (suc (suc (suc (suc (suc (suc (suc zero)))))))) l m = (phrase.Words24, refl)
 phrase-of (suc (suc (suc (suc (suc (suc (suc (suc (suc n))))))))) l m = absurd (omega arith)
-
-sizes : (x : Phrase) → (4 ≤ checksumBits x) × (checksumBits x ≤ 8)
-sizes phrase.Words12 = (omega arith, omega arith)
-sizes phrase.Words15 = (omega arith, omega arith)
-sizes phrase.Words18 = (omega arith, omega arith)
-sizes phrase.Words21 = (omega arith, omega arith)
-sizes phrase.Words24 = (omega arith, omega arith)
 
 -- ---- whatever P1 and P2
 module _ (c : Card) (t : Turn) (p1 p2 : ℕ) (p : Sent c t p1 p2) where
@@ -204,13 +198,10 @@ module _ (c : Card) (t : Turn) (x : Phrase) (p : Sent c t (checksumBits x) 0) wh
       reads-numbers : unsealedBy c t .bytes ≡ numbersOf (t .supply) ++ (0x90 ∷ 0x00 ∷ [])
       reads-numbers = turn suited .turn .plain ∙ ap plainText gives-numbers
 
-      small : checksumBits x ≤ 8
-      small = sizes x .1
-
       before-status : take (6 * checksumBits x) (unsealedBy c t .bytes) ≡ numbersOf (t .supply)
       before-status =
           ap (take (6 * checksumBits x)) reads-numbers
-          ∙ take-at (numbersOf (t .supply)) (0x90 ∷ 0x00 ∷ []) (6 * checksumBits x) (length-numbersOf (checksumBits x) (t .supply) long small)
+          ∙ take-at (numbersOf (t .supply)) (0x90 ∷ 0x00 ∷ []) (6 * checksumBits x) (length-numbersOf (checksumBits x) (t .supply) long (bits-most x))
 
       generated : Generated c t (checksumBits x)
       generated = record {
@@ -221,10 +212,10 @@ module _ (c : Card) (t : Turn) (x : Phrase) (p : Sent c t (checksumBits x) 0) wh
         faultOffset = turn suited .faultOffset ∙ no-fault;
         taken = λ room l.
             ap (λ (w : List ℕ). reverseRefusal w room) before-status
-            ∙ reverse-accepts (checksumBits x) (t .supply) (sizes x .0) small long (t .supplybytes) room l;
+            ∙ reverse-accepts (checksumBits x) (t .supply) (bits-least x) (bits-most x) long (t .supplybytes) room l;
         back = λ room l.
             ap (λ (w : List ℕ). reverseBytes w room) before-status
-            ∙ reverse-generate (checksumBits x) (t .supply) (sizes x .0) small long (t .supplybytes) room l;
+            ∙ reverse-generate (checksumBits x) (t .supply) (bits-least x) (bits-most x) long (t .supplybytes) room l;
       }
 
 -- ---- by P1

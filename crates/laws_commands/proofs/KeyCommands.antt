@@ -4,7 +4,7 @@ use mathlib.Core.Path.{_≡_, refl}
 use mathlib.Core.Bool.{Bool, true, false, _||_, cond, false≢true}
 use mathlib.Core.List.{List, []}
 use mathlib.Core.Option.{none}
-use Prim.Native.Nat.{ℕ, _-_, _≤_, _<_}
+use Prim.Native.Nat.{ℕ, _-_, _*_, _≤_, _<_}
 use native.Mathlib.Omega.{arith}
 use lib.Dec.{eqb}
 use lib.ListN.{length}
@@ -25,7 +25,6 @@ use Rattle.rules.specs.declared.ExportPath.the-variants as exportPath
 use Rattle.rules.specs.declared.ExportPart.{ExportPart}
 use Rattle.rules.specs.declared.ExportPart.the-variants as exportPart
 use Rattle.rules.specs.declared.Phrase.{Phrase}
-use Rattle.rules.specs.declared.Phrase.the-variants as phrase
 use Rattle.rules.specs.declared.Command.the-variants as command
 use Rattle.rules.specs.Words.{success, referenceInvalid, wrongData, Hold, Reply, succeeds, fails}
 use Rattle.sha_rules.proofs.Blocks.{length-sha256, bytes-sha256}
@@ -33,6 +32,7 @@ use Rattle.rules.specs.Supplies.{saysYes, loadPublic, signKey, signR, signS, ex
 use Rattle.rules.specs.Commands.{isVerified, isSet, isPath, kindOf, keyWith, loadChecks, uidOf, loadReply, withCurrent, deriveChecks, deriveReply, removeChecks, removeReply, withPinless, pinlessChecks, pinlessReply, signChecks, signReply, isExportData, exportChecks, exportedKeys, keysAfterExport, exportReply, ndefChecks, ndefReply, mnemonicChecks, mnemonicReply, ruleOf}
 use Rattle.rules.specs.Rows.{checksumBits}
 use Rattle.rules.specs.Steps.{isInitialised}
+use Rattle.rules.proofs.Phrases.{bits-most}
 use Rattle.laws_commands.proofs.Checks.{never, open-two, part-most}
 use Rattle.laws_commands.proofs.Parts.{after-init, keys-kept, keys-shaped, tap-kept, tap-shaped}
 use Rattle.laws_commands.proofs.Changed.{loaded-rules, removed-rules, derived-rules, pinless-rules, path-of-bytes}
@@ -311,11 +311,7 @@ ndef-lawful = record {
 
 -- ---- GENERATE MNEMONIC: the entropy has at most 32 bytes
 most-entropy : (x : Phrase) (s : List ℕ) → length (mnemonicEntropy (checksumBits x) s) ≤ 32
-most-entropy phrase.Words12 s = omega (arith, part-most 0 16 s)
-most-entropy phrase.Words15 s = omega (arith, part-most 0 20 s)
-most-entropy phrase.Words18 s = omega (arith, part-most 0 24 s)
-most-entropy phrase.Words21 s = omega (arith, part-most 0 28 s)
-most-entropy phrase.Words24 s = omega (arith, part-most 0 32 s)
+most-entropy x s = omega (arith, part-most 0 (4 * checksumBits x) s, bits-most x)
 
 pub mnemonic-lawful : (x : Phrase) → Lawful ins.Mnemonic (command.Mnemonic x)
 unfolding ruleOf mnemonicReply mnemonicChecks
