@@ -3,11 +3,12 @@
 use std::env;
 use std::path::Path;
 
-const PROGRAMS: [(&str, &[&str]); 5] = [
+const PROGRAMS: [(&str, &[&str]); 6] = [
     ("bench", &["treadlewisp", "aes_c", "sha_c"]),
     ("cards", &["treadlewisp"]),
     ("compare", &["aes_c"]),
     ("hashes", &["sha_c"]),
+    ("phrases", &["treadlewisp"]),
     ("player", &["treadlewisp"]),
 ];
 

@@ -6,9 +6,10 @@ use crate::guarded::Guarded;
 use crate::may_occur::{lr_of, name_of, Operation};
 use crate::standing::{standing_after, standing_of, Standing};
 use crate::tally::Tally;
+use crate::word_numbers::entropy_of;
 use outside::ffi::treadlewisp::{self, CARD_BYTES};
 use outside::model::card::{Card, Session, POINT_BYTES, UID_BYTES};
-use outside::model::commands::Name;
+use outside::model::commands::{supply_of_kind, Name, FOR_MNEMONIC};
 use outside::model::engine::{self, Answered, Asked, Tapped, Told, Walked, ASK_ROOM_BYTES};
 use outside::model::message::HEADER_BYTES;
 use outside::model::status::{NOT_REFUSED, SHORT_BUFFER, SUCCESS, UNSOUND};
@@ -77,6 +78,18 @@ impl Both {
                 &model.to_string(),
                 &library.to_string(),
             );
+        }
+    }
+
+    /// What ENTROPY gave, on both, beside what is wanted by a way of its own.
+    fn same_entropy(&self, call: &Call, wanted: Result<Vec<u8>, u8>, told: Told, buffer: &[u8]) {
+        let given = match told.refusal {
+            NOT_REFUSED => Ok(buffer[..told.count].to_vec()),
+            refusal => Err(refusal),
+        };
+        if given != wanted {
+            let given = format!("{given:x?}");
+            self.differ(call, &format!("the entropy or its refusal, which is {wanted:x?}"), &given, &given);
         }
     }
 
@@ -248,7 +261,10 @@ impl Both {
         if refusal != UNSOUND && refusal != SHORT_BUFFER {
             let kind = engine::ask(before, command, &mut [0; ASK_ROOM_BYTES]).kind;
             if kind != 0 {
-                self.tally.supply(kind, supply);
+                self.tally.supply(&supply_of_kind(kind, command[2]), supply);
+            }
+            if kind == FOR_MNEMONIC {
+                self.tally.generated(command[2], refusal);
             }
         }
     }
@@ -386,6 +402,25 @@ impl Both {
         self.unchanged(&call, &[&lent, lent_factory]);
         self.tally.operation(Operation::Tap, model.refusal);
         self.tally.tap(record, model.refusal, model.source);
+        model
+    }
+
+    pub fn entropy(&mut self, words: &[u8], buffer: &mut [u8]) -> Told {
+        let given = self.guarded(words);
+        let mut room = self.guarded(buffer);
+        let library = treadlewisp::entropy(given.content(), room.slice());
+        let model = engine::entropy(words, buffer);
+        let call = Call {
+            operation: Operation::Entropy,
+            inputs: vec![("words", words), ("buffer as the model left it", buffer)],
+        };
+        self.told(&call, model, library);
+        self.same_bytes(&call, "the buffer", buffer, &room);
+        self.unchanged(&call, &[&given]);
+        self.same_entropy(&call, entropy_of(words, buffer.len()), model, buffer);
+        self.tally.operation(Operation::Entropy, model.refusal);
+        self.tally.room(Operation::Entropy, buffer.len());
+        self.tally.reversed(words, model.refusal);
         model
     }
 }

@@ -2,14 +2,14 @@
 //! bytes.
 
 use crate::both::{hex, Both};
-use crate::host::{room, supply_for, supply_of, Way};
+use crate::host::{room, supplied_as, supply_for, Way};
 use crate::may_occur::*;
 use crate::requests::{is_sealed_kind, right, Request};
 use crate::states::{random_session, sound_card};
 use crate::tally::{every_row, Row};
 use outside::ciphers::plain::BLOCK_BYTES;
 use outside::model::card::*;
-use outside::model::commands::{Name, FOR_PAIR_FINAL, FOR_PAIR_FIRST};
+use outside::model::commands::{supply_of_kind, Name, FOR_PAIR_FINAL, FOR_PAIR_FIRST};
 use outside::model::engine::*;
 use outside::model::message::HEADER_BYTES;
 use outside::model::status::*;
@@ -17,7 +17,7 @@ use outside::random::choice::{array, byte, chance, pick, some_bytes};
 use outside::random::Random;
 
 /// P1 that no command lists.
-const UNLISTED_P1: [u8; 3] = [SLOTS as u8, 0x80, 0xff];
+const UNLISTED_P1: [u8; 3] = [SLOTS as u8 + 1, 0x80, 0xff];
 
 /// A sound card in this situation that has all that a command can need: in stage 2 a verified PIN, an extended key on the PIN-less path,
 /// a filled slot and free ones. It may have a tap record, or none.
@@ -114,7 +114,7 @@ pub fn trial(both: &mut Both, random: &mut Random, (name, situation, status, sea
 fn no_command(random: &mut Random, status: u16) -> Vec<u8> {
     let (class, instruction) = match status {
         UNKNOWN_CLASS => (pick(random, &[0x00, 0x84, 0xff]), pick(random, &[0x10, 0xf2, 0xfe])),
-        _ => (0x80, pick(random, &[0xa4, 0xf4, 0xd2, 0xd4, 0xd5, 0xc3])),
+        _ => (0x80, pick(random, &[0xa4, 0xf4, 0xd4, 0xd5, 0xc3])),
     };
     vec![class, instruction, byte(random), byte(random)]
 }
@@ -243,7 +243,8 @@ fn supply(both: &mut Both, random: &mut Random, situation: Situation, kind: u8, 
         _ => {}
     }
     let command = as_sent(both, random, &card, &request);
-    let supply = supply_of(random, kind, &init_key, way);
+    let wanted = supply_of_kind(kind, request.header[2]);
+    let supply = supplied_as(random, &wanted, &init_key, way);
     let asked = both.ask(&card, &command, &mut room(random, ASK_ROOM_BYTES));
     let answered = both.answer(&mut card, &command, &supply, &mut room(random, ANSWER_ROOM_BYTES));
     let is_right = matches!(way, Supplied::Right | Supplied::No);

@@ -258,13 +258,15 @@ fn other_commands(both: &mut Both, random: &mut Random) {
         (Name::Sign, WRONG_DATA),
         (Name::Export, WRONG_DATA),
         (Name::SetNdef, WRONG_DATA),
+        (Name::Mnemonic, WRONG_DATA),
         (Name::Mutual, CONDITIONS_NOT_SATISFIED),
         (Name::Status, SUCCESS),
         (Name::Remove, SUCCESS),
         (Name::Unpair, SUCCESS),
     ] {
         let card = ready_card(random, Situation::Authenticated);
-        no_number(both, random, &card, &Request::new(name, 0x00, &BROKEN), &[], status);
+        let p1 = if name == Name::Mnemonic { 0x04 } else { 0x00 };
+        no_number(both, random, &card, &Request::new(name, p1, &BROKEN), &[], status);
     }
     let rest = INSTRUCTIONS.iter().filter(|(name, _)| !is_sealed_kind(*name));
     for (name, _) in rest {

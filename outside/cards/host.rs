@@ -3,7 +3,7 @@
 use crate::may_occur::Supplied;
 use outside::ciphers::plain::Key;
 use outside::model::card::{Card, NO, YES};
-use outside::model::commands::{supply_of_kind, FOR_INIT, FOR_SIGN};
+use outside::model::commands::{supply_of_kind, Supply, FOR_INIT, FOR_SIGN};
 use outside::model::engine::{ask, ASK_ROOM_BYTES};
 use outside::random::choice::{array, byte, chance, pick, some_bytes};
 use outside::random::Random;
@@ -24,21 +24,26 @@ pub fn supply_for(random: &mut Random, card: &Card, command: &[u8], init_key: &K
     if asked.kind == 0 {
         return some_bytes(random, 0, 140);
     }
-    let has_flag = supply_of_kind(asked.kind).has_flag;
+    let wanted = supply_of_kind(asked.kind, command[2]);
     match way {
-        Way::Refusing if has_flag => supply_of(random, asked.kind, init_key, Supplied::No),
-        Way::Right | Way::Refusing => supply_of(random, asked.kind, init_key, Supplied::Right),
+        Way::Refusing if wanted.has_flag => supplied_as(random, &wanted, init_key, Supplied::No),
+        Way::Right | Way::Refusing => supplied_as(random, &wanted, init_key, Supplied::Right),
         Way::Wrong => {
-            let mut supply = supply_of(random, asked.kind, init_key, Supplied::Right);
-            spoil(random, &mut supply, has_flag);
+            let mut supply = supplied_as(random, &wanted, init_key, Supplied::Right);
+            spoil(random, &mut supply, wanted.has_flag);
             supply
         }
     }
 }
 
-/// A supply of this kind that is right, or wrong in this one way.
+/// A supply of this kind, which has one length, that is right, or wrong in this one way.
 pub fn supply_of(random: &mut Random, kind: u8, init_key: &Key, how: Supplied) -> Vec<u8> {
-    let wanted = supply_of_kind(kind);
+    supplied_as(random, &supply_of_kind(kind, 0x00), init_key, how)
+}
+
+/// This supply, right, or wrong in this one way.
+pub fn supplied_as(random: &mut Random, wanted: &Supply, init_key: &Key, how: Supplied) -> Vec<u8> {
+    let kind = wanted.kind;
     let mut supply = random.bytes(wanted.bytes);
     if wanted.has_flag {
         supply[0] = YES;

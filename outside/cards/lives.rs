@@ -1,17 +1,20 @@
 //! Whole lives of cards: from FRESH, a stored record or any sound state, through commands, resets and stored records, with unsound cards and
 //! single messages and templates in between. The same life comes from the same seed and number.
 
-use crate::both::Both;
+use crate::both::{hex, Both};
 use crate::host::{room, short_room, supply_for, Way};
+use crate::may_occur::name_of;
 use crate::records::random_record;
 use crate::requests;
 use crate::states::{sound_card, unsound_card};
 use crate::templates::walk_input;
 use crate::terminal::{messages_alone, Terminal};
+use crate::word_numbers::{random_words, wrong_words};
 use outside::model::card::Card;
 use outside::model::commands::Name;
 use outside::model::engine::*;
 use outside::model::record::record_of;
+use outside::model::status::SUCCESS;
 use outside::random::choice::{array, chance, damaged, pick, some_bytes};
 use outside::random::Random;
 
@@ -36,6 +39,7 @@ pub fn live(both: &mut Both, seed: u64, number: u64) {
             5..=7 => try_unsound(both, random, &card),
             8 | 9 => walk_some(both, random),
             10 | 11 => messages_alone(both, random),
+            12 | 13 => reverse_some(both, random),
             _ => exchange(both, random, &mut terminal, &mut card),
         }
     }
@@ -68,10 +72,39 @@ fn exchange(both: &mut Both, random: &mut Random, terminal: &mut Terminal, card:
     let supply = supply_for(random, card, &command, &terminal.init_key, way);
     let mut buffer = room(random, ANSWER_ROOM_BYTES);
     let answered = both.answer(card, &command, &supply, &mut buffer);
+    let is_phrase = name_of(&command) == Some(Name::Mnemonic) && answered.status == Some(SUCCESS);
     if answered.sealed || chance(random, 10) {
-        terminal.receive(both, random, &buffer[..answered.told.count]);
+        let opened = terminal.receive(both, random, &buffer[..answered.told.count]);
+        if let Some(words) = opened.strip_suffix(&[0x90, 0x00]).filter(|_| is_phrase) {
+            reverse(both, random, words, &supply);
+        }
     } else {
         terminal.received_plain(card);
+    }
+}
+
+/// The entropy of the word numbers that a card answered is the supply that they were made of; with damage now and then before.
+fn reverse(both: &mut Both, random: &mut Random, words: &[u8], supply: &[u8]) {
+    if chance(random, 50) {
+        let words = damaged(random, words);
+        both.entropy(&words, &mut room(random, ENTROPY_ROOM_BYTES));
+    }
+    let mut buffer = room(random, ENTROPY_ROOM_BYTES);
+    let told = both.entropy(words, &mut buffer);
+    if &buffer[..told.count] != supply {
+        println!("THE WORD NUMBERS {} in {} are not those of {}", hex(words), both.walk, hex(supply));
+        std::process::exit(1);
+    }
+}
+
+/// ENTROPY on its own: right words, wrong ones, and any bytes.
+fn reverse_some(both: &mut Both, random: &mut Random) {
+    for words in [random_words(random), wrong_words(random), some_bytes(random, 0, 60)] {
+        let mut buffer = match random.below(5) {
+            0 => short_room(random, ENTROPY_ROOM_BYTES),
+            _ => room(random, ENTROPY_ROOM_BYTES),
+        };
+        both.entropy(&words, &mut buffer);
     }
 }
 

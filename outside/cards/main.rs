@@ -1,10 +1,11 @@
 //! The proved library beside the plain model of the rules, over the C boundary: the rows to settle, sweeps, every way to keep or lose a
-//! verified PIN, every way to export a key, tap records, pairing slots, what PAIR and LOAD hash, where a template's fault lies, whole lives of
-//! cards, and the two runs of demand 3. The first difference ends the run with a status that is not 0, and so does a row of the tables that
-//! never occurred, or an answer that they do not have.
+//! verified PIN, every way to export a key, tap records, pairing slots, what PAIR and LOAD hash, where a template's fault lies, word numbers
+//! of recovery phrases and back, whole lives of cards, and the two runs of demand 3. The first difference ends the run with a status that is
+//! not 0, and so does a row of the tables that never occurred, or an answer that they do not have.
 
 mod both;
 mod directed;
+mod entropies;
 mod exports;
 mod fault_places;
 mod faults;
@@ -17,6 +18,7 @@ mod lives;
 mod may_occur;
 mod pairs;
 mod paths;
+mod phrases;
 mod records;
 mod requests;
 mod second_client;
@@ -32,6 +34,7 @@ mod tap_fields;
 mod taps;
 mod templates;
 mod terminal;
+mod word_numbers;
 
 use both::Both;
 
@@ -102,6 +105,8 @@ fn main() {
     slot_fields::run(&mut both, options.seed);
     hashing::run(&mut both, options.seed);
     fault_places::run(&mut both, options.seed);
+    phrases::run(&mut both, options.seed);
+    entropies::run(&mut both, options.seed);
     let mut lives = 0;
     while both.tally.calls() < options.calls / 100 * (100 - PAIRS_PERCENT) {
         lives::live(&mut both, options.seed, lives);

@@ -4,6 +4,7 @@
 use crate::exports::{EVERY_P1, EVERY_P2};
 use crate::paths::{place_of, Place, EVERY_PLACE};
 use crate::records::{form_of_record, SLOTS_NOW, SLOTS_THEN};
+use crate::word_numbers::EVERY_CHECKSUM_BITS;
 use outside::ciphers::plain::BLOCK_BYTES;
 use outside::model::card::{is_path_length, Card, Session, AUTHENTICATED, EXTENDED_KEY, NO, OPENED, YES};
 use outside::model::commands::*;
@@ -24,10 +25,11 @@ pub enum Operation {
     Write,
     Read,
     Tap,
+    Entropy,
 }
 
 /// The refusals that each operation can give, 0 being none.
-pub const REFUSALS: [(Operation, &[u8]); 11] = [
+pub const REFUSALS: [(Operation, &[u8]); 12] = [
     (Operation::Fresh, &[NOT_REFUSED]),
     (Operation::Sound, &[NOT_REFUSED]),
     (Operation::Reset, &[NOT_REFUSED, UNSOUND]),
@@ -39,6 +41,10 @@ pub const REFUSALS: [(Operation, &[u8]); 11] = [
     (Operation::Write, &[NOT_REFUSED, UNSOUND, SHORT_BUFFER]),
     (Operation::Read, &[NOT_REFUSED, NOT_A_RECORD]),
     (Operation::Tap, &[NOT_REFUSED, NOT_A_RECORD]),
+    (
+        Operation::Entropy,
+        &[NOT_REFUSED, SHORT_BUFFER, WRONG_COUNT, NUMBER_TOO_LARGE, WRONG_CHECKSUM],
+    ),
 ];
 
 /// A record that the tap read is lent, by what READ says of it; after INIT with the number of slots that field 24 holds.
@@ -127,12 +133,13 @@ pub fn lr_of(session: &Session, response: &[u8]) -> Lr {
 }
 
 /// The operations with a buffer, and the least room that each takes.
-pub const ROOMS: [(Operation, usize); 5] = [
+pub const ROOMS: [(Operation, usize); 6] = [
     (Operation::Ask, ASK_ROOM_BYTES),
     (Operation::Answer, ANSWER_ROOM_BYTES),
     (Operation::Seal, SEAL_ROOM_BYTES),
     (Operation::Unseal, UNSEAL_ROOM_BYTES),
     (Operation::Write, WRITE_ROOM_BYTES),
+    (Operation::Entropy, ENTROPY_ROOM_BYTES),
 ];
 
 /// A buffer beside the least room of its operation.
@@ -238,6 +245,7 @@ fn sealed_words_of(name: Name) -> &'static [u16] {
         Name::Select | Name::Init | Name::Open | Name::Pair => &[],
         Name::Mutual => &[0x6985, 0x6a86],
         Name::Status => &[0x6a86, 0x9000],
+        Name::Mnemonic => &[0x6a80, 0x6a86, 0x9000],
         Name::Verify => &[0x63c0, 0x63c1, 0x63c2, 0x6a86, 0x9000],
         Name::Unblock => &[0x63c0, 0x63c1, 0x63c2, 0x63c3, 0x63c4, 0x6985, 0x6a80, 0x6a86, 0x9000],
         Name::Unpair | Name::Remove => &[0x6985, 0x6a86, 0x9000],
@@ -369,8 +377,7 @@ pub enum Supplied {
     Long,
 }
 
-pub fn supplied(kind: u8, supply: &[u8]) -> Supplied {
-    let wanted = supply_of_kind(kind);
+pub fn supplied(wanted: &Supply, supply: &[u8]) -> Supplied {
     match supply {
         [] => Supplied::Empty,
         _ if supply.len() > wanted.bytes => Supplied::Long,
@@ -384,7 +391,7 @@ pub fn supplied(kind: u8, supply: &[u8]) -> Supplied {
 
 /// How a supply of this kind can be.
 pub fn every_supplied(kind: u8) -> Vec<Supplied> {
-    let wanted = supply_of_kind(kind);
+    let wanted = supply_of_kind(kind, EVERY_CHECKSUM_BITS[0]);
     let mut ways = vec![Supplied::Right, Supplied::Empty, Supplied::Long];
     if wanted.has_flag {
         ways.extend([Supplied::No, Supplied::BadFlag]);
@@ -398,7 +405,7 @@ pub fn every_supplied(kind: u8) -> Vec<Supplied> {
     ways
 }
 
-pub const MOST_KIND: u8 = 9;
+pub const MOST_KIND: u8 = 10;
 
 /// The kinds that ASK can tell in this situation, 0 being none.
 pub fn kinds(situation: Situation) -> &'static [u8] {
@@ -407,7 +414,7 @@ pub fn kinds(situation: Situation) -> &'static [u8] {
         Situation::Closed => &[0, 2, 4],
         Situation::Pending => &[0, 2, 4, 5],
         Situation::Opened => &[0, 2, 3, 4],
-        Situation::Authenticated => &[0, 2, 6, 7, 8, 9],
+        Situation::Authenticated => &[0, 2, 6, 7, 8, 9, 10],
     }
 }
 
@@ -422,6 +429,7 @@ pub fn reader(kind: u8) -> Name {
         FOR_DERIVE => Name::Derive,
         FOR_SIGN => Name::Sign,
         FOR_EXPORT => Name::Export,
+        FOR_MNEMONIC => Name::Mnemonic,
         _ => panic!("no rule has the kind {kind}"),
     }
 }

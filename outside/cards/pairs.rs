@@ -4,7 +4,7 @@
 use crate::both::{hex, Both};
 use crate::directed::{self, ready_card, Trial};
 use crate::exports::{self, Call};
-use crate::host::{room, short_room, supply_for, supply_of, Way};
+use crate::host::{room, short_room, supplied_as, supply_for, supply_of, Way};
 use crate::keypairs::{nested, Template, BROKEN};
 use crate::may_occur::{every_exported, every_supplied, name_of, situation_of, Operation, Situation};
 use crate::paths::path_at;
@@ -13,9 +13,10 @@ use crate::sending::sealed;
 use crate::states::sound_card;
 use crate::tally::{every_row, lacking, Row};
 use crate::terminal::Terminal;
+use crate::word_numbers::EVERY_CHECKSUM_BITS;
 use outside::ffi::treadlewisp::card_bytes;
 use outside::model::card::{Card, AUTHENTICATED, NO, PIN_BYTES, PIN_TRIES, PUK_BYTES, PUK_TRIES, YES};
-use outside::model::commands::{Comparison, Name, FOR_EXPORT};
+use outside::model::commands::{supply_of_kind, Comparison, Name, FOR_EXPORT, FOR_MNEMONIC};
 use outside::model::engine::{self, ANSWER_ROOM_BYTES, ASK_ROOM_BYTES};
 use outside::model::status::*;
 use outside::random::choice::{array, chance, digits, pick};
@@ -161,14 +162,11 @@ pub fn directed(both: &mut Both, done: &mut Done, seed: u64) {
         let Trial { card, command, supply } = directed::trial(both, random, row);
         let right = |name| row.0 == Some(name) && row.2 == SUCCESS;
         let mut two = twins(random, card, !right(Name::Verify), !right(Name::Unblock));
-        done.pairs += 1;
-        ask_both(both, random, done, &two, &command);
-        let buffer = room(random, ANSWER_ROOM_BYTES);
-        answer_both(both, done, &mut two, &command, &supply, buffer);
-        agree(both, &two);
+        call_both(both, random, done, &mut two, &command, &supply);
     }
     directed_exports(both, random, done);
     directed_faults(both, random, done);
+    directed_phrases(both, random, done);
 }
 
 /// LOAD with each P1 and a fault at each tag of a template, too deep or not, on two cards with different PIN and PUK.
@@ -185,12 +183,22 @@ fn directed_faults(both: &mut Both, random: &mut Random, done: &mut Done) {
             let card = ready_card(random, Situation::Authenticated);
             let command = sealed(&card, &Request::new(Name::Load, p1, &data));
             let mut two = twins(random, card, true, true);
-            done.pairs += 1;
-            ask_both(both, random, done, &two, &command);
             let supply = supply_for(random, &two.first, &command, &[0; 32], Way::Right);
-            let buffer = room(random, ANSWER_ROOM_BYTES);
-            answer_both(both, done, &mut two, &command, &supply, buffer);
-            agree(both, &two);
+            call_both(both, random, done, &mut two, &command, &supply);
+        }
+    }
+}
+
+/// GENERATE MNEMONIC with each P1 on two cards with different PIN and PUK, with every way of one supply for both.
+fn directed_phrases(both: &mut Both, random: &mut Random, done: &mut Done) {
+    for p1 in EVERY_CHECKSUM_BITS {
+        for way in every_supplied(FOR_MNEMONIC) {
+            let mut card = ready_card(random, Situation::Authenticated);
+            card.verified = pick(random, &[NO, YES]);
+            let command = sealed(&card, &Request::new(Name::Mnemonic, p1, &[]));
+            let mut two = twins(random, card, true, true);
+            let supply = supplied_as(random, &supply_of_kind(FOR_MNEMONIC, p1), &[0; 32], way);
+            call_both(both, random, done, &mut two, &command, &supply);
         }
     }
 }
@@ -204,14 +212,19 @@ fn directed_exports(both: &mut Both, random: &mut Random, done: &mut Done) {
             let command = call.command();
             let Call { card, .. } = call;
             let mut two = twins(random, card, true, true);
-            done.pairs += 1;
-            ask_both(both, random, done, &two, &command);
             let supply = supply_of(random, FOR_EXPORT, &[0; 32], way);
-            let buffer = room(random, ANSWER_ROOM_BYTES);
-            answer_both(both, done, &mut two, &command, &supply, buffer);
-            agree(both, &two);
+            call_both(both, random, done, &mut two, &command, &supply);
         }
     }
+}
+
+/// A directed pair: one command with one supply on both cards.
+fn call_both(both: &mut Both, random: &mut Random, done: &mut Done, two: &mut Two, command: &[u8], supply: &[u8]) {
+    done.pairs += 1;
+    ask_both(both, random, done, two, command);
+    let buffer = room(random, ANSWER_ROOM_BYTES);
+    answer_both(both, done, two, command, supply, buffer);
+    agree(both, two);
 }
 
 fn exchange(both: &mut Both, random: &mut Random, done: &mut Done, terminal: &mut Terminal, two: &mut Two) {
@@ -228,7 +241,7 @@ fn exchange(both: &mut Both, random: &mut Random, done: &mut Done, terminal: &mu
     };
     match answer_both(both, done, two, &command, &supply, buffer) {
         None => terminal.go_back(),
-        Some((true, response)) => terminal.receive(both, random, &response),
+        Some((true, response)) => drop(terminal.receive(both, random, &response)),
         Some((false, _)) => terminal.received_plain(&two.first),
     }
 }

@@ -4,6 +4,7 @@
 use crate::paths::place_of;
 use crate::states::{random_path, random_tap_data, tap_data};
 use crate::templates::{key_template, wrong_key_template};
+use crate::word_numbers::EVERY_CHECKSUM_BITS;
 use outside::ciphers::plain::{Block, Key, BLOCK_BYTES};
 use outside::model::card::*;
 use outside::model::commands::{Name, INSTRUCTIONS};
@@ -83,6 +84,7 @@ pub fn right(random: &mut Random, card: &Card, name: Name, init_key: &Key) -> Re
         Name::Remove => request(0x00, &[]),
         Name::Export => right_export(random, card),
         Name::SetNdef => request(0x00, &random_tap_data(random)),
+        Name::Mnemonic => request(pick(random, &EVERY_CHECKSUM_BITS), &[]),
     }
 }
 

@@ -12,6 +12,7 @@ use crate::requests::{is_sealed_kind, right, Request};
 use crate::standing::{standing_of, Standing};
 use crate::states::{random_session, random_tap_data};
 use crate::templates::key_template;
+use crate::word_numbers::EVERY_CHECKSUM_BITS;
 use outside::ciphers::plain::BLOCK_BYTES;
 use outside::model::card::*;
 use outside::model::commands::{Name, FOR_OPEN, INSTRUCTIONS};
@@ -215,7 +216,13 @@ fn succeeding(random: &mut Random, card: &Card) -> Vec<Request> {
         Request::new(Name::Sign, 0x00, &random.bytes(32)),
     ]);
     requests.extend(exports(random));
+    requests.extend(phrases());
     requests
+}
+
+/// GENERATE MNEMONIC with each P1, which needs the channel alone.
+fn phrases() -> [Request; 5] {
+    EVERY_CHECKSUM_BITS.map(|p1| Request::new(Name::Mnemonic, p1, &[]))
 }
 
 /// EXPORT of the current path and of a given one, public, and of one from which the private part goes out.
@@ -278,7 +285,7 @@ fn keeping_sealed(random: &mut Random) -> Vec<Trial> {
         }
         if matches!(
             request.name,
-            Name::Change | Name::Load | Name::Derive | Name::SetPinlessPath | Name::Sign | Name::Export | Name::SetNdef
+            Name::Change | Name::Load | Name::Derive | Name::SetPinlessPath | Name::Sign | Name::Export | Name::SetNdef | Name::Mnemonic
         ) {
             let wrong = Request {
                 data: vec![0x30; 3],
@@ -364,6 +371,9 @@ fn second_client(both: &mut Both, random: &mut Random, mut card: Card) {
     for request in [derive, sign] {
         answers(both, random, &card, &request, SUCCESS);
         answers(both, random, &no_path, &request, CONDITIONS_NOT_SATISFIED);
+    }
+    for request in &phrases() {
+        answers(both, random, &card, request, SUCCESS);
     }
     let exports = exports(random);
     for request in &exports {

@@ -7,6 +7,7 @@ use crate::may_occur::{Room, Situation, EVERY_ROOM, EVERY_SITUATION};
 use crate::records::{moved_fields, record_in, renewed, RecordForm, EVERY_RECORD_FORM, WRITTEN};
 use crate::states::{break_rule, random_session, tap_data, RULES};
 use crate::terminal::with_old_lr;
+use crate::word_numbers::random_words;
 use outside::ffi::treadlewisp::{card_bytes, card_of, session_bytes, CARD_BYTES};
 use outside::model::card::{Card, Path, TapRecord, KEY_UID_BYTES, NO_KEY, PATH_BYTES, TAP_BYTES, YES};
 use outside::model::engine::*;
@@ -49,6 +50,7 @@ pub fn run(both: &mut Both, seed: u64) {
         old_responses(both, random);
     }
     rooms_of_a_session(both, random);
+    rooms_of_words(both, random);
     long_inputs(both, random);
     templates(both, &mut Vec::new());
 }
@@ -127,6 +129,20 @@ fn rooms_of_a_session(both: &mut Both, random: &mut Random) {
             let response = [&seal_response(&mut session.clone(), &data)[..], &[0x90, 0x00]].concat();
             both.unseal(&mut session.clone(), &response, &mut buffer(random, room, UNSEAL_ROOM_BYTES));
             both.unseal(&mut session, &response[1..], &mut buffer(random, room, UNSEAL_ROOM_BYTES));
+        }
+    }
+}
+
+/// ENTROPY of right words and of words that are wrong in each way, a wrong checksum, a number and the count.
+fn rooms_of_words(both: &mut Both, random: &mut Random) {
+    for room in EVERY_ROOM {
+        let words = random_words(random);
+        let mut other = words.clone();
+        other[1] ^= 0x01;
+        let mut large = other.clone();
+        large[0] |= 0x08;
+        for words in [&words, &other, &large, &large[1..]] {
+            both.entropy(words, &mut buffer(random, room, ENTROPY_ROOM_BYTES));
         }
     }
 }
@@ -278,6 +294,10 @@ fn long_inputs(both: &mut Both, random: &mut Random) {
         both.unseal(&mut session, &response, &mut random.bytes(UNSEAL_ROOM_BYTES));
         both.walk(&[0x80, 0x00].repeat(more_bytes + 1));
         both.walk(&longer(&[0x80]));
+        let words = random_words(random);
+        both.entropy(&longer(&words), &mut random.bytes(ENTROPY_ROOM_BYTES));
+        both.entropy(&words, &mut random.bytes(ENTROPY_ROOM_BYTES + more_bytes));
+        both.entropy(&words, &mut random.bytes(ENTROPY_ROOM_BYTES - 1));
     }
     let megabytes = vec![0; 4 << 20];
     both.walk(&megabytes);

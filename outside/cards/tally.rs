@@ -4,8 +4,9 @@
 use crate::faults::{every_loaded, far, loaded, Far, Loaded, EVERY_FAR};
 use crate::may_occur::*;
 use crate::standing::{every_verified_row, Standing, VerifiedRow, PASSAGES};
+use crate::word_numbers::{count_of_p1, count_of_words, every_phrased, Phrased, EVERY_COUNT};
 use outside::model::card::Card;
-use outside::model::commands::{Comparison, Name};
+use outside::model::commands::{Comparison, Name, Supply};
 use outside::model::engine::{Answered, Asked, Source, Walked};
 use outside::model::status::*;
 use std::collections::BTreeMap;
@@ -50,6 +51,8 @@ pub struct Tally {
     walks: BTreeMap<(u8, Far), usize>,
     /// Supplies by the kind that was read.
     supplies: BTreeMap<(u8, Supplied), usize>,
+    /// Word numbers, by their count.
+    phrases: BTreeMap<Phrased, usize>,
 }
 
 impl Tally {
@@ -98,9 +101,21 @@ impl Tally {
         }
     }
 
-    /// A supply that was read, for a command that reads this kind.
-    pub fn supply(&mut self, kind: u8, supply: &[u8]) {
-        *self.supplies.entry((kind, supplied(kind, supply))).or_default() += 1;
+    /// A supply that was read, for a command that reads this one.
+    pub fn supply(&mut self, wanted: &Supply, supply: &[u8]) {
+        *self.supplies.entry((wanted.kind, supplied(wanted, supply))).or_default() += 1;
+    }
+
+    /// GENERATE MNEMONIC with this P1 read its supply.
+    pub fn generated(&mut self, p1: u8, refusal: u8) {
+        *self.phrases.entry((Operation::Answer, count_of_p1(p1), refusal)).or_default() += 1;
+    }
+
+    /// ENTROPY was given these word numbers, which are counted where they are so many that some entropy has.
+    pub fn reversed(&mut self, words: &[u8], refusal: u8) {
+        if let Some(count) = count_of_words(words) {
+            *self.phrases.entry((Operation::Entropy, count, refusal)).or_default() += 1;
+        }
     }
 
     /// What ANSWER gave on this card, as it was before.
@@ -176,6 +191,7 @@ impl Tally {
             ));
         }
         missing.extend(lacking("slots", &self.slots, every_slotted()));
+        missing.extend(lacking("word numbers", &self.phrases, every_phrased()));
         missing.extend(lacking("load", &self.loads, every_loaded()));
         missing.extend(lacking("fault of a walk", &self.walks, EVERY_FAR));
         missing.extend(lacking(
@@ -193,9 +209,10 @@ impl Tally {
         missing
     }
 
-    /// Answers, passages, kinds, opened responses, slots, loads and faults that the tables do not have.
+    /// Answers, passages, kinds, opened responses, slots, word numbers, loads and faults that the tables do not have.
     pub fn too_many(&self) -> Vec<String> {
         let (rows, verified, slotted, loaded) = (every_row(), every_verified_row(), every_slotted(), every_loaded());
+        let phrased = every_phrased();
         let can_pass = |(before, after): &(Standing, Standing)| PASSAGES.iter().any(|row| row.0 == *before && row.1.contains(after));
         let can_be = |(lr, refusal): &(Lr, u8)| RESPONSES.iter().any(|row| row.0 == *lr && row.1.contains(refusal));
         [
@@ -209,6 +226,7 @@ impl Tally {
             }),
             beyond("tap read", &self.taps, |(recorded, tapped)| tapped_of(*recorded) == *tapped),
             beyond("slots", &self.slots, |row| slotted.contains(row)),
+            beyond("word numbers", &self.phrases, |row| phrased.contains(row)),
             beyond("load", &self.loads, |row| loaded.contains(row)),
             beyond("fault of a walk", &self.walks, |row| EVERY_FAR.contains(row)),
         ]
@@ -266,6 +284,15 @@ impl Tally {
             print_part(&self.taps, recorded);
         }
         println!("slots: {}", listed(shown(&self.slots)));
+        println!("word numbers by their count, and of them per refusal:");
+        for (operation, count) in [Operation::Answer, Operation::Entropy]
+            .iter()
+            .flat_map(|operation| EVERY_COUNT.map(|count| (*operation, count)))
+        {
+            let of_it = self.phrases.iter().filter(|((o, c, _), _)| (*o, *c) == (operation, count));
+            let parts = listed(of_it.map(|((.., refusal), times)| format!("{refusal}: {times}")));
+            println!("  {:<8}{count:>3}   {parts}", format!("{operation:?}"));
+        }
         self.print_faults();
         println!("EXPORT past its data, by P1, P2 and the place of the path:");
         for exported in every_exported() {

@@ -88,9 +88,9 @@ impl Terminal {
         buffer
     }
 
-    /// UNSEAL of the card's response, after a try with damage or with the old Lr now and then. Where it is not genuine the terminal mostly
-    /// goes back to the session that it had before the command.
-    pub fn receive(&mut self, both: &mut Both, random: &mut Random, response: &[u8]) {
+    /// UNSEAL of the card's response, after a try with damage or with the old Lr now and then; gives what it opens to. Where it is not genuine
+    /// the terminal mostly goes back to the session that it had before the command.
+    pub fn receive(&mut self, both: &mut Both, random: &mut Random, response: &[u8]) -> Vec<u8> {
         if response.len() >= MIN_FIELD_BYTES + 2 && response.len() % BLOCK_BYTES == 2 && chance(random, 5) {
             let response = with_old_lr(&self.session, response);
             let mut buffer = room(random, UNSEAL_ROOM_BYTES);
@@ -110,6 +110,8 @@ impl Terminal {
         if told.refusal != NOT_REFUSED && chance(random, 90) {
             self.go_back();
         }
+        buffer.truncate(told.count);
+        buffer
     }
 
     /// The card answered plainly: where it opened a channel the terminal has its session too, else the one before the command.
@@ -134,7 +136,7 @@ impl Terminal {
             2 => some_bytes(random, 0, 300),
             3 => command[..random.below(command.len().min(7) + 1)].to_vec(),
             4 => with_byte(command, 0, pick(random, &[0x00, 0x81, 0x84, 0xff])),
-            5 => with_byte(command, 1, pick(random, &[0xa4, 0xf4, 0xd2, 0xd4, 0xd5, 0x00, 0x14, 0xc3])),
+            5 => with_byte(command, 1, pick(random, &[0xa4, 0xf4, 0xd4, 0xd5, 0x00, 0x14, 0xc3])),
             6 => with_byte(command, 1, pick(random, &INSTRUCTIONS).1),
             7 => with_byte(command, 2 + random.below(2), byte(random)),
             8 => with_byte(command, HEADER_BYTES, pick(random, &[0, 1, 16, 32, 255])),
@@ -177,7 +179,7 @@ fn choose_sealed(random: &mut Random, card: &Card) -> Name {
     let any = pick(random, &sealed);
     match (card.verified, card.pin_tries, card.key_kind) {
         (YES, _, EXTENDED_KEY) => pick(random, &[Name::Derive, Name::SetPinlessPath, Name::Sign, Name::Export, any, any]),
-        (YES, _, _) => pick(random, &[Name::Load, Name::SetNdef, any, any]),
+        (YES, _, _) => pick(random, &[Name::Load, Name::SetNdef, Name::Mnemonic, any, any]),
         (_, 0, _) => pick(random, &[Name::Unblock, Name::Unblock, Name::Unblock, Name::Verify, any]),
         (_, _, EXTENDED_KEY) => pick(random, &[Name::Verify, Name::Derive, Name::Sign, any]),
         _ => pick(random, &[Name::Verify, any]),

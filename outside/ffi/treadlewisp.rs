@@ -72,6 +72,7 @@ mod c {
         pub fn tw_write(card: *const u8, buf: *mut u8, buf_bytes: usize) -> Told;
         pub fn tw_read(card: *mut u8, record: *const u8, record_bytes: usize) -> u8;
         pub fn tw_tap(record: *const u8, record_bytes: usize, factory: *const u8, factory_bytes: usize) -> Tapped;
+        pub fn tw_entropy(words: *const u8, words_bytes: usize, buf: *mut u8, buf_bytes: usize) -> Told;
     }
 }
 
@@ -164,4 +165,8 @@ pub fn read(card: &mut [u8], record: &[u8]) -> u8 {
 
 pub fn tap(record: &[u8], factory: &[u8]) -> Tapped {
     unsafe { c::tw_tap(record.as_ptr(), record.len(), factory.as_ptr(), factory.len()) }
+}
+
+pub fn entropy(words: &[u8], buffer: &mut [u8]) -> Told {
+    unsafe { c::tw_entropy(words.as_ptr(), words.len(), buffer.as_mut_ptr(), buffer.len()) }
 }

@@ -5,6 +5,7 @@ use super::card::*;
 use super::cipher::{Block, Key, BLOCK_BYTES, KEY_BYTES};
 use super::message::{decrypt, unpad, HEADER_BYTES};
 use super::pairing::pair;
+use super::phrase::ENTROPY_BYTES_PER_CHECKSUM_BIT;
 use super::sealed_commands;
 use super::status::*;
 use super::template::field;
@@ -35,10 +36,11 @@ pub enum Name {
     Sign,
     Export,
     SetNdef,
+    Mnemonic,
 }
 
 /// The instruction byte of each command.
-pub const INSTRUCTIONS: [(Name, u8); 17] = [
+pub const INSTRUCTIONS: [(Name, u8); 18] = [
     (Name::Select, 0xa4),
     (Name::Init, 0xfe),
     (Name::Open, 0x10),
@@ -56,9 +58,11 @@ pub const INSTRUCTIONS: [(Name, u8); 17] = [
     (Name::Sign, 0xc0),
     (Name::Export, 0xc2),
     (Name::SetNdef, 0xf3),
+    (Name::Mnemonic, 0xd2),
 ];
 
 /// A supply: its kind, how many bytes it has, and whether the first is a flag.
+#[derive(Clone, Copy)]
 pub struct Supply {
     pub kind: u8,
     pub bytes: usize,
@@ -69,7 +73,7 @@ const fn supply(kind: u8, bytes: usize, has_flag: bool) -> Supply {
     Supply { kind, bytes, has_flag }
 }
 
-/// The table of supplies.
+/// The table of supplies, but for that of GENERATE MNEMONIC, whose length P1 tells.
 static SUPPLIES: [Supply; 9] = [
     supply(FOR_INIT, 33, true),
     supply(FOR_OPEN, 113, true),
@@ -90,10 +94,14 @@ pub const FOR_LOAD: u8 = 6;
 pub const FOR_DERIVE: u8 = 7;
 pub const FOR_SIGN: u8 = 8;
 pub const FOR_EXPORT: u8 = 9;
+pub const FOR_MNEMONIC: u8 = 10;
 
-/// The row of the table for this kind.
-pub fn supply_of_kind(kind: u8) -> &'static Supply {
-    SUPPLIES.iter().find(|supply| supply.kind == kind).expect("a kind of the table")
+/// The supply of this kind, for a command with this P1.
+pub fn supply_of_kind(kind: u8, p1: u8) -> Supply {
+    if kind == FOR_MNEMONIC {
+        return supply(kind, ENTROPY_BYTES_PER_CHECKSUM_BIT * usize::from(p1), false);
+    }
+    *SUPPLIES.iter().find(|supply| supply.kind == kind).expect("a kind of the table")
 }
 
 /// A comparison that was made, and whether it came out right.
@@ -135,11 +143,22 @@ pub enum Caller<'a> {
 }
 
 impl Caller<'_> {
-    /// The supply of this kind, for a command with this opened data.
+    /// The supply of this kind, for a command with this opened data, where P1 has nothing to do with it.
     pub fn supply(&self, kind: u8, data: &[u8]) -> Result<&[u8], End> {
-        let wanted = supply_of_kind(kind);
+        self.read(supply_of_kind(kind, 0x00), data)
+    }
+
+    /// GENERATE MNEMONIC's supply, for this P1; it has no data.
+    pub fn entropy(&self, p1: u8) -> Result<&[u8], End> {
+        self.read(supply_of_kind(FOR_MNEMONIC, p1), &[])
+    }
+
+    fn read(&self, wanted: Supply, data: &[u8]) -> Result<&[u8], End> {
         match self {
-            Caller::Ask => Err(End::Wants { kind, data: data.to_vec() }),
+            Caller::Ask => Err(End::Wants {
+                kind: wanted.kind,
+                data: data.to_vec(),
+            }),
             Caller::Answer(given) if given.len() != wanted.bytes => Err(End::WrongSupply),
             Caller::Answer(given) if wanted.has_flag && given[0] > YES => Err(End::WrongSupply),
             Caller::Answer(given) => Ok(given),

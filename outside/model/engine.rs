@@ -4,6 +4,7 @@
 use super::card::{Card, Session, POINT_BYTES, UID_BYTES};
 use super::commands::{run, Caller, Comparison, End};
 use super::message::{open_response, seal_command, seal_response, HEADER_BYTES, MAX_DATA_BYTES};
+use super::phrase::entropy_of;
 use super::record::{card_of, own_tap_record, record_of};
 use super::status::*;
 use super::template;
@@ -13,6 +14,7 @@ pub const ANSWER_ROOM_BYTES: usize = 258;
 pub const SEAL_ROOM_BYTES: usize = 261;
 pub const UNSEAL_ROOM_BYTES: usize = 223;
 pub const WRITE_ROOM_BYTES: usize = 773;
+pub const ENTROPY_ROOM_BYTES: usize = 32;
 
 /// ANSWER's number where there is no fault offset: opened data have at most 223 bytes.
 pub const NO_FAULT: usize = 255;
@@ -175,6 +177,17 @@ pub fn walk(input: &[u8]) -> Walked {
     match template::walk(input) {
         Ok(count) => walked(NOT_REFUSED, count, 0),
         Err(fault) => walked(fault.refusal, 0, fault.offset),
+    }
+}
+
+/// The reverse of GENERATE MNEMONIC, for the terminal. The room is the same for every count of words.
+pub fn entropy(words: &[u8], buffer: &mut [u8]) -> Told {
+    if buffer.len() < ENTROPY_ROOM_BYTES {
+        return refused(SHORT_BUFFER);
+    }
+    match entropy_of(words) {
+        Ok(entropy) => put(buffer, &entropy),
+        Err(refusal) => refused(refusal),
     }
 }
 

@@ -8,6 +8,7 @@ pub mod engine;
 pub mod layout;
 pub mod message;
 pub mod pairing;
+pub mod phrase;
 pub mod record;
 pub mod sealed_commands;
 pub mod status;

@@ -5,6 +5,7 @@ use super::card::*;
 use super::commands::*;
 use super::hash::sha256;
 use super::message::open_command;
+use super::phrase::{words_of, CHECKSUM_BITS};
 use super::status::*;
 use super::template::{der_integer, field, first_field, walk};
 
@@ -56,6 +57,7 @@ fn opened(card: &mut Card, name: Name, apdu: &Apdu, data: &[u8], caller: &Caller
         Name::Sign => sign(card, data, caller),
         Name::Export => export(card, apdu, data, caller),
         Name::SetNdef => set_ndef(card, data),
+        Name::Mnemonic => mnemonic(apdu.p1(), data, caller),
         Name::Select | Name::Init | Name::Open | Name::Mutual | Name::Pair => unreachable!("not of this kind"),
     }
 }
@@ -67,6 +69,7 @@ fn listed_p1(name: Name) -> &'static [u8] {
         Name::Change => &[0x00, 0x01, 0x02],
         Name::Load => &[0x01, 0x02, 0x03],
         Name::Export => &[0x00, GIVEN_PATH, GIVEN_PATH_THEN_CURRENT],
+        Name::Mnemonic => &CHECKSUM_BITS,
         _ => &[0x00],
     }
 }
@@ -297,4 +300,11 @@ fn set_ndef(card: &mut Card, data: &[u8]) -> Outcome {
     require(is_tap_record(data), WRONG_DATA)?;
     card.tap = TapRecord::of(data);
     done()
+}
+
+/// It needs the channel alone: no PIN, no key, no data. The card keeps nothing of the phrase.
+fn mnemonic(p1: u8, data: &[u8], caller: &Caller) -> Outcome {
+    require(data.is_empty(), WRONG_DATA)?;
+    let entropy = caller.entropy(p1)?;
+    Ok(Reply::success(words_of(entropy)))
 }

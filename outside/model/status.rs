@@ -23,3 +23,6 @@ pub const TOO_DEEP: u8 = 5;
 pub const LONG_DATA: u8 = 6;
 pub const NOT_GENUINE: u8 = 7;
 pub const NOT_A_RECORD: u8 = 8;
+pub const WRONG_COUNT: u8 = 9;
+pub const NUMBER_TOO_LARGE: u8 = 10;
+pub const WRONG_CHECKSUM: u8 = 11;

@@ -26,6 +26,9 @@ pub fn refusal_text(refusal: u8, least_bytes: usize) -> String {
         LONG_DATA => "the data has more than 223 bytes".to_string(),
         NOT_GENUINE => "not genuine".to_string(),
         NOT_A_RECORD => "the bytes are no stored record".to_string(),
+        WRONG_COUNT => "not 12, 15, 18, 21 or 24 numbers of 2 bytes".to_string(),
+        NUMBER_TOO_LARGE => "a number is over 2047".to_string(),
+        WRONG_CHECKSUM => "the checksum differs".to_string(),
         _ => panic!("no rule has the refusal {refusal}"),
     };
     format!("refusal {refusal}, {text}")
@@ -44,6 +47,7 @@ pub fn supply_text(kind: u8) -> &'static str {
         7 => "DERIVE: 1 byte: flag",
         8 => "SIGN: 129 bytes: public key 65, r 32, s 32",
         9 => "EXPORT: 98 bytes: flag, public key 65, private key 32",
+        10 => "MNEMONIC: 4 times P1 bytes: entropy",
         _ => panic!("no rule has the kind {kind}"),
     }
 }
@@ -102,6 +106,15 @@ pub fn fault_text(offset: usize, bytes: Option<&[u8]>) -> String {
         Some(bytes) => format!("  field at byte {offset}: {:02X}", bytes[offset]),
         None => format!("  field at byte {offset}"),
     }
+}
+
+/// Word numbers, of 2 bytes each, in decimal.
+pub fn words_text(words: &[u8]) -> String {
+    let numbers = words
+        .chunks_exact(2)
+        .map(|number| u16::from_be_bytes([number[0], number[1]]).to_string());
+    let numbers: Vec<String> = numbers.collect();
+    format!("  {} words: {}", numbers.len(), numbers.join(" "))
 }
 
 pub fn count_text(fields: usize) -> String {

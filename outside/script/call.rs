@@ -27,6 +27,8 @@ pub enum Call {
     /// Header, data and supply.
     Send([u8; HEADER_BYTES], Vec<u8>, Vec<u8>),
     Walk(Vec<u8>),
+    /// Word numbers.
+    Entropy(Vec<u8>, usize),
     Write(usize),
     Read(Vec<u8>),
     /// Stored record and factory record.
@@ -41,7 +43,7 @@ pub enum Call {
 }
 
 /// Each call and how many words it can have, its name included.
-const CALLS: [(&str, &[usize]); 16] = [
+const CALLS: [(&str, &[usize]); 17] = [
     ("help", &[1]),
     ("fresh", &[3]),
     ("reset", &[1]),
@@ -51,6 +53,7 @@ const CALLS: [(&str, &[usize]); 16] = [
     ("unseal", &[2, 4]),
     ("send", &[4]),
     ("walk", &[2]),
+    ("entropy", &[2, 4]),
     ("write", &[1, 3]),
     ("read", &[2]),
     ("tap", &[3]),
@@ -139,6 +142,7 @@ fn arguments_of(name: &str, mut arguments: Arguments) -> Result<Call, String> {
         ("unseal", _) => Call::Unseal(a.bytes("RESPONSE")?, a.room(UNSEAL_ROOM_BYTES)?),
         ("send", _) => Call::Send(a.array("HEADER")?, a.bytes("DATA")?, a.bytes("SUPPLY")?),
         ("walk", _) => Call::Walk(a.bytes("BYTES")?),
+        ("entropy", _) => Call::Entropy(a.bytes("WORDS")?, a.room(ENTROPY_ROOM_BYTES)?),
         ("write", _) => Call::Write(a.room(WRITE_ROOM_BYTES)?),
         ("read", _) => Call::Read(a.bytes("RECORD")?),
         ("tap", _) => Call::Tap(a.bytes("RECORD")?, a.bytes("FACTORY")?),

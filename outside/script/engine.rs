@@ -28,6 +28,7 @@ pub trait Engine {
     /// READ's refusal.
     fn read(&mut self, record: &[u8]) -> u8;
     fn tap(&self, record: &[u8], factory: &[u8]) -> Tapped;
+    fn entropy(&self, words: &[u8], buffer: &mut [u8]) -> Told;
 }
 
 pub struct Model {
@@ -111,6 +112,10 @@ impl Engine for Model {
 
     fn tap(&self, record: &[u8], factory: &[u8]) -> Tapped {
         engine::tap(record, factory)
+    }
+
+    fn entropy(&self, words: &[u8], buffer: &mut [u8]) -> Told {
+        engine::entropy(words, buffer)
     }
 }
 
@@ -223,5 +228,9 @@ impl Engine for Library {
             offset: tapped.offset,
             length: tapped.length,
         }
+    }
+
+    fn entropy(&self, words: &[u8], buffer: &mut [u8]) -> Told {
+        told(treadlewisp::entropy(words, buffer))
     }
 }

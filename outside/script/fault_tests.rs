@@ -7,7 +7,7 @@ const READY: &str = "set initialised 01\nset pin 31*6\nset puk 32*12\nset pin_tr
                      set enc_key 11*32\nset mac_key 22*32\nset iv 33*16\nsession card\n";
 
 /// What is written after the last of these calls, without the bytes that are sealed and without the card.
-fn said(calls: &str) -> Vec<String> {
+pub fn said(calls: &str) -> Vec<String> {
     let written = played(&format!("{READY}{calls}\n"));
     let (_, last) = written.rsplit_once("\n> ").expect("a call");
     let lines = last.lines().skip(1).filter(|line| !line.starts_with("  card: "));

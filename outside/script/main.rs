@@ -10,6 +10,8 @@ mod engine;
 mod fault_tests;
 mod fields;
 mod lines;
+#[cfg(test)]
+mod phrase_tests;
 mod play;
 #[cfg(test)]
 mod tests;

@@ -8,10 +8,12 @@ use super::lines::{lines_of, Line, MOST_LINE_BYTES};
 use outside::ffi::treadlewisp::{CARD_BYTES, SESSION_BYTES};
 use outside::model::engine::*;
 use outside::model::message::HEADER_BYTES;
-use outside::model::status::NOT_REFUSED;
+use outside::model::status::{NOT_REFUSED, SUCCESS};
 
 /// What a buffer holds before a call.
 const UNWRITTEN: u8 = 0xee;
+/// The instruction whose words `send` shows.
+const GENERATE_MNEMONIC: u8 = 0xd2;
 
 /// The script asks for help, which is the soft card's own.
 #[derive(PartialEq, Eq, Debug)]
@@ -19,7 +21,7 @@ pub struct AsksForHelp;
 
 pub struct Player<'a> {
     engine: &'a mut dyn Engine,
-    /// What the latest SEAL, ANSWER, UNSEAL or WRITE wrote.
+    /// What the latest SEAL, ANSWER, UNSEAL, WRITE or ENTROPY wrote.
     last: Vec<u8>,
     /// All that was written for the script so far.
     pub written: Vec<u8>,
@@ -83,6 +85,7 @@ impl<'a> Player<'a> {
             Call::Unseal(response, room) => drop(self.unseal(&response, room)),
             Call::Send(header, data, supply) => self.send(header, &data, &supply),
             Call::Walk(input) => self.walk(&input),
+            Call::Entropy(words, room) => self.entropy(&words, room),
             Call::Write(room) => self.write(room),
             Call::Read(record) => self.read(&record),
             Call::Tap(record, factory) => self.tap(&record, &factory),
@@ -178,7 +181,7 @@ impl<'a> Player<'a> {
         opened
     }
 
-    /// SEAL, ASK, ANSWER and UNSEAL. Where ASK or ANSWER is refused the session is again what it was.
+    /// SEAL, ASK, ANSWER and UNSEAL, and the words of a phrase. Where ASK or ANSWER is refused the session is again what it was.
     fn send(&mut self, header: [u8; HEADER_BYTES], data: &[u8], supply: &[u8]) {
         let session = self.engine.session();
         let Some(command) = self.seal(header, data, SEAL_ROOM_BYTES) else {
@@ -193,7 +196,11 @@ impl<'a> Player<'a> {
             self.say("  session: as before");
             return;
         };
-        self.unseal(&answer, UNSEAL_ROOM_BYTES);
+        let opened = self.unseal(&answer, UNSEAL_ROOM_BYTES);
+        let words = opened.as_deref().and_then(|opened| opened.strip_suffix(&SUCCESS.to_be_bytes()));
+        if let Some(words) = words.filter(|_| header[1] == GENERATE_MNEMONIC) {
+            self.say(&words_text(words));
+        }
         self.say_card();
     }
 
@@ -206,6 +213,12 @@ impl<'a> Player<'a> {
                 self.say(&fault_text(walked.fault_offset, Some(input)));
             }
         }
+    }
+
+    fn entropy(&mut self, words: &[u8], room: usize) {
+        let mut buffer = vec![UNWRITTEN; room];
+        let told = self.engine.entropy(words, &mut buffer);
+        self.told("entropy", told, buffer, ENTROPY_ROOM_BYTES);
     }
 
     fn write(&mut self, room: usize) {

@@ -151,10 +151,10 @@ fn unknown_calls() {
 #[test]
 fn wrong_numbers_of_words() {
     let names = [
-        "help", "fresh", "reset", "ask", "answer", "seal", "unseal", "send", "walk", "write", "read", "tap", "sound", "card", "set",
-        "session",
+        "help", "fresh", "reset", "ask", "answer", "seal", "unseal", "send", "walk", "entropy", "write", "read", "tap", "sound", "card",
+        "set", "session",
     ];
-    let counts: [&[usize]; 16] = [
+    let counts: [&[usize]; 17] = [
         &[1],
         &[3],
         &[1],
@@ -164,6 +164,7 @@ fn wrong_numbers_of_words() {
         &[2, 4],
         &[4],
         &[2],
+        &[2, 4],
         &[1, 3],
         &[2],
         &[3],
@@ -197,6 +198,7 @@ fn arguments_are_not_bytes() {
         ("send 00*4 zz zz", "DATA"),
         ("send 00*4 - zz", "SUPPLY"),
         ("walk zz", "BYTES"),
+        ("entropy zz", "WORDS"),
         ("read zz", "RECORD"),
         ("tap zz zz", "RECORD"),
         ("tap - zz", "FACTORY"),
@@ -244,11 +246,13 @@ fn rooms() {
     assert_eq!(call("seal 00*4 -"), Call::Seal([0; 4], vec![], 261));
     assert_eq!(call("unseal -"), Call::Unseal(vec![], 223));
     assert_eq!(call("write"), Call::Write(773));
+    assert_eq!(call("entropy -"), Call::Entropy(vec![], 32));
     assert_eq!(call("ask 01 room 0"), Call::Ask(vec![1], 0));
     assert_eq!(call("answer 01 02 room 1024"), Call::Answer(vec![1], vec![2], 1024));
     assert_eq!(call("seal 00*4 01 room 0261"), Call::Seal([0; 4], vec![1], 261));
     assert_eq!(call("unseal 01\troom\t7"), Call::Unseal(vec![1], 7));
     assert_eq!(call("write room 1"), Call::Write(1));
+    assert_eq!(call("entropy 0001 room 31"), Call::Entropy(vec![0, 1], 31));
     for words in [
         "room 1025",
         "room -1",
@@ -259,7 +263,7 @@ fn rooms() {
         "1 room",
         "room room",
     ] {
-        for start in ["ask -", "answer - -", "seal 00*4 -", "unseal -", "write"] {
+        for start in ["ask -", "answer - -", "seal 00*4 -", "unseal -", "entropy -", "write"] {
             let line = format!("{start} {words}");
             assert_eq!(reason(&line), "the room is a number of bytes, 0 to 1024", "{line}");
         }
