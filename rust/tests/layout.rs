@@ -6,6 +6,13 @@ use std::fs;
 
 use treadlewisp::*;
 
+/// The crate's constants of these names.
+macro_rules! named {
+    ($($name:ident),* $(,)?) => {
+        [$((stringify!($name), $name as usize)),*]
+    };
+}
+
 /// A file of the repository.
 fn text(path: &str) -> String {
     let file = format!("{}/../{path}", env!("CARGO_MANIFEST_DIR"));
@@ -77,6 +84,27 @@ fn the_lengths_that_the_layout_names() {
     assert!(layout.contains(&whole), "{whole}");
     let stored = format!("is {RECORD_FRESH_BYTES} to {RECORD_MAX_BYTES} bytes long");
     assert!(layout.contains(&stored), "{stored}");
+}
+
+/// The table of a recovery phrase: a name of the header, what it is, and its bytes.
+#[test]
+fn the_lengths_of_a_recovery_phrase() {
+    let layout = text("docs/LAYOUT.md");
+    let constants = named![
+        ENTROPY_BYTES_PER_CHECKSUM_BIT,
+        ENTROPY_MIN_BYTES,
+        ENTROPY_MAX_BYTES,
+        ENTROPY_ROOM_BYTES,
+        WORD_NUMBER_BYTES,
+        WORDS_MIN_BYTES,
+        WORDS_MAX_BYTES,
+    ];
+    for (name, bytes) in constants {
+        let (front, end) = (format!("| `TW_{name}` | "), format!(" | {bytes} |"));
+        let has_row = layout.lines().any(|line| line.starts_with(&front) && line.ends_with(&end));
+        assert!(has_row, "{name}: {bytes}");
+    }
+    assert!(layout.contains(&format!("at most {WORD_NUMBER_MAX} (`TW_WORD_NUMBER_MAX`)")));
 }
 
 /// The number that ANSWER tells where it has no fault offset: it is beyond all opened data.
@@ -161,13 +189,6 @@ fn rattle(name: &str) -> Written {
         Some((name.to_string(), expression.trim().to_string()))
     };
     text(&format!("crates/{name}/src/lib.rt")).split(';').filter_map(constant).collect()
-}
-
-/// The crate's constants of these names.
-macro_rules! named {
-    ($($name:ident),* $(,)?) => {
-        [$((stringify!($name), $name as usize)),*]
-    };
 }
 
 /// Each constant is written with that value.
