@@ -95,7 +95,7 @@ static void show_words(void)
 static void recovery_phrase(void)
 {
     uint8_t words[TW_WORDS_MIN_BYTES] = {0}, entropy[TW_ENTROPY_ROOM_BYTES] = {0}, hash[SHA256_BYTES] = {0};
-    answers("GENERATE MNEMONIC", sealed(TW_INS_GENERATE_MNEMONIC, TW_P1_MNEMONIC_12_WORDS, "", 0), TW_SW_SUCCESS);
+    answers("GENERATE MNEMONIC, 12 words", sealed(TW_INS_GENERATE_MNEMONIC, TW_P1_MNEMONIC_12_WORDS, "", 0), TW_SW_SUCCESS);
     check("12 numbers of 2 bytes", phone.data_bytes == sizeof words);
     show_words();
     memcpy(words, phone.data, sizeof words);
@@ -110,7 +110,7 @@ static void recovery_phrase(void)
     words[sizeof words - 1] ^= 0x01;
     answers("GENERATE MNEMONIC, 24 words", sealed(TW_INS_GENERATE_MNEMONIC, TW_P1_MNEMONIC_24_WORDS, "", 0), TW_SW_SUCCESS);
     check("they are others", phone.data_bytes == TW_WORDS_MAX_BYTES && !same_bytes(phone.data, words, sizeof words));
-    answers("GENERATE MNEMONIC, 27 words", sealed(TW_INS_GENERATE_MNEMONIC, 9, "", 0), TW_SW_WRONG_PARAMETERS);
+    answers("GENERATE MNEMONIC with P1 09", sealed(TW_INS_GENERATE_MNEMONIC, 9, "", 0), TW_SW_WRONG_PARAMETERS);
     tw_wipe(words, sizeof words);
     tw_wipe(entropy, sizeof entropy);
     tw_wipe(hash, sizeof hash);
