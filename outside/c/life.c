@@ -633,6 +633,8 @@ static void play(enum placing placing)
     open_channel();
     phrases(card, terminal);
     pin_and_puk();
+    phrases(card, terminal);
+    expect(card->verified == 1, "the PIN is verified still");
     tap_record();
     keys();
     messages();

@@ -101,8 +101,9 @@ void word_numbers(void)
     }
     for (size_t at = 0; at < words.count; at += TW_WORD_NUMBER_BYTES) {
         wrong = words;
-        wrong.bytes[at] |= (TW_WORD_NUMBER_MAX + 1) >> 8;
-        refused("10 before 11: a number of 2048 or more", wrong, TW_NUMBER_TOO_LARGE);
+        wrong.bytes[at] = (TW_WORD_NUMBER_MAX + 1) >> 8;
+        wrong.bytes[at + 1] = 0;
+        refused("10 before 11: the number 2048", wrong, TW_NUMBER_TOO_LARGE);
     }
     /* The last number of 12 ends with 4 bits of checksum. */
     for (unsigned other = 1; other < 16; other++) {
