@@ -11,7 +11,7 @@ enum {
     SHA512_BYTES = 64
 };
 
-/* SHA-256 is the terminal's: the card makes PAIR's and LOAD's hashes itself. SHA-512 and HMAC both ends need. */
+/* SHA-256 is the terminal's: the card makes the hashes of PAIR, LOAD and a recovery phrase itself. SHA-512 and HMAC both ends need. */
 int hash_sha256(const uint8_t *message, size_t message_bytes, uint8_t digest[SHA256_BYTES]);
 int hash_sha512(const uint8_t *message, size_t message_bytes, uint8_t digest[SHA512_BYTES]);
 int hash_hmac_sha512(const uint8_t *key, size_t key_bytes, const uint8_t *message, size_t message_bytes, uint8_t mac[SHA512_BYTES]);

@@ -4,7 +4,7 @@
    the card's bytes; and the engine, the library treadlewisp, which says what the card answers. Here the wire between terminal and host is
    the function transmit; in an appliance it is a reader. The engine does no curve arithmetic and makes no random numbers: it asks the host
    for their results, the supply. supplies.c makes it, over keys.c (Keycard's key derivations and BIP 32), curve.c (libsecp256k1) and hash.c
-   (libcrypto). The hashes of PAIR and LOAD the engine makes itself. store.c keeps the card on the disk.
+   (libcrypto). The hashes of PAIR, of LOAD and of a recovery phrase the engine makes itself. store.c keeps the card on the disk.
 
    Usage: host FOLDER. The folder is there and has no card yet; it has one afterwards. Exit status: 0 where every check held, 1 where one
    did not, 2 for a wrong use. PIN, PUK and seed are for trying out. Lengths are in bytes. */

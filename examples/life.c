@@ -79,6 +79,45 @@ static void first_contact(void)
     answers("OPEN and MUTUAL: the channel is there", terminal_open(&phone), TW_SW_SUCCESS);
 }
 
+/* What a screen shows: the words of the last answer, by their numbers. A real terminal has BIP 39's list and shows the words. */
+static void show_words(void)
+{
+    const size_t words = phone.data_bytes / TW_WORD_NUMBER_BYTES;
+    printf("  %zu words:", words);
+    for (size_t at = 0; at < words; at++) {
+        printf(" %u", terminal_word(&phone, at));
+    }
+    printf("\n");
+}
+
+/* A new recovery phrase: its owner copies the words from the screen, and gives them back one day. It takes the channel, and no PIN. This
+   phrase is of no wallet. */
+static void recovery_phrase(void)
+{
+    uint8_t words[TW_WORDS_MIN_BYTES] = {0}, entropy[TW_ENTROPY_ROOM_BYTES] = {0}, hash[SHA256_BYTES] = {0};
+    answers("GENERATE MNEMONIC, 12 words", sealed(TW_INS_GENERATE_MNEMONIC, TW_P1_MNEMONIC_12_WORDS, "", 0), TW_SW_SUCCESS);
+    check("12 numbers of 2 bytes", phone.data_bytes == sizeof words);
+    show_words();
+    memcpy(words, phone.data, sizeof words);
+    const tw_told told = tw_entropy(words, sizeof words, entropy, sizeof entropy);
+    check("ENTROPY of these words: 16 bytes", told.refusal == TW_DONE && told.count == TW_ENTROPY_MIN_BYTES);
+    /* BIP 39: the last 4 of the numbers' 132 bits are the first of the entropy's SHA-256. */
+    check("the checksum is that of our own hash",
+          hash_sha256(entropy, told.count, hash) && (words[sizeof words - 1] & 0x0F) == hash[0] >> 4);
+    words[sizeof words - 1] ^= 0x01;
+    check("ENTROPY finds that a word was copied wrongly",
+          tw_entropy(words, sizeof words, entropy, sizeof entropy).refusal == TW_WRONG_CHECKSUM);
+    words[sizeof words - 1] ^= 0x01;
+    answers("GENERATE MNEMONIC, 24 words", sealed(TW_INS_GENERATE_MNEMONIC, TW_P1_MNEMONIC_24_WORDS, "", 0), TW_SW_SUCCESS);
+    check("they are others", phone.data_bytes == TW_WORDS_MAX_BYTES && !same_bytes(phone.data, words, sizeof words));
+    answers("GENERATE MNEMONIC with P1 09", sealed(TW_INS_GENERATE_MNEMONIC, 9, "", 0), TW_SW_WRONG_PARAMETERS);
+    tw_wipe(words, sizeof words);
+    tw_wipe(entropy, sizeof entropy);
+    tw_wipe(hash, sizeof hash);
+    tw_wipe(phone.data, sizeof phone.data);
+    tw_wipe_stack(); /* what ENTROPY left there */
+}
+
 /* A wrong PIN loses a try, and a power cut does not bring it back. */
 static void wrong_pin(void)
 {
@@ -180,6 +219,7 @@ static void another_day(void)
 void life(void)
 {
     first_contact();
+    recovery_phrase();
     wrong_pin();
     wallet_at_fault();
     wallet();

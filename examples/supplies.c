@@ -129,6 +129,14 @@ static size_t supply_export(const struct host *host, uint8_t p1, uint8_t p2, con
     return TW_SUPPLY_EXPORT_BYTES;
 }
 
+/* Kind 10: the entropy of a recovery phrase, random as keys are, 4 times P1 bytes; that P1 is 04 to 08 the engine has seen. The card makes the
+   numbers of the words. The host keeps none of it: host_call wipes the supply. */
+static size_t supply_mnemonic(uint8_t p1, uint8_t *supply)
+{
+    const size_t entropy_bytes = (size_t)TW_ENTROPY_BYTES_PER_CHECKSUM_BIT * p1;
+    return random_bytes(supply, entropy_bytes) ? entropy_bytes : 0;
+}
+
 size_t supply_make(struct host *host, uint8_t kind, const uint8_t *command, const uint8_t *data, size_t data_bytes,
                    uint8_t supply[TW_SUPPLY_MAX_BYTES])
 {
@@ -151,6 +159,8 @@ size_t supply_make(struct host *host, uint8_t kind, const uint8_t *command, cons
         return supply_sign(host, data, supply);
     case TW_SUPPLY_EXPORT:
         return supply_export(host, command[P1_AT], command[P2_AT], data, data_bytes, supply);
+    case TW_SUPPLY_MNEMONIC:
+        return supply_mnemonic(command[P1_AT], supply);
     default:
         return 0;
     }

@@ -175,6 +175,12 @@ unsigned terminal_load(struct terminal *terminal, uint8_t p1, const extended_key
     return status;
 }
 
+unsigned terminal_word(const struct terminal *terminal, size_t at)
+{
+    const uint8_t *const number = terminal->data + at * TW_WORD_NUMBER_BYTES;
+    return (unsigned)number[0] << 8 | number[1];
+}
+
 int terminal_signature(const struct terminal *terminal, const uint8_t **public_key, const uint8_t **der, size_t *der_bytes)
 {
     /* A0 length, which is one byte, or from 128 on 81 and one byte; 80 41 and the public key; the signature to the end. */

@@ -33,6 +33,9 @@ unsigned terminal_open(struct terminal *terminal);
 /* LOAD of a plain or an extended key (P1), with its public key, or without where that is NULL. */
 unsigned terminal_load(struct terminal *terminal, uint8_t p1, const extended_key *key, const uint8_t *public_key);
 
+/* A word of GENERATE MNEMONIC's response, counted from 0: its number in BIP 39's list, 0 to 2047. */
+unsigned terminal_word(const struct terminal *terminal, size_t at);
+
 /* SIGN's response: the public key, and the signature in DER, both inside the response data. 0: it has another form. */
 int terminal_signature(const struct terminal *terminal, const uint8_t **public_key, const uint8_t **der, size_t *der_bytes);
 

@@ -1,7 +1,7 @@
 /* The engine of a wallet card, for C and C++: the functions of the library that `tools/archive treadlewisp` writes, on x86-64 Linux.
-   Every length, room and count is in bytes unless the line says fields or tries. Nothing is kept between calls, and nothing is allocated;
-   of the C library only memcpy and memset are needed. The library wipes nothing: a call leaves parts of what it was given on the stack, PIN
-   and keys too. tw_wipe_stack and tw_wipe, at the end, wipe the stack and memory; SECURITY.md says how secrets live and die.
+   Every length, room and count is in bytes unless the line says fields, tries or words. Nothing is kept between calls, and nothing is
+   allocated; of the C library only memcpy and memset are needed. The library wipes nothing: a call leaves parts of what it was given on the
+   stack, PIN and keys too. tw_wipe_stack and tw_wipe, at the end, wipe the stack and memory; SECURITY.md says how secrets live and die.
    What is proved of each function is at its name in crates/library_card, library_engine or library_terminal, src/lib.rt. It holds if the
    caller ensures, at every call:
    - each pointer is valid for the bytes named (a buffer, and a card or session that is changed: to read and write), and is not null, also
@@ -26,9 +26,9 @@ extern "C" {
 /* The version: one number for this header, the library, the Rust crate and the crates that they are proved from. CHANGELOG.md says what it
    promises about the card's layout and the stored record. */
 #define TW_VERSION_MAJOR 0
-#define TW_VERSION_MINOR 7
+#define TW_VERSION_MINOR 8
 #define TW_VERSION_PATCH 0
-#define TW_VERSION "0.7.0"
+#define TW_VERSION "0.8.0"
 
 /* Numbers that follow from others are written as their sums; docs/LAYOUT.md has them worked out, and rust/tests/layout.rs holds both against
    each other. */
@@ -58,6 +58,16 @@ enum {
     TW_TAP_BYTES = 1 + TW_TAP_MAX_BYTES,         /* a tap record, as tw_tap_record */
     TW_HEADER_BYTES = 4,                         /* CLA INS P1 P2 */
     TW_STATUS_BYTES = 2,                         /* a status word, the high byte first */
+
+    /* A recovery phrase (BIP 39): lengths of its entropy and of the numbers of its 12, 15, 18, 21 or 24 words, in bytes. Only the checksum
+       is counted in bits, 4 to 8: one for each 3 words. */
+    TW_ENTROPY_BYTES_PER_CHECKSUM_BIT = 4,
+    TW_ENTROPY_MIN_BYTES = 4 * TW_ENTROPY_BYTES_PER_CHECKSUM_BIT, /* for 12 words */
+    TW_ENTROPY_MAX_BYTES = 8 * TW_ENTROPY_BYTES_PER_CHECKSUM_BIT, /* for 24 words */
+    TW_WORD_NUMBER_BYTES = 2,                                     /* the number of one word, the high byte first */
+    TW_WORDS_MIN_BYTES = 12 * TW_WORD_NUMBER_BYTES,
+    TW_WORDS_MAX_BYTES = 24 * TW_WORD_NUMBER_BYTES,
+    TW_WORD_NUMBER_MAX = 2047, /* no length: the list has 2048 words, and their numbers begin with 0 */
 
     /* Where each field of tw_card begins, in bytes from its start: after the field before it. */
     TW_AT_INITIALISED = 0,
@@ -109,6 +119,7 @@ enum {
     TW_ANSWER_ROOM_BYTES = 258,
     TW_SEAL_ROOM_BYTES = 261,
     TW_UNSEAL_ROOM_BYTES = 223,
+    TW_ENTROPY_ROOM_BYTES = TW_ENTROPY_MAX_BYTES,
     TW_WRITE_ROOM_BYTES = TW_RECORD_MAX_BYTES,
 
     /* The most data that SEAL takes, in bytes; over it the operation is refused with TW_TOO_LONG. */
@@ -127,15 +138,18 @@ enum {
    (tw_read: the card becomes FRESH of zeros). Where several apply, the lowest is given; of 4 and 5, the one that is met first. With 4 and 5
    WALK also tells where: tw_walked. */
 enum tw_refusal {
-    TW_DONE = 0,         /* not refused */
-    TW_UNSOUND = 1,      /* RESET, ASK, ANSWER, WRITE: the card is not sound */
-    TW_ROOM = 2,         /* the buffer is smaller than the operation asks for */
-    TW_BAD_SUPPLY = 3,   /* ANSWER reads a supply, and its length or its flag byte is wrong */
-    TW_MALFORMED = 4,    /* WALK: no sequence of fields */
-    TW_TOO_DEEP = 5,     /* WALK: templates nest deeper than 4 (TW_WALK_DEPTH_MAX) */
-    TW_TOO_LONG = 6,     /* SEAL: more than 223 bytes of data */
-    TW_NOT_GENUINE = 7,  /* UNSEAL: the response does not open */
-    TW_NOT_RECORD = 8    /* READ, the tap read: the bytes are no card's record */
+    TW_DONE = 0,              /* not refused */
+    TW_UNSOUND = 1,           /* RESET, ASK, ANSWER, WRITE: the card is not sound */
+    TW_ROOM = 2,              /* the buffer is smaller than the operation asks for */
+    TW_BAD_SUPPLY = 3,        /* ANSWER reads a supply, and its length or its flag byte is wrong */
+    TW_MALFORMED = 4,         /* WALK: no sequence of fields */
+    TW_TOO_DEEP = 5,          /* WALK: templates nest deeper than 4 (TW_WALK_DEPTH_MAX) */
+    TW_TOO_LONG = 6,          /* SEAL: more than 223 bytes of data */
+    TW_NOT_GENUINE = 7,       /* UNSEAL: the response does not open */
+    TW_NOT_RECORD = 8,        /* READ, the tap read: the bytes are no card's record */
+    TW_WRONG_COUNT = 9,       /* ENTROPY: not 12, 15, 18, 21 or 24 numbers of 2 bytes */
+    TW_NUMBER_TOO_LARGE = 10, /* ENTROPY: a number is over 2047 (TW_WORD_NUMBER_MAX) */
+    TW_WRONG_CHECKSUM = 11    /* ENTROPY: the checksum is not that of the entropy */
 };
 
 /* Where the part that the tap read gives lies. */
@@ -156,10 +170,12 @@ enum tw_supply_kind {
     TW_SUPPLY_LOAD = 6,       /* 66 bytes: flag, public key 65 of the loaded key; the card works out the key UID */
     TW_SUPPLY_DERIVE = 7,     /* 1 byte: flag */
     TW_SUPPLY_SIGN = 8,       /* 129 bytes: public key 65, r 32, s 32 */
-    TW_SUPPLY_EXPORT = 9      /* 98 bytes: flag, public key 65, private key 32; the private key also where it does not go out */
+    TW_SUPPLY_EXPORT = 9,     /* 98 bytes: flag, public key 65, private key 32; the private key also where it does not go out */
+    TW_SUPPLY_MNEMONIC = 10   /* 4 times P1 bytes, 16 to 32: entropy, random; P1 is the third byte of the command */
 };
 
-/* The length of each kind of supply, in bytes. ANSWER refuses any other with TW_BAD_SUPPLY. */
+/* The length of each kind of supply, in bytes. ANSWER refuses any other with TW_BAD_SUPPLY. That of TW_SUPPLY_MNEMONIC goes by P1:
+   TW_ENTROPY_BYTES_PER_CHECKSUM_BIT times P1. */
 enum {
     TW_SUPPLY_INIT_BYTES = 33,
     TW_SUPPLY_OPEN_BYTES = 113,
@@ -213,7 +229,8 @@ enum tw_instruction {
     TW_INS_SET_PINLESS_PATH = 0xC1,
     TW_INS_SIGN = 0xC0,
     TW_INS_EXPORT = 0xC2, /* a private key goes out only for paths that begin 8000002B 8000003C 8000062D (EIP-1581) */
-    TW_INS_SET_NDEF = 0xF3 /* data: the tap record, whose first two bytes count those that follow them */
+    TW_INS_SET_NDEF = 0xF3, /* data: the tap record, whose first two bytes count those that follow them */
+    TW_INS_GENERATE_MNEMONIC = 0xD2 /* no data; the answer is 3 times P1 numbers of words, 2 bytes each: a recovery phrase (BIP 39) */
 };
 
 /* P1 where it is a choice. For other commands it is 00. */
@@ -229,9 +246,14 @@ enum {
     TW_P1_LOAD_PLAIN = 0x01,
     TW_P1_LOAD_EXTENDED = 0x02,
     TW_P1_LOAD_SEED = 0x03,
-    TW_P1_EXPORT_CURRENT = 0x00,                /* the current path; no data */
-    TW_P1_EXPORT_DERIVE = 0x01,                 /* the path in the data; the current path stays */
-    TW_P1_EXPORT_DERIVE_AND_MAKE_CURRENT = 0x02 /* the path in the data, which is the current path after 9000 */
+    TW_P1_EXPORT_CURRENT = 0x00,                 /* the current path; no data */
+    TW_P1_EXPORT_DERIVE = 0x01,                  /* the path in the data; the current path stays */
+    TW_P1_EXPORT_DERIVE_AND_MAKE_CURRENT = 0x02, /* the path in the data, which is the current path after 9000 */
+    TW_P1_MNEMONIC_12_WORDS = 0x04,              /* the size of the checksum in bits, here and below; 16 bytes of entropy */
+    TW_P1_MNEMONIC_15_WORDS = 0x05,              /* 20 bytes of entropy */
+    TW_P1_MNEMONIC_18_WORDS = 0x06,              /* 24 bytes of entropy */
+    TW_P1_MNEMONIC_21_WORDS = 0x07,              /* 28 bytes of entropy */
+    TW_P1_MNEMONIC_24_WORDS = 0x08               /* 32 bytes of entropy */
 };
 
 /* P2, a choice for EXPORT alone. For other commands it is 00. */
@@ -324,7 +346,7 @@ typedef struct tw_walked {
     size_t fault_offset; /* bytes of input before the tag of the faulty field; 0 where the call is not refused */
 } tw_walked;
 
-/* What SEAL, UNSEAL and WRITE report. */
+/* What SEAL, UNSEAL, WRITE and ENTROPY report. */
 typedef struct tw_told {
     uint8_t refusal; /* TW_DONE or the refusal's number */
     size_t count;    /* bytes written from the buffer's start */
@@ -457,6 +479,22 @@ tw_told tw_unseal(tw_session *session, const uint8_t *response, size_t response_
    - the pointer is not null, also where the length is 0, and the length is under 2^63. */
 tw_walked tw_walk(const uint8_t *input, size_t input_bytes);
 
+/* ENTROPY: from the numbers of a recovery phrase's words back to its entropy (BIP 39), for the terminal. words is what GENERATE MNEMONIC
+   answers without the status word: 12, 15, 18, 21 or 24 numbers of 2 bytes, the high byte first. The entropy is written from the buffer's
+   start, 16, 20, 24, 28 or 32 bytes; bytes past it stay. It needs no card, no session and no list of words. The two undo each other: of
+   what GENERATE MNEMONIC answers, ENTROPY gives the entropy that the host supplied; and from what ENTROPY gives, GENERATE MNEMONIC makes
+   words again.
+   Refusals, in this order: TW_ROOM (buf_bytes under 32, however few the words), TW_WRONG_COUNT (words_bytes is not 24, 30, 36, 42 or 48),
+   TW_NUMBER_TOO_LARGE (a number is over 2047), TW_WRONG_CHECKSUM (the bits after the entropy are not the first of its SHA-256: a word was
+   copied wrongly, or two have changed places).
+   Words and entropy are secrets: whoever has either of them has the wallet. Pieces of both are on the stack afterwards, and tw_wipe_stack
+   wipes it; tw_wipe is for words and buffer.
+   The caller ensures:
+   - words: words_bytes bytes, valid to read, and written by no one during the call;
+   - buf: buf_bytes bytes, valid to read and write, overlapping no other argument, and used by no other thread during the call;
+   - no pointer is null, also where a length is 0, and each length is under 2^63. */
+tw_told tw_entropy(const uint8_t *words, size_t words_bytes, uint8_t *buf, size_t buf_bytes);
+
 /* WRITE: the card's stored record from the buffer's start: TW_RECORD_FRESH_BYTES bytes before INIT, TW_RECORD_MIN_BYTES to
    TW_RECORD_MAX_BYTES after it. After INIT it has all 8 slots, and the field of the tap record, also where that is empty. The card is
    only read.
@@ -496,8 +534,8 @@ tw_tapped tw_tap(const uint8_t *record, size_t record_bytes, const uint8_t *fact
 
 /* The two functions that follow are C, not part of the library, and not proved. */
 
-/* Overwrites memory with zeros, also where nobody reads it afterwards: for a card, session, command, supply or buffer that held a secret
-   and is needed no more.
+/* Overwrites memory with zeros, also where nobody reads it afterwards: for a card, session, command, supply, recovery phrase or buffer that
+   held a secret and is needed no more.
    The caller ensures:
    - memory: that many bytes, valid to write, and used by no other thread during the call;
    - the pointer is not null, also where the length is 0. */
@@ -513,9 +551,9 @@ static inline void tw_wipe(void *memory, size_t bytes)
     }
 }
 
-/* Overwrites the stack below the caller's frame with zeros, TW_STACK_WIPE_BYTES bytes of it: what the functions above leave there, PIN, PUK
-   and keys among it. Call it after them, once after the last of several too, from the function that called them, or from one that called
-   that function, if the frame between is under 8,000 bytes.
+/* Overwrites the stack below the caller's frame with zeros, TW_STACK_WIPE_BYTES bytes of it: what the functions above leave there, PIN, PUK,
+   keys and entropy among it. Call it after them, once after the last of several too, from the function that called them, or from one that
+   called that function, if the frame between is under 8,000 bytes.
    What it does not reach: the caller's own frame and all that lies above it, registers, other memory and copies in it, and pages that
    the system has written to disk.
    The caller ensures that the thread's stack has room for TW_STACK_WIPE_BYTES bytes more. It is touched page by page downwards, so that a

@@ -1,11 +1,12 @@
-/* One card's life through include/treadlewisp.h, with all eleven operations: from FRESH over INIT, PAIR, OPEN and MUTUAL to PIN, PUK, its tap
-   record, keys, signatures and exported keys, its eight slots, its stored record, its refusals and templates, and the place of a fault in
-   LOAD's data (life_faults.h). The life is played once for each placing of memory (life_places.h), and what holds of every call is checked at
-   every call (life_calls.h). The client hashes for itself (life_hash.h). Exit status 0: every answer was the one that the rules give. Lengths
-   are in bytes. */
+/* One card's life through include/treadlewisp.h, with all twelve operations: from FRESH over INIT, PAIR, OPEN and MUTUAL to PIN, PUK, its tap
+   record, keys, signatures and exported keys, its eight slots, its stored record, its refusals and templates, the place of a fault in LOAD's
+   data (life_faults.h), and recovery phrases (life_phrases.h). The life is played once for each placing of memory (life_places.h), and what
+   holds of every call is checked at every call (life_calls.h). The client hashes for itself (life_hash.h). Exit status 0: every answer was
+   the one that the rules give. Lengths are in bytes. */
 #include "life_calls.h"
 #include "life_faults.h"
 #include "life_hash.h"
+#include "life_phrases.h"
 #include "life_places.h"
 
 #include <stdio.h>
@@ -146,6 +147,8 @@ static void fresh_card(void)
     const text head = text_of((const uint8_t[]){0x80, TW_PUBLIC_KEY_BYTES}, 2);
     plain("SELECT before INIT", select_command(), TW_SUPPLY_NONE, none(), none(), joined(joined(head, point()), status(TW_SW_SUCCESS)));
     plain_status("GET STATUS before INIT", plain_command(TW_CLASS_CARD, TW_INS_GET_STATUS, 0, none()), TW_SW_UNKNOWN_INSTRUCTION);
+    plain_status("GENERATE MNEMONIC before INIT", plain_command(TW_CLASS_CARD, TW_INS_GENERATE_MNEMONIC, TW_P1_MNEMONIC_12_WORDS, none()),
+                 TW_SW_UNKNOWN_INSTRUCTION);
     plain_status("a class that is not there", plain_command(0x90, 0x00, 0, none()), TW_SW_UNKNOWN_CLASS);
     plain_status("a command of no bytes", none(), TW_SW_WRONG_LENGTH);
     plain_status("a command of 3 bytes", filled(0x80, 3), TW_SW_WRONG_LENGTH);
@@ -230,6 +233,8 @@ static void init_card(void)
     expect(same(text_of(card->secret, TW_KEY_BYTES), key(secret_byte)), "pairing secret");
     plain_status("INIT again", init, TW_SW_UNKNOWN_INSTRUCTION);
     plain_status("GET STATUS without a channel", plain_command(TW_CLASS_CARD, TW_INS_GET_STATUS, 0, none()), TW_SW_CONDITIONS_NOT_MET);
+    plain_status("GENERATE MNEMONIC without a channel",
+                 plain_command(TW_CLASS_CARD, TW_INS_GENERATE_MNEMONIC, TW_P1_MNEMONIC_12_WORDS, none()), TW_SW_CONDITIONS_NOT_MET);
     plain_status("OPEN of a free slot", plain_command(TW_CLASS_CARD, TW_INS_OPEN, 0, point()), TW_SW_WRONG_PARAMETERS);
 }
 
@@ -626,7 +631,10 @@ static void play(enum placing placing)
     stored("the record after INIT", TW_RECORD_MIN_BYTES);
     pair();
     open_channel();
+    phrases(card, terminal);
     pin_and_puk();
+    phrases(card, terminal);
+    expect(card->verified == 1, "the PIN is verified still");
     tap_record();
     keys();
     messages();
@@ -637,6 +645,7 @@ static void play(enum placing placing)
     expect(same(text_of(card->tap.bytes, card->tap.len), text_of(TAP, sizeof TAP)), "all else kept the tap record");
     published_vector();
     published_hash();
+    word_numbers();
     templates();
     places_release(0);
 }

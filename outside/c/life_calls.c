@@ -219,6 +219,18 @@ unsigned call_walk(text input, size_t *fields, size_t *fault_offset)
     return walked.refusal;
 }
 
+unsigned call_entropy(text words, size_t room_bytes, text *wrote)
+{
+    const size_t mark = places_mark();
+    const uint8_t *bytes = placed_text(&words);
+    uint8_t *buf = place(room_bytes, FILL);
+    const tw_told told = tw_entropy(bytes, words.count, buf, room_bytes);
+    wrote_checked(buf, room_bytes, told.refusal, told.count, wrote);
+    expect(holds(bytes, &words), "ENTROPY changed the words");
+    places_release(mark);
+    return told.refusal;
+}
+
 unsigned call_write(const tw_card *card, size_t room_bytes, text *wrote)
 {
     const size_t mark = places_mark();

@@ -41,6 +41,7 @@ unsigned call_answer_placed(tw_card *card, text command, text supply, size_t roo
 unsigned call_seal(tw_session *session, unsigned ins, unsigned p1, unsigned p2, text data, size_t room_bytes, text *wrote);
 unsigned call_unseal(tw_session *session, text response, size_t room_bytes, text *wrote);
 unsigned call_walk(text input, size_t *fields, size_t *fault_offset);
+unsigned call_entropy(text words, size_t room_bytes, text *wrote);
 unsigned call_write(const tw_card *card, size_t room_bytes, text *wrote);
 unsigned call_read(tw_card *card, text record);
 /* The tap read's refusal; where its part lies, and the part itself, go to *source and *part. */

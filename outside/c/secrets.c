@@ -1,6 +1,6 @@
 /* What calls of include/treadlewisp.h leave on the stack. Each call of a card's life, with all operations and all commands, is made twice
-   from the same card and session, on a painted stack (secrets_stack.h), which is then searched for pieces of PINs, PUKs and keys. After
-   bare calls there are many, so the search does find; after tw_wipe_stack there is none, and the bytes that it overwrites are zero, down
+   from the same card and session, on a painted stack (secrets_stack.h), which is then searched for pieces of PINs, PUKs, keys and entropy.
+   After bare calls there are many, so the search does find; after tw_wipe_stack there is none, and the bytes that it overwrites are zero, down
    to the lowest that was used. Then tw_wipe. Exit status 0: so it was. With the word rows, a line for each call. Lengths are in bytes.
    It is built without sanitizers: they keep locals in memory of their own and put marks beside them, so the stack would not be that of a
    program in use. */
@@ -92,6 +92,13 @@ static void do_walk(void)
     const tw_walked walked = tw_walk(data.bytes, data.count);
     refusal = walked.refusal;
     count = 0;
+}
+
+static void do_entropy(void)
+{
+    const tw_told told = tw_entropy(data.bytes, data.count, buffer, sizeof buffer);
+    refusal = told.refusal;
+    count = told.count;
 }
 
 static void do_write(void)
@@ -349,6 +356,18 @@ static void sealed_commands(text pin, text puk)
     sealed(NAMES("SET NDEF"), TW_INS_SET_NDEF, 0, text_of((const uint8_t[]){0x00, 0x03, 0xD0, 0x00, 0x00}, 5), none());
 }
 
+/* A recovery phrase of 24 words, from its entropy to the words, and back. Both are secrets. */
+static void recovery_phrase(void)
+{
+    const text entropy = key("entropy", 11);
+    watched("entropy, in words", in_words(entropy));
+    sealed(NAMES("GENERATE MNEMONIC"), TW_INS_GENERATE_MNEMONIC, TW_P1_MNEMONIC_24_WORDS, none(), entropy);
+    expect(count == TW_WORDS_MAX_BYTES + TW_STATUS_BYTES, "24 words");
+    data = watched("word numbers", text_of(buffer, TW_WORDS_MAX_BYTES));
+    look("ENTROPY", do_entropy);
+    expect(same(text_of(buffer, count), entropy), "the entropy");
+}
+
 static void stored_record(void)
 {
     look("soundness", do_sound);
@@ -404,6 +423,7 @@ int main(int arguments, char **argument)
     const text pin = watched("PIN", words("024680")), puk = watched("PUK", words("918273645546"));
     plain_commands(pin, puk);
     sealed_commands(pin, puk);
+    recovery_phrase();
     const tw_card in_channel = card;
     stored_record();
     card = in_channel;
@@ -414,6 +434,7 @@ int main(int arguments, char **argument)
     found_bare("pairing secret");
     found_bare("encryption key");
     found_bare("MAC key");
+    found_bare("entropy");
     printf("secrets: %zu calls use at most %zu bytes of stack, %d are wiped; pieces of secrets: %zu bare, %zu wiped; %u checks, %u failed\n",
            calls, deepest_bytes, TW_STACK_WIPE_BYTES, pieces_bare, pieces_wiped, checks_made(), checks_failed());
     return checks_failed() == 0 ? 0 : 1;

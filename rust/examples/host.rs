@@ -135,6 +135,36 @@ fn load_at_fault(device: &mut Device, terminal: &mut Terminal) -> Outcome<()> {
     )
 }
 
+/// A new recovery phrase, as a screen shows it to its owner, who copies it. A real terminal shows words: it has BIP 39's list, in which each
+/// number is a word's place, from 0. It also wipes what it has shown; this phrase is of no wallet. It takes the channel, and no PIN.
+fn recovery_phrase(device: &mut Device, terminal: &mut Terminal) -> Outcome<()> {
+    let words = terminal.phrase(device, Phrase::Words12)?;
+    let numbers: Vec<String> = words.data().chunks(WORD_NUMBER_BYTES).map(shown).collect();
+    println!("PHRASE  {} words: {}", numbers.len(), numbers.join(" "));
+
+    // Back to the entropy. By BIP 39 the last 4 of the numbers' 132 bits are the first of its SHA-256, which the terminal makes itself.
+    let found = entropy(words.data())?;
+    let (last, checksum) = (words.data()[WORDS_MIN_BYTES - 1], sha256(&[found.bytes()])[0]);
+    check(
+        found.bytes().len() == ENTROPY_MIN_BYTES && last & 0x0F == checksum >> 4,
+        "the words have another checksum",
+    )?;
+    println!("ENTROPY of these words: {ENTROPY_MIN_BYTES} bytes; the checksum is right");
+    let mut copied = words.data().to_vec();
+    copied[WORDS_MIN_BYTES - 1] ^= 0x01;
+    let refused = entropy(&copied).err();
+    wipe(&mut copied);
+    check(refused == Some(Refusal::WrongChecksum), "a wrong word is taken")?;
+    println!("ENTROPY where the last word was copied wrongly: {}", Refusal::WrongChecksum);
+    let others = terminal.phrase(device, Phrase::Words24)?;
+    check(others.data()[..WORDS_MIN_BYTES] != *words.data(), "the same words twice")
+}
+
+/// The number of a word, in decimal digits.
+fn shown(number: &[u8]) -> String {
+    u16::from_be_bytes([number[0], number[1]]).to_string()
+}
+
 fn life(folder: &path::Path) -> Outcome<()> {
     println!(
         "NUMBERS {} numbers of docs/INTEGRATION.md, as they should be",
@@ -144,6 +174,7 @@ fn life(folder: &path::Path) -> Outcome<()> {
     println!("FRESH   the record on the disk has {} bytes", stored_record(folder)?.len());
     let mut terminal = Terminal::new(b"024680", b"918273645546")?;
     first_contact(&mut device, &mut terminal)?;
+    recovery_phrase(&mut device, &mut terminal)?;
 
     // A wrong PIN loses a try, on the disk too, before the terminal learns of it.
     let wrong = terminal.send(&mut device, &ChannelCommand::verify(b"024681"))?.status();

@@ -7,6 +7,7 @@ use crate::command::*;
 use crate::lengths::*;
 use crate::loaded::LoadedKey;
 use crate::parts::Path;
+use crate::phrase::Phrase;
 use crate::plain_command::PlainCommand;
 use crate::refusal::Refusal;
 use crate::secrets::wiped;
@@ -166,6 +167,18 @@ impl ChannelCommand {
     pub fn set_ndef(message: &[u8]) -> Result<ChannelCommand, Refusal> {
         let count = u16::try_from(message.len()).map_err(|_| Refusal::TooLong)?;
         ChannelCommand::joined([CLASS_CARD, SET_NDEF, 0x00, 0x00], &[&count.to_be_bytes(), message])
+    }
+
+    /// GENERATE MNEMONIC: the numbers of the words of a new recovery phrase; there are no data. [`command::GENERATE_MNEMONIC`](GENERATE_MNEMONIC)
+    /// has an example.
+    ///
+    /// ```
+    /// use treadlewisp::{ChannelCommand, Phrase};
+    /// let command = ChannelCommand::generate_mnemonic(Phrase::Words24);
+    /// assert_eq!((command.header(), command.data()), (&[0x80, 0xD2, 0x08, 0x00], &[][..]));
+    /// ```
+    pub fn generate_mnemonic(phrase: Phrase) -> ChannelCommand {
+        ChannelCommand::of(GENERATE_MNEMONIC, phrase.checksum_bits(), &[])
     }
 
     /// Any command: the header CLA INS P1 P2, and data.

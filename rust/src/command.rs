@@ -90,7 +90,7 @@ pub const SIGN: u8 = 0xC0;
 /// // The first chat key, m/43'/60'/1581'/0', both parts. The supply: flag, public key 65, private key 32.
 /// let chat = [&command::EIP1581_PATH[..], &[0x80, 0x00, 0x00, 0x00]].concat();
 /// let supply = [&[0x01], &[0x04; 65][..], &[0x77; 32]].concat();
-/// assert_eq!(supply.len(), SupplyKind::Export.bytes());
+/// assert_eq!(supply.len(), SupplyKind::Export.bytes(command::P1_EXPORT_DERIVE));
 /// let both = send(command::EXPORT, command::P1_EXPORT_DERIVE, command::P2_EXPORT_PRIVATE_AND_PUBLIC, &chat, &supply)?;
 /// assert_eq!(both, [&[0xA1, 101, 0x80, 65], &[0x04; 65][..], &[0x81, 32], &[0x77; 32], &[0x90, 0x00]].concat());
 ///
@@ -167,6 +167,70 @@ pub const EXPORT: u8 = 0xC2;
 /// # Ok::<(), Refusal>(())
 /// ```
 pub const SET_NDEF: u8 = 0xF3;
+/// GENERATE MNEMONIC, sealed: the numbers of the words of a new recovery phrase (BIP 39), made of entropy that the host supplies.
+///
+/// It needs the channel alone: no PIN and no key. P1 is the size of the phrase's checksum in bits, 04 to 08 ([`Phrase`](crate::Phrase)), P2 is
+/// 00; others are 6A86. There are no data: any are 6A80. The supply is 4 times P1 bytes of entropy, and the answer 3 times P1 numbers from 0
+/// to 2047, each in 2 bytes, the high byte first: 6 times P1 bytes. Of the card nothing changes but the channel's IV. It keeps neither entropy
+/// nor words, and has no other key afterwards.
+///
+/// The list of words is the terminal's: it shows the word of each number, works out the seed of the phrase, and brings it by [`LOAD`].
+/// [`entropy`](crate::entropy) makes the entropy of the numbers again.
+///
+/// ```
+/// use treadlewisp::*;
+///
+/// // A card without a key, taken from its stored record, whose first slot is filled.
+/// let slots = [&[0x01][..], &[0x52; 32], &[0x00; (SLOTS - 1) * SLOT_BYTES]].concat();
+/// let fields: [(u8, &[u8]); 13] = [
+///     (0x10, &[0x01]),
+///     (0x11, &[0x11; UID_BYTES]),
+///     (0x12, &[0x04; PUBLIC_KEY_BYTES]),
+///     (0x20, b"024680"),
+///     (0x21, b"918273645546"),
+///     (0x22, &[0x51; 32]),
+///     (0x23, &[PIN_TRIES, PUK_TRIES]),
+///     (0x24, &slots),
+///     (0x30, &[KeyKind::None as u8]),
+///     (0x31, &[]),
+///     (0x32, &[]),
+///     (0x33, &[]),
+///     (0x34, &[]),
+/// ];
+/// let head = |tag: u8, content: &[u8]| [tag, (content.len() >> 8) as u8, content.len() as u8];
+/// let record: Vec<u8> = fields.iter().flat_map(|&(tag, content)| [&head(tag, content), content].concat()).collect();
+/// let mut card = Card::read(&record)?;
+///
+/// // OPEN. The supply is the host's: flag, both keys, salt and IV.
+/// let mut buffer = [0; ANSWER_ROOM_BYTES];
+/// let open = [&[command::CLASS_CARD, command::OPEN, 0x00, 0x00, 65][..], &[0x04; 65]].concat();
+/// card.answer(&open, &[&[0x01], &[0x61; 32][..], &[0x62; 32], &[0x91; 32], &[0x63; 16]].concat(), &mut buffer)?;
+/// let mut terminal = Session::new(&[0x61; 32], &[0x62; 32], &[0x63; 16]);
+///
+/// // From SEAL to UNSEAL, with this supply: what the card answers inside the channel.
+/// let mut send = |command: ChannelCommand, supply: Supply| -> Result<Vec<u8>, Refusal> {
+///     let sealed = command.seal(&mut terminal)?;
+///     let asked = card.ask(sealed.bytes(), &mut [0; ASK_ROOM_BYTES])?;
+///     assert_eq!(asked.kind, supply.kind());
+///     let mut response = [0; ANSWER_ROOM_BYTES];
+///     let response_bytes = card.answer(sealed.bytes(), supply.bytes(), &mut response)?.count;
+///     let mut opened = [0; UNSEAL_ROOM_BYTES];
+///     let opened_bytes = terminal.unseal(&response[..response_bytes], &mut opened)?;
+///     Ok(opened[..opened_bytes].to_vec())
+/// };
+/// send(ChannelCommand::mutual(&[0x0E; 32]), Supply::mutual(&[0x92; 32]))?;
+///
+/// // BIP 39's first test, 12 words: a real host draws these 16 bytes at random.
+/// let words = send(ChannelCommand::generate_mnemonic(Phrase::Words12), Supply::mnemonic(&[0x00; 16])?)?;
+/// let numbers: Vec<u16> = words[..24].chunks(2).map(|number| u16::from_be_bytes([number[0], number[1]])).collect();
+/// assert_eq!(numbers, [0, 0, 0, 0, 0, 0, 0, 0, 0, 0, 0, 3]); // abandon, 11 times, and about
+/// assert_eq!(words[24..], [0x90, 0x00]);
+///
+/// // And back.
+/// assert_eq!(entropy(&words[..24])?.bytes(), [0x00; 16]);
+/// # Ok::<(), Refusal>(())
+/// ```
+pub const GENERATE_MNEMONIC: u8 = 0xD2;
 
 /// P1 of SELECT.
 pub const P1_SELECT: u8 = 0x04;
@@ -196,6 +260,16 @@ pub const P1_EXPORT_CURRENT: u8 = 0x00;
 pub const P1_EXPORT_DERIVE: u8 = 0x01;
 /// P1 of EXPORT for the path in the data, which is the current path after 9000.
 pub const P1_EXPORT_DERIVE_AND_MAKE_CURRENT: u8 = 0x02;
+/// P1 of GENERATE MNEMONIC for 12 words: a checksum of 4 bits, of 16 bytes of entropy.
+pub const P1_MNEMONIC_12_WORDS: u8 = 0x04;
+/// P1 of GENERATE MNEMONIC for 15 words: a checksum of 5 bits, of 20 bytes of entropy.
+pub const P1_MNEMONIC_15_WORDS: u8 = 0x05;
+/// P1 of GENERATE MNEMONIC for 18 words: a checksum of 6 bits, of 24 bytes of entropy.
+pub const P1_MNEMONIC_18_WORDS: u8 = 0x06;
+/// P1 of GENERATE MNEMONIC for 21 words: a checksum of 7 bits, of 28 bytes of entropy.
+pub const P1_MNEMONIC_21_WORDS: u8 = 0x07;
+/// P1 of GENERATE MNEMONIC for 24 words: a checksum of 8 bits, of 32 bytes of entropy.
+pub const P1_MNEMONIC_24_WORDS: u8 = 0x08;
 
 /// P2 of EXPORT for both keys.
 pub const P2_EXPORT_PRIVATE_AND_PUBLIC: u8 = 0x00;

@@ -117,6 +117,7 @@ impl Session {
 /// #   fn derive(&mut self, _: &Card, _: &Path) -> Result<Supply, Self::Error> { Err("none") }
 /// #   fn sign(&mut self, _: &Card, _: &[u8; 32]) -> Result<Supply, Self::Error> { Err("none") }
 /// #   fn export(&mut self, _: &Card, _: &Path, _: ExportedKeys) -> Result<Supply, Self::Error> { Err("none") }
+/// #   fn mnemonic(&mut self, _: &Card, _: Phrase) -> Result<Supply, Self::Error> { Err("none") }
 ///     fn store(&mut self, _: &Card, record: &[u8]) -> Result<(), Self::Error> {
 ///         Ok(self.0 = record.to_vec())
 ///     }

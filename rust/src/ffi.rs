@@ -92,6 +92,7 @@ extern "C" {
     fn tw_seal(session: *mut Session, header: *const u8, data: *const u8, data_bytes: usize, buf: *mut u8, buf_bytes: usize) -> Report;
     fn tw_unseal(session: *mut Session, response: *const u8, response_bytes: usize, buf: *mut u8, buf_bytes: usize) -> Report;
     fn tw_walk(input: *const u8, input_bytes: usize) -> ReportWalked;
+    fn tw_entropy(words: *const u8, words_bytes: usize, buf: *mut u8, buf_bytes: usize) -> Report;
     fn tw_write(card: *const Card, buf: *mut u8, buf_bytes: usize) -> Report;
     fn tw_read(card: *mut Card, record: *const u8, record_bytes: usize) -> u8;
     fn tw_tap(record: *const u8, record_bytes: usize, factory: *const u8, factory_bytes: usize) -> ReportTapped;
@@ -102,7 +103,7 @@ extern "C" {
     fn tw_sha256(message: *const u8, message_bytes: usize, digest: *mut u8, digest_bytes: usize) -> u8;
 }
 
-/// What a refusal's number says. The library is proved to give 0 to 8 alone; any other number would come from another library, and stops
+/// What a refusal's number says. The library is proved to give 0 to 11 alone; any other number would come from another library, and stops
 /// the caller as a card that is not sound does.
 fn done(refusal: u8) -> Result<(), Refusal> {
     match refusal {
@@ -194,6 +195,12 @@ pub(crate) fn walk(input: &[u8]) -> Result<usize, WalkFault> {
         offset: report.fault_offset,
     };
     done(report.refusal).map(|()| report.count).map_err(fault)
+}
+
+pub(crate) fn entropy(words: &[u8], buffer: &mut [u8]) -> Result<usize, Refusal> {
+    // SAFETY: words and buffer are given with their lengths, the words to read; the buffer is borrowed alone.
+    let report = unsafe { tw_entropy(words.as_ptr(), words.len(), buffer.as_mut_ptr(), buffer.len()) };
+    report.count()
 }
 
 pub(crate) fn write(card: &Card, buffer: &mut [u8]) -> Result<usize, Refusal> {

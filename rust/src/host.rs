@@ -10,6 +10,7 @@ use crate::command::{P1_EXPORT_CURRENT, P2_EXPORT_PRIVATE_AND_PUBLIC};
 use crate::lengths::*;
 use crate::loaded::LoadedKey;
 use crate::parts::Path;
+use crate::phrase::Phrase;
 use crate::refusal::Refusal;
 use crate::reply::Answer;
 use crate::secrets::wiped;
@@ -65,6 +66,10 @@ use crate::supply::SupplyKind;
 ///     }
 ///     fn export(&mut self, _: &Card, _path: &Path, _keys: ExportedKeys) -> Result<Supply, Self::Error> {
 ///         Ok(Supply::no_export())
+///     }
+///     fn mnemonic(&mut self, _: &Card, phrase: Phrase) -> Result<Supply, Self::Error> {
+///         let entropy = [0x95; ENTROPY_MAX_BYTES]; // a real host draws them at random, and wipes them
+///         Ok(Supply::mnemonic(&entropy[..phrase.entropy_bytes()]).expect("its length is right"))
 ///     }
 ///     fn store(&mut self, _: &Card, record: &[u8]) -> Result<(), Self::Error> {
 ///         Ok(self.stored.push(record.to_vec())) // a real host writes, syncs, renames
@@ -167,6 +172,17 @@ pub trait Host {
     /// As for [`init`](Host::init).
     fn export(&mut self, card: &Card, path: &Path, keys: ExportedKeys) -> Result<Supply, Self::Error>;
 
+    /// GENERATE MNEMONIC: the entropy of a new recovery phrase, [`phrase.entropy_bytes()`](Phrase::entropy_bytes) random bytes;
+    /// [`Supply::mnemonic`]. The card makes the numbers of the words of it, and keeps neither.
+    ///
+    /// Whoever can guess these bytes has the wallet. They come from the system's source of random numbers for keys and are new each time; the
+    /// host keeps no copy and wipes its own. The supply is wiped when it is dropped.
+    ///
+    /// # Errors
+    ///
+    /// As for [`init`](Host::init).
+    fn mnemonic(&mut self, card: &Card, phrase: Phrase) -> Result<Supply, Self::Error>;
+
     /// Stores the record of the card durably: when this comes back, the bytes outlast a power cut. It is called once for each answer, also where
     /// the record has not changed, and before the answer is given out. The record holds PIN, PUK and keys in the clear, and is wiped afterwards.
     ///
@@ -184,8 +200,8 @@ pub trait Host {
 #[derive(Clone, Copy, PartialEq, Eq, Debug)]
 #[non_exhaustive]
 pub enum ServeError<E> {
-    /// A call was refused: the card is not sound ([`Refusal::Unsound`]), or the host's supply is of another kind ([`Refusal::BadSupply`]). The
-    /// card is as it was.
+    /// A call was refused: the card is not sound ([`Refusal::Unsound`]), or the host's supply is of another kind, or has not as much entropy as
+    /// the phrase takes ([`Refusal::BadSupply`]). The card is as it was.
     Refused(Refusal),
     /// The host could not make the supply. The card is as it was.
     NotSupplied(E),
@@ -269,8 +285,8 @@ fn supply<H: Host + ?Sized>(card: &Card, host: &mut H, command: &[u8]) -> Result
     }
 }
 
-/// The supply that the host makes from the opened data. None where they have not the length of their kind: the library is proved to hand out
-/// no others, so they would come from another library.
+/// The supply that the host makes from the opened data. None where they have not the length of their kind, or P1 is not one of its command: the
+/// library is proved to hand out no others, so they would come from another library.
 fn made<H: Host + ?Sized>(card: &Card, host: &mut H, kind: SupplyKind, command: &[u8], data: &[u8]) -> Option<Result<Supply, H::Error>> {
     let &[_, _, p1, p2] = command.first_chunk::<HEADER_BYTES>()?;
     Some(match kind {
@@ -293,5 +309,6 @@ fn made<H: Host + ?Sized>(card: &Card, host: &mut H, kind: SupplyKind, command: 
                 _ => host.export(card, &Path::from_bytes(data)?, keys),
             }
         }
+        SupplyKind::Mnemonic => host.mnemonic(card, Phrase::from_checksum_bits(p1)?),
     })
 }

@@ -32,6 +32,18 @@ pub const TAP_COUNT_BYTES: usize = 2;
 pub const TAP_MAX_BYTES: usize = 223;
 /// Length of a tap record as [`TapRecord`](crate::TapRecord) has it, in bytes: how many are in use, and the room.
 pub const TAP_BYTES: usize = 1 + TAP_MAX_BYTES;
+/// Length of the entropy of a recovery phrase for each bit of its checksum, in bytes.
+pub const ENTROPY_BYTES_PER_CHECKSUM_BIT: usize = 4;
+/// The shortest entropy of a recovery phrase, in bytes: that of 12 words, whose checksum has 4 bits.
+pub const ENTROPY_MIN_BYTES: usize = 4 * ENTROPY_BYTES_PER_CHECKSUM_BIT;
+/// The longest entropy of a recovery phrase, in bytes: that of 24 words, whose checksum has 8 bits.
+pub const ENTROPY_MAX_BYTES: usize = 8 * ENTROPY_BYTES_PER_CHECKSUM_BIT;
+/// Length of the number of one word, in bytes; the high byte is first.
+pub const WORD_NUMBER_BYTES: usize = 2;
+/// Length of the numbers of 12 words, in bytes: the shortest recovery phrase.
+pub const WORDS_MIN_BYTES: usize = 12 * WORD_NUMBER_BYTES;
+/// Length of the numbers of 24 words, in bytes: the longest recovery phrase.
+pub const WORDS_MAX_BYTES: usize = 24 * WORD_NUMBER_BYTES;
 /// Length of a session, in bytes.
 pub const SESSION_BYTES: usize = KEY_BYTES + KEY_BYTES + IV_BYTES;
 /// Length of a card's record as [`Card`](crate::Card) has it, in bytes: the sum of its fields. The stored record of WRITE is another one.
@@ -51,6 +63,8 @@ pub const ANSWER_ROOM_BYTES: usize = 258;
 pub const SEAL_ROOM_BYTES: usize = 261;
 /// The least buffer that UNSEAL takes, in bytes.
 pub const UNSEAL_ROOM_BYTES: usize = 223;
+/// The least buffer that ENTROPY takes, in bytes.
+pub const ENTROPY_ROOM_BYTES: usize = ENTROPY_MAX_BYTES;
 /// The least buffer that WRITE takes, in bytes.
 pub const WRITE_ROOM_BYTES: usize = RECORD_MAX_BYTES;
 
@@ -98,5 +112,7 @@ pub const HARDENED: u32 = 0x8000_0000;
 pub const PIN_TRIES: u8 = 3;
 /// How many tries a PUK starts with.
 pub const PUK_TRIES: u8 = 5;
+/// The greatest number of a word: the list has 2048 words, and their numbers begin with 0. This is no length.
+pub const WORD_NUMBER_MAX: u16 = 2047;
 /// How deep templates may nest for WALK; a top one is at depth 1.
 pub const WALK_DEPTH_MAX: usize = 4;

@@ -3,7 +3,7 @@
 //! A [`Card`] is a card's whole state. It takes a command and gives a response and the next state; a [`Session`] is the terminal's end of
 //! the encrypted channel. The engine does no curve arithmetic and makes no random numbers: [`Card::ask`] says which results a command needs
 //! (its *supply*, see [`SupplyKind`]), the host works them out, and [`Card::answer`] takes them. SHA-256 it does itself: PAIR's cryptograms and
-//! pairing key and LOAD's key UID are in no supply.
+//! pairing key, LOAD's key UID and the checksum of a recovery phrase are in no supply.
 //!
 //! | Operation | Here | What it does |
 //! |---|---|---|
@@ -15,6 +15,7 @@
 //! | SEAL | [`Session::seal`] | a sealed command |
 //! | UNSEAL | [`Session::unseal`] | what a sealed response holds |
 //! | WALK | [`walk`] | how many fields templates hold, or where the first fault is |
+//! | ENTROPY | [`entropy`], [`entropy_into`] | from the numbers of a recovery phrase's words back to its entropy |
 //! | WRITE | [`Card::write`] | the card's stored record |
 //! | READ | [`Card::read`] | the card of a stored record |
 //! | tap read | [`tap`] | what a phone is to read of a stored card: its own tap record, or the factory's |
@@ -27,12 +28,13 @@
 //! | a command as it is sent; SELECT, INIT, PAIR and OPEN by name | [`PlainCommand`] |
 //! | a command over the channel, each by name | [`ChannelCommand`] |
 //! | an answer: data and status word, and the fault offset | [`Answer`] |
+//! | how many words a recovery phrase has | [`Phrase`] |
 //! | what a host does: supplies, and storing the record | [`Host`] |
 //! | the host's end: ASK, supply, ANSWER, store, and only then the answer | [`Card::serve`] |
 //! | the terminal's end: SEAL, there and back, UNSEAL | [`Session::exchange`] |
 //! | both ends in one program | [`exchange`] |
 //!
-//! Every length, room, count and offset is in bytes; [`walk`] alone counts fields. Buffers are the caller's. An operation that cannot be done
+//! Every length, room, count and offset is in bytes; [`walk`] alone counts fields, and a [`Phrase`] words and the bits of a checksum. Buffers are the caller's. An operation that cannot be done
 //! gives a [`Refusal`], WALK with its place ([`WalkFault`]), and leaves card, session and buffer as they were. No operation panics or allocates,
 //! and nothing is kept between calls.
 //!
@@ -69,7 +71,8 @@
 //!
 //! # Secrets
 //!
-//! A [`Card`] holds PIN, PUK and keys, a [`Session`] keys, a [`Slot`] a key; a [`Supply`], a [`ChannelCommand`] and an [`Answer`] may hold some.
+//! A [`Card`] holds PIN, PUK and keys, a [`Session`] keys, a [`Slot`] a key, an [`Entropy`] a wallet; a [`Supply`], a [`ChannelCommand`] and
+//! an [`Answer`] may hold some.
 //!
 //! - When one is dropped, each byte of it is overwritten with zero.
 //! - Each call wipes the stack that it used before it gives its result ([`wipe_stack`], [`STACK_WIPE_BYTES`] bytes), and so do `clone`,
@@ -77,7 +80,8 @@
 //! - `==` looks at all bytes, wherever the first difference is. Nothing is claimed about the time that it or any call takes.
 //! - `Debug` shows no PIN, PUK, secret or key.
 //! - Commands, supplies and buffers that the caller makes as bytes are the caller's: [`wipe`] is for them. The data that [`Session::seal`] takes may be a PIN; the buffer of
-//!   [`Card::ask`] has the key that LOAD brings, that of [`Session::unseal`] the key that EXPORT gives, and that of [`Card::write`] the stored record.
+//!   [`Card::ask`] has the key that LOAD brings, that of [`Session::unseal`] the key that EXPORT gives or the words of a recovery phrase, that of
+//!   [`entropy_into`] the entropy, and that of [`Card::write`] the stored record.
 //! - A move copies a value's bytes, and what it leaves at the old place is not wiped. `?` on [`Card::read`] and `Box::new(card)` are moves
 //!   too. To leave no copy, keep the `Result` and borrow from it (`as_mut`), or make the card in a function of its own that gives it back in
 //!   a `Box`, and call [`wipe_stack`] after that function.
@@ -97,7 +101,7 @@
 //!
 //! # SHA-256
 //!
-//! The engine has SHA-256 (FIPS 180-4) inside, for PAIR and LOAD; a host needs none for them. A terminal does: the client's cryptogram is
+//! The engine has SHA-256 (FIPS 180-4) inside, for PAIR, LOAD and recovery phrases; a host needs none for them. A terminal does: the client's cryptogram is
 //! SHA-256 of pairing secret and card challenge, the pairing key that of pairing secret and salt. For it there is
 //! `sha256(message: &[u8]) -> [u8; 32]`, proved too, in a library of its own, `sha_c`. The feature `sha256` has it; it is off by default, as a
 //! host needs no second library. OPEN's keys are made with SHA-512, which is the host's and the terminal's own.
@@ -129,6 +133,7 @@ mod host;
 mod lengths;
 mod loaded;
 mod parts;
+mod phrase;
 mod plain_command;
 mod refusal;
 mod reply;
@@ -149,6 +154,7 @@ pub use host::{Host, ServeError};
 pub use lengths::*;
 pub use loaded::LoadedKey;
 pub use parts::{KeyKind, Path, Slot, Stage, TapRecord};
+pub use phrase::{entropy, entropy_into, Entropy, Phrase};
 pub use plain_command::{InitParts, PlainCommand};
 pub use refusal::Refusal;
 pub use reply::Answer;

@@ -24,11 +24,17 @@ pub enum Refusal {
     NotGenuine = 7,
     /// READ, the tap read: the bytes are no card's record.
     NotRecord = 8,
+    /// ENTROPY: they are not 12, 15, 18, 21 or 24 numbers of 2 bytes.
+    WrongCount = 9,
+    /// ENTROPY: a number is over 2047.
+    NumberTooLarge = 10,
+    /// ENTROPY: the checksum is not that of the entropy.
+    WrongChecksum = 11,
 }
 
 impl Refusal {
     /// All refusals, in the order of their numbers.
-    pub const ALL: [Refusal; 8] = [
+    pub const ALL: [Refusal; 11] = [
         Refusal::Unsound,
         Refusal::Room,
         Refusal::BadSupply,
@@ -37,15 +43,18 @@ impl Refusal {
         Refusal::TooLong,
         Refusal::NotGenuine,
         Refusal::NotRecord,
+        Refusal::WrongCount,
+        Refusal::NumberTooLarge,
+        Refusal::WrongChecksum,
     ];
 
-    /// The refusal's number, 1 to 8.
+    /// The refusal's number, 1 to 11.
     #[must_use]
     pub const fn number(self) -> u8 {
         self as u8
     }
 
-    /// The refusal with this number, if it is 1 to 8.
+    /// The refusal with this number, if it is 1 to 11.
     #[must_use]
     pub const fn from_number(number: u8) -> Option<Refusal> {
         match number {
@@ -57,6 +66,9 @@ impl Refusal {
             6 => Some(Refusal::TooLong),
             7 => Some(Refusal::NotGenuine),
             8 => Some(Refusal::NotRecord),
+            9 => Some(Refusal::WrongCount),
+            10 => Some(Refusal::NumberTooLarge),
+            11 => Some(Refusal::WrongChecksum),
             _ => None,
         }
     }
@@ -72,6 +84,9 @@ impl Refusal {
             Refusal::TooLong => "more than 223 bytes of data",
             Refusal::NotGenuine => "the response is not genuine",
             Refusal::NotRecord => "the bytes are no card's record",
+            Refusal::WrongCount => "not 12, 15, 18, 21 or 24 numbers of 2 bytes",
+            Refusal::NumberTooLarge => "a number is over 2047",
+            Refusal::WrongChecksum => "the checksum differs",
         }
     }
 }

@@ -10,7 +10,8 @@ use crate::status::StatusWord;
 /// An answer: response data and a status word. It is what a card sends, or what UNSEAL has opened of it; [`Card::serve`](crate::Card::serve)
 /// gives the first, [`Session::exchange`](crate::Session::exchange) the second.
 ///
-/// The data may be a key that EXPORT gives: the answer is overwritten with zeros when it is dropped, and `Debug` shows the status word alone.
+/// The data may be a key that EXPORT gives, or the words of a recovery phrase: the answer is overwritten with zeros when it is dropped, and
+/// `Debug` shows the status word alone.
 ///
 /// ```
 /// use treadlewisp::{Answer, StatusWord};

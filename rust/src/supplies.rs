@@ -4,6 +4,7 @@ use core::fmt;
 
 use crate::buffer::Buffer;
 use crate::lengths::{IV_BYTES, KEY_BYTES, PUBLIC_KEY_BYTES, SUPPLY_MAX_BYTES};
+use crate::phrase::Phrase;
 use crate::refusal::Refusal;
 use crate::secrets::wiped;
 use crate::supply::SupplyKind;
@@ -15,21 +16,21 @@ const YES: [u8; FLAG_BYTES] = [0x01];
 const FLAG_BYTES: usize = 1;
 
 // What each constructor joins has the length of its kind.
-const _: () = assert!(SupplyKind::Init.bytes() == FLAG_BYTES + KEY_BYTES);
-const _: () = assert!(SupplyKind::Open.bytes() == FLAG_BYTES + 3 * KEY_BYTES + IV_BYTES);
-const _: () = assert!(SupplyKind::Mutual.bytes() == KEY_BYTES);
-const _: () = assert!(SupplyKind::PairFirst.bytes() == KEY_BYTES);
-const _: () = assert!(SupplyKind::PairFinal.bytes() == KEY_BYTES);
-const _: () = assert!(SupplyKind::Load.bytes() == FLAG_BYTES + PUBLIC_KEY_BYTES);
-const _: () = assert!(SupplyKind::Derive.bytes() == FLAG_BYTES);
-const _: () = assert!(SupplyKind::Sign.bytes() == PUBLIC_KEY_BYTES + 2 * KEY_BYTES);
-const _: () = assert!(SupplyKind::Export.bytes() == FLAG_BYTES + PUBLIC_KEY_BYTES + KEY_BYTES);
+const _: () = assert!(SupplyKind::Init.bytes(0x00) == FLAG_BYTES + KEY_BYTES);
+const _: () = assert!(SupplyKind::Open.bytes(0x00) == FLAG_BYTES + 3 * KEY_BYTES + IV_BYTES);
+const _: () = assert!(SupplyKind::Mutual.bytes(0x00) == KEY_BYTES);
+const _: () = assert!(SupplyKind::PairFirst.bytes(0x00) == KEY_BYTES);
+const _: () = assert!(SupplyKind::PairFinal.bytes(0x00) == KEY_BYTES);
+const _: () = assert!(SupplyKind::Load.bytes(0x00) == FLAG_BYTES + PUBLIC_KEY_BYTES);
+const _: () = assert!(SupplyKind::Derive.bytes(0x00) == FLAG_BYTES);
+const _: () = assert!(SupplyKind::Sign.bytes(0x00) == PUBLIC_KEY_BYTES + 2 * KEY_BYTES);
+const _: () = assert!(SupplyKind::Export.bytes(0x00) == FLAG_BYTES + PUBLIC_KEY_BYTES + KEY_BYTES);
 
 /// A supply: what ANSWER reads from the host, and of which kind it is. Its length is that of its kind, and its flag, if it has one, 00 or 01.
 ///
 /// Kinds with a flag have two constructors: the one with parts is flag 01, and that with `no_` flag 00 and zeros. How each part is worked
-/// out is in `docs/INTEGRATION.md` of the repository, section 5.1. Supplies hold keys: they are overwritten with zeros when they are dropped,
-/// and `Debug` shows the kind alone.
+/// out is in `docs/INTEGRATION.md` of the repository, section 5.1. Supplies hold keys and entropy: they are overwritten with zeros when they
+/// are dropped, and `Debug` shows the kind alone.
 ///
 /// ```
 /// use treadlewisp::{OpenParts, Supply, SupplyKind};
@@ -203,11 +204,35 @@ impl Supply {
         Supply::no(SupplyKind::Export)
     }
 
+    /// GENERATE MNEMONIC, 16, 20, 24, 28 or 32 bytes: the entropy, random, of which the card makes the numbers of the words. How many bytes
+    /// it has to have for the command, [`Phrase::entropy_bytes`] says.
+    ///
+    /// Whoever can guess the entropy has the wallet: it comes from the system's source of random numbers for keys, and is new each time. The
+    /// supply is wiped when it is dropped; the bytes that are lent are the caller's to [`wipe`](crate::wipe).
+    ///
+    /// # Errors
+    ///
+    /// [`Refusal::BadSupply`] where there are not 16, 20, 24, 28 or 32 bytes. ANSWER refuses in the same way a supply whose length is that of
+    /// another P1.
+    ///
+    /// ```
+    /// use treadlewisp::{Phrase, Refusal, Supply};
+    /// let random = [0x9E; 32];
+    /// let supply = Supply::mnemonic(&random[..Phrase::Words12.entropy_bytes()])?;
+    /// assert_eq!(supply.bytes(), [0x9E; 16]);
+    /// assert_eq!(Supply::mnemonic(&random[..17]).err(), Some(Refusal::BadSupply));
+    /// # Ok::<(), Refusal>(())
+    /// ```
+    pub fn mnemonic(entropy: &[u8]) -> Result<Supply, Refusal> {
+        Supply::from_bytes(SupplyKind::Mnemonic, entropy)
+    }
+
     /// A supply of this kind that was put together elsewhere, such as in a module that keeps the keys.
     ///
     /// # Errors
     ///
-    /// [`Refusal::BadSupply`] where it has not [`kind.bytes()`](SupplyKind::bytes) bytes, or its flag is neither 00 nor 01: as ANSWER refuses it.
+    /// [`Refusal::BadSupply`] where it has not [`kind.bytes(p1)`](SupplyKind::bytes) bytes, for GENERATE MNEMONIC with any P1 that it takes, or
+    /// its flag is neither 00 nor 01: as ANSWER refuses it.
     ///
     /// ```
     /// use treadlewisp::{Refusal, Supply, SupplyKind};
@@ -219,7 +244,7 @@ impl Supply {
     /// ```
     pub fn from_bytes(kind: SupplyKind, bytes: &[u8]) -> Result<Supply, Refusal> {
         let flag_is_right = !kind.has_flag() || bytes.starts_with(&NO) || bytes.starts_with(&YES);
-        if bytes.len() == kind.bytes() && flag_is_right {
+        if has_length(kind, bytes.len()) && flag_is_right {
             Ok(Supply::of(kind, &[bytes]))
         } else {
             Err(Refusal::BadSupply)
@@ -242,8 +267,16 @@ impl Supply {
     /// Flag 00, and zeros up to the kind's length.
     fn no(kind: SupplyKind) -> Supply {
         let zeros = [0; SUPPLY_MAX_BYTES];
-        let rest = zeros.get(FLAG_BYTES..kind.bytes()).unwrap_or(&[]);
+        let rest = zeros.get(FLAG_BYTES..kind.bytes(0x00)).unwrap_or(&[]);
         Supply::of(kind, &[&NO, rest])
+    }
+}
+
+/// Whether a supply of this kind may have so many bytes. But for GENERATE MNEMONIC, P1 makes no difference.
+fn has_length(kind: SupplyKind, bytes: usize) -> bool {
+    match kind {
+        SupplyKind::Mnemonic => Phrase::ALL.iter().any(|phrase| phrase.entropy_bytes() == bytes),
+        _ => kind.bytes(0x00) == bytes,
     }
 }
 

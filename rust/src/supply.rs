@@ -2,6 +2,9 @@
 
 use core::fmt;
 
+use crate::lengths::ENTROPY_BYTES_PER_CHECKSUM_BIT;
+use crate::phrase::Phrase;
+
 /// A kind of supply, as ASK reports it. A flag is one byte, 00 (no) or 01 (yes); after 00 the rest is there but not read. [`Supply`](crate::Supply)
 /// has a constructor for each kind. A later version may have more kinds.
 #[derive(Clone, Copy, PartialEq, Eq, PartialOrd, Ord, Hash, Debug)]
@@ -29,11 +32,13 @@ pub enum SupplyKind {
     /// EXPORT: flag, public key 65, private key 32; 98 bytes, also where the public key goes out alone: the last 32 are then not read. With
     /// P1 00 ASK hands out no data; the path is the card's current one.
     Export = 9,
+    /// GENERATE MNEMONIC: entropy, random, 4 times P1 bytes: 16, 20, 24, 28 or 32. ASK hands out no data; P1 is the third byte of the command.
+    Mnemonic = 10,
 }
 
 impl SupplyKind {
     /// All kinds, in the order of their numbers.
-    pub const ALL: [SupplyKind; 10] = [
+    pub const ALL: [SupplyKind; 11] = [
         SupplyKind::None,
         SupplyKind::Init,
         SupplyKind::Open,
@@ -44,15 +49,16 @@ impl SupplyKind {
         SupplyKind::Derive,
         SupplyKind::Sign,
         SupplyKind::Export,
+        SupplyKind::Mnemonic,
     ];
 
-    /// The kind's number, 0 to 9.
+    /// The kind's number, 0 to 10.
     #[must_use]
     pub const fn number(self) -> u8 {
         self as u8
     }
 
-    /// The kind with this number, if it is 0 to 9.
+    /// The kind with this number, if it is 0 to 10.
     #[must_use]
     pub const fn from_number(number: u8) -> Option<SupplyKind> {
         match number {
@@ -66,13 +72,22 @@ impl SupplyKind {
             7 => Some(SupplyKind::Derive),
             8 => Some(SupplyKind::Sign),
             9 => Some(SupplyKind::Export),
+            10 => Some(SupplyKind::Mnemonic),
             _ => None,
         }
     }
 
-    /// How many bytes ANSWER wants; 0 where it reads no supply.
+    /// How many bytes ANSWER wants for a command with this P1; 0 where it reads no supply. P1 makes a difference for
+    /// [`Mnemonic`](SupplyKind::Mnemonic) alone.
+    ///
+    /// ```
+    /// use treadlewisp::SupplyKind;
+    /// assert_eq!(SupplyKind::Open.bytes(0x07), 113); // in OPEN P1 is the slot
+    /// assert_eq!((SupplyKind::Mnemonic.bytes(0x04), SupplyKind::Mnemonic.bytes(0x08)), (16, 32));
+    /// assert_eq!(SupplyKind::Mnemonic.bytes(0x09), 0); // 6A86, and no supply is read
+    /// ```
     #[must_use]
-    pub const fn bytes(self) -> usize {
+    pub const fn bytes(self, p1: u8) -> usize {
         match self {
             SupplyKind::None => 0,
             SupplyKind::Init => 33,
@@ -82,6 +97,10 @@ impl SupplyKind {
             SupplyKind::Derive => 1,
             SupplyKind::Sign => 129,
             SupplyKind::Export => 98,
+            SupplyKind::Mnemonic => match Phrase::from_checksum_bits(p1) {
+                Some(phrase) => phrase.entropy_bytes(),
+                None => 0,
+            },
         }
     }
 
@@ -108,15 +127,17 @@ impl SupplyKind {
             SupplyKind::Derive => Some("DERIVE"),
             SupplyKind::Sign => Some("SIGN"),
             SupplyKind::Export => Some("EXPORT"),
+            SupplyKind::Mnemonic => Some("GENERATE MNEMONIC"),
         }
     }
 }
 
 impl fmt::Display for SupplyKind {
     fn fmt(&self, f: &mut fmt::Formatter<'_>) -> fmt::Result {
-        match self.command_name() {
-            None => write!(f, "no supply"),
-            Some(name) => write!(f, "supply for {name}, {} bytes", self.bytes()),
+        match (self, self.command_name()) {
+            (_, None) => write!(f, "no supply"),
+            (SupplyKind::Mnemonic, Some(name)) => write!(f, "supply for {name}, {ENTROPY_BYTES_PER_CHECKSUM_BIT} times P1 bytes"),
+            (_, Some(name)) => write!(f, "supply for {name}, {} bytes", self.bytes(0x00)),
         }
     }
 }

@@ -110,6 +110,21 @@ fn supplies_that_say_no() {
     assert_eq!((count, &buffer[..2]), (Ok(2), &[0x6A, 0x80][..]));
 }
 
+/// Entropy, and nothing besides: of the five lengths, and no other.
+#[test]
+fn supplies_of_entropy() {
+    let entropy = part::<255>(0x20);
+    for bytes in 0..entropy.len() {
+        let supply = Supply::mnemonic(&entropy[..bytes]);
+        if [16, 20, 24, 28, 32].contains(&bytes) {
+            let supply = supply.expect("a supply");
+            assert_eq!((supply.kind(), supply.bytes()), (SupplyKind::Mnemonic, &entropy[..bytes]));
+        } else {
+            assert_eq!(supply.err(), Some(Refusal::BadSupply), "{bytes} bytes");
+        }
+    }
+}
+
 /// What was put together elsewhere has to have the kind's length and a right flag.
 #[test]
 fn supplies_of_bytes() {
@@ -184,7 +199,7 @@ fn commands_over_the_channel() {
     let path = Path::new(&[44 + HARDENED, 60 + HARDENED, 7]).expect("a path");
     let path_bytes = bytes("8000002C8000003C00000007");
     let (both, public) = (ExportedKeys::PrivateAndPublic, ExportedKeys::Public);
-    let commands: [(ChannelCommand, [u8; 4], &[u8]); 19] = [
+    let commands: [(ChannelCommand, [u8; 4], &[u8]); 21] = [
         (ChannelCommand::mutual(&key), [0x80, 0x11, 0, 0], &key),
         (ChannelCommand::unpair(5), [0x80, 0x13, 5, 0], &[]),
         (ChannelCommand::status_tries(), [0x80, 0xF2, 0, 0], &[]),
@@ -212,6 +227,8 @@ fn commands_over_the_channel() {
             [0x80, 0xF3, 0, 0],
             b"\x00\x03abc",
         ),
+        (ChannelCommand::generate_mnemonic(Phrase::Words12), [0x80, 0xD2, 4, 0], &[]),
+        (ChannelCommand::generate_mnemonic(Phrase::Words24), [0x80, 0xD2, 8, 0], &[]),
     ];
     for (command, header, data) in commands {
         assert_eq!((command.header(), command.data()), (&header, data));
@@ -303,6 +320,8 @@ fn debug_shows_no_secret() {
         "ChannelCommand { header: [80, 20, 00, 00], .. }"
     );
     assert_eq!(format!("{:?}", Supply::load(&[7; 65])), "Supply { kind: Load, .. }");
+    let supply = Supply::mnemonic(&[7; 16]).expect("16 bytes");
+    assert_eq!(format!("{supply:?}"), "Supply { kind: Mnemonic, .. }");
     let answer = Answer::from_bytes(&[0x31, 0x32, 0x90, 0x00]).expect("an answer");
     assert_eq!(
         format!("{answer:?}"),

@@ -88,6 +88,8 @@ fn what_the_host_is_asked() {
             "export [\"8000002B\", \"8000003C\", \"8000062D\"] Public",
         ),
         (ChannelCommand::remove(), ""),
+        (ChannelCommand::generate_mnemonic(Phrase::Words12), "mnemonic Words12"),
+        (ChannelCommand::generate_mnemonic(Phrase::Words24), "mnemonic Words24"),
     ];
     for (command, note) in asked {
         let expected: Vec<&str> = [note, "store"].into_iter().filter(|note| !note.is_empty()).collect();

@@ -239,10 +239,13 @@ fn where_there_is_none() {
         REMOVE,
         UNPAIR,
         MUTUAL,
+        GENERATE_MNEMONIC,
     ];
     for instruction in others {
-        let (_, offset) = told(&mut life.clone(), card_header(instruction, 0x00), &malformed);
-        assert_eq!(offset, None, "{instruction:02X}");
+        for p1 in [0x00, P1_MNEMONIC_12_WORDS] {
+            let (_, offset) = told(&mut life.clone(), card_header(instruction, p1), &malformed);
+            assert_eq!(offset, None, "{instruction:02X}");
+        }
     }
 }
 

@@ -216,11 +216,12 @@ fn supplies_of_another_length() {
     ] {
         let asked = card.ask(&command, &mut [0; ASK_ROOM_BYTES]).expect("ASK");
         assert_eq!(asked.kind, kind);
-        for supply_bytes in [0, 1, kind.bytes() - 1, kind.bytes() + 1, before_bytes, SUPPLY_MAX_BYTES] {
+        let right_bytes = kind.bytes(command[2]);
+        for supply_bytes in [0, 1, right_bytes - 1, right_bytes + 1, before_bytes, SUPPLY_MAX_BYTES] {
             refused(&card, &command, &vec![0x01; supply_bytes]);
         }
         if kind.has_flag() {
-            refused(&card, &command, &vec![0x02; kind.bytes()]);
+            refused(&card, &command, &vec![0x02; right_bytes]);
         }
         assert!(answered(&mut card.clone(), &command, &supply(kind)).ends_with(&[0x90, 0x00]));
     }

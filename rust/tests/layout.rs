@@ -1,10 +1,17 @@
-//! The numbers that `docs/LAYOUT.md`, `include/treadlewisp.h` and the proved crates `card` and `record_rules` have, held against this crate's own,
-//! which follow from the fields.
+//! The numbers that `docs/LAYOUT.md`, `include/treadlewisp.h` and the proved crates `card`, `record_rules`, `refusals` and `phrase_reverse` have, held
+//! against this crate's own, which follow from the fields.
 
 use std::collections::{BTreeMap, BTreeSet};
 use std::fs;
 
 use treadlewisp::*;
+
+/// The crate's constants of these names.
+macro_rules! named {
+    ($($name:ident),* $(,)?) => {
+        [$((stringify!($name), $name as usize)),*]
+    };
+}
 
 /// A file of the repository.
 fn text(path: &str) -> String {
@@ -77,6 +84,27 @@ fn the_lengths_that_the_layout_names() {
     assert!(layout.contains(&whole), "{whole}");
     let stored = format!("is {RECORD_FRESH_BYTES} to {RECORD_MAX_BYTES} bytes long");
     assert!(layout.contains(&stored), "{stored}");
+}
+
+/// The table of a recovery phrase: a name of the header, what it is, and its bytes.
+#[test]
+fn the_lengths_of_a_recovery_phrase() {
+    let layout = text("docs/LAYOUT.md");
+    let constants = named![
+        ENTROPY_BYTES_PER_CHECKSUM_BIT,
+        ENTROPY_MIN_BYTES,
+        ENTROPY_MAX_BYTES,
+        ENTROPY_ROOM_BYTES,
+        WORD_NUMBER_BYTES,
+        WORDS_MIN_BYTES,
+        WORDS_MAX_BYTES,
+    ];
+    for (name, bytes) in constants {
+        let (front, end) = (format!("| `TW_{name}` | "), format!(" | {bytes} |"));
+        let has_row = layout.lines().any(|line| line.starts_with(&front) && line.ends_with(&end));
+        assert!(has_row, "{name}: {bytes}");
+    }
+    assert!(layout.contains(&format!("at most {WORD_NUMBER_MAX} (`TW_WORD_NUMBER_MAX`)")));
 }
 
 /// The number that ANSWER tells where it has no fault offset: it is beyond all opened data.
@@ -163,13 +191,6 @@ fn rattle(name: &str) -> Written {
     text(&format!("crates/{name}/src/lib.rt")).split(';').filter_map(constant).collect()
 }
 
-/// The crate's constants of these names.
-macro_rules! named {
-    ($($name:ident),* $(,)?) => {
-        [$((stringify!($name), $name as usize)),*]
-    };
-}
-
 /// Each constant is written with that value.
 fn hold(constants: &[(&str, usize)], front: &str, written: &Written) {
     for (name, number) in constants {
@@ -202,6 +223,13 @@ fn the_constants_of_the_header() {
         TAP_BYTES,
         HEADER_BYTES,
         STATUS_BYTES,
+        ENTROPY_BYTES_PER_CHECKSUM_BIT,
+        ENTROPY_MIN_BYTES,
+        ENTROPY_MAX_BYTES,
+        WORD_NUMBER_BYTES,
+        WORDS_MIN_BYTES,
+        WORDS_MAX_BYTES,
+        WORD_NUMBER_MAX,
         CARD_BYTES,
         SESSION_BYTES,
         FIELD_HEAD_BYTES,
@@ -214,6 +242,7 @@ fn the_constants_of_the_header() {
         ANSWER_ROOM_BYTES,
         SEAL_ROOM_BYTES,
         UNSEAL_ROOM_BYTES,
+        ENTROPY_ROOM_BYTES,
         WRITE_ROOM_BYTES,
         DATA_MAX_BYTES,
         SUPPLY_MAX_BYTES,
@@ -226,8 +255,10 @@ fn the_constants_of_the_header() {
 /// The proved code's lengths are the crate's, so that neither can change alone.
 #[test]
 fn the_constants_of_the_engine() {
-    let mut engine = rattle("card");
-    engine.extend(rattle("record_rules"));
+    let engine = ["card", "record_rules", "refusals", "phrase_reverse"]
+        .into_iter()
+        .flat_map(rattle)
+        .collect();
     let constants = named![
         SLOTS,
         SLOTS_BEFORE,
@@ -247,7 +278,13 @@ fn the_constants_of_the_engine() {
         RECORD_FRESH_BYTES,
         RECORD_MIN_BYTES,
         RECORD_MAX_BYTES,
+        ASK_ROOM_BYTES,
+        ANSWER_ROOM_BYTES,
+        SEAL_ROOM_BYTES,
+        UNSEAL_ROOM_BYTES,
+        ENTROPY_ROOM_BYTES,
         WRITE_ROOM_BYTES,
+        ENTROPY_BYTES_PER_CHECKSUM_BIT,
     ];
     hold(&constants, "", &engine);
 }
@@ -275,6 +312,7 @@ fn the_numbers_of_commands_and_supplies_in_the_header() {
         SIGN,
         EXPORT,
         SET_NDEF,
+        GENERATE_MNEMONIC,
     ];
     let others = named![
         CLASS_SELECT,
@@ -293,6 +331,11 @@ fn the_numbers_of_commands_and_supplies_in_the_header() {
         P1_EXPORT_CURRENT,
         P1_EXPORT_DERIVE,
         P1_EXPORT_DERIVE_AND_MAKE_CURRENT,
+        P1_MNEMONIC_12_WORDS,
+        P1_MNEMONIC_15_WORDS,
+        P1_MNEMONIC_18_WORDS,
+        P1_MNEMONIC_21_WORDS,
+        P1_MNEMONIC_24_WORDS,
         P2_EXPORT_PRIVATE_AND_PUBLIC,
         P2_EXPORT_PUBLIC_ONLY,
     ];
@@ -308,10 +351,45 @@ fn the_numbers_of_commands_and_supplies_in_the_header() {
     assert_eq!(count(&["TW_CLASS_", "TW_P1_", "TW_P2_"]), others.len());
     for kind in SupplyKind::ALL {
         let Some(command_name) = kind.command_name() else { continue };
-        let name = format!("TW_SUPPLY_{}", command_name.to_uppercase().replace(' ', "_"));
+        let short_name = command_name.trim_start_matches("GENERATE ").to_uppercase().replace(' ', "_");
+        let name = format!("TW_SUPPLY_{short_name}");
         assert_eq!(value(&name, &header), usize::from(kind.number()), "{name}");
-        assert_eq!(value(&format!("{name}_BYTES"), &header), kind.bytes(), "{name}_BYTES");
+        // The length of GENERATE MNEMONIC's supply goes by P1.
+        if kind != SupplyKind::Mnemonic {
+            assert_eq!(value(&format!("{name}_BYTES"), &header), kind.bytes(0x00), "{name}_BYTES");
+        }
     }
+    for phrase in Phrase::ALL {
+        let p1 = value(&format!("TW_P1_MNEMONIC_{}_WORDS", phrase.words()), &header);
+        assert_eq!(p1, usize::from(phrase.checksum_bits()));
+        assert_eq!(p1 * value("TW_ENTROPY_BYTES_PER_CHECKSUM_BIT", &header), phrase.entropy_bytes());
+        assert_eq!(SupplyKind::Mnemonic.bytes(phrase.checksum_bits()), phrase.entropy_bytes());
+    }
+}
+
+/// The numbers of refusals, by their names in the header and in this crate.
+#[test]
+fn the_refusals_of_the_header() {
+    let header = header();
+    let names = [
+        "UNSOUND",
+        "ROOM",
+        "BAD_SUPPLY",
+        "MALFORMED",
+        "TOO_DEEP",
+        "TOO_LONG",
+        "NOT_GENUINE",
+        "NOT_RECORD",
+        "WRONG_COUNT",
+        "NUMBER_TOO_LARGE",
+        "WRONG_CHECKSUM",
+    ];
+    for (name, refusal) in names.iter().zip(Refusal::ALL) {
+        assert_eq!(value(&format!("TW_{name}"), &header), usize::from(refusal.number()), "{name}");
+        let camel = format!("{refusal:?}").to_uppercase();
+        assert_eq!(name.replace('_', ""), camel);
+    }
+    assert_eq!(names.len(), Refusal::ALL.len());
 }
 
 #[test]

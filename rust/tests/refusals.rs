@@ -1,4 +1,4 @@
-//! Each refusal, 1 to 8, by each operation that gives it: card, session and buffer are afterwards as they were.
+//! Each refusal, 1 to 11, by each operation that gives it: card, session and buffer are afterwards as they were.
 
 mod common;
 
@@ -12,6 +12,13 @@ fn with_buffer<T>(bytes: usize, call: impl FnOnce(&mut [u8]) -> T) -> T {
     assert!(buffer.iter().all(|&b| b == FILL), "the buffer was changed");
     result
 }
+
+/// The numbers of BIP 39's first phrase: 11 times 0, and 3.
+const ABANDON_ABOUT: [u8; WORDS_MIN_BYTES] = {
+    let mut words = [0; WORDS_MIN_BYTES];
+    words[WORDS_MIN_BYTES - 1] = 3;
+    words
+};
 
 #[test]
 fn unsound_1() {
@@ -50,6 +57,9 @@ fn room_2() {
         let unseal = with_buffer(UNSEAL_ROOM_BYTES - short, |b| life.terminal.unseal(&[], b));
         assert_eq!(unseal, Err(Refusal::Room));
     }
+    for room in 0..ENTROPY_ROOM_BYTES {
+        assert_eq!(with_buffer(room, |b| entropy_into(&ABANDON_ABOUT, b)), Err(Refusal::Room));
+    }
     assert_eq!((life.card, life.terminal), (card, terminal));
 }
 
@@ -59,7 +69,7 @@ fn bad_supply_3() {
     let before = life.card.clone();
     let init = init_command();
     let right = supply(SupplyKind::Init);
-    assert_eq!(right.len(), SupplyKind::Init.bytes());
+    assert_eq!(right.len(), SupplyKind::Init.bytes(0x00));
     let mut flag_2 = right.clone();
     flag_2[0] = 2;
     for wrong in [&[][..], &[0], &right[1..], &[&right[..], &[0]].concat(), &flag_2] {
@@ -162,4 +172,56 @@ fn not_record_8() {
     assert_eq!(Card::read(&record[..count - 1]), Err(Refusal::NotRecord));
     assert_eq!(Card::read(&[record, &[0]].concat()), Err(Refusal::NotRecord));
     assert_eq!(Card::read(record), Ok(life.card));
+}
+
+/// ENTROPY with each length: 9 wherever it is not that of 12, 15, 18, 21 or 24 numbers, odd lengths too. tests/phrases.rs has the others' order.
+#[test]
+fn wrong_count_9() {
+    for words_bytes in 0..=3 * WORDS_MAX_BYTES {
+        let words = vec![0xFF; words_bytes];
+        let expected = match words_bytes {
+            24 | 30 | 36 | 42 | 48 => Refusal::NumberTooLarge,
+            _ => Refusal::WrongCount,
+        };
+        assert_eq!(
+            with_buffer(ENTROPY_ROOM_BYTES, |b| entropy_into(&words, b)),
+            Err(expected),
+            "{words_bytes} bytes"
+        );
+        assert_eq!(entropy(&words).err(), Some(expected), "{words_bytes} bytes");
+    }
+}
+
+/// A number over 2047 at each place, the least and the greatest.
+#[test]
+fn number_too_large_10() {
+    for at in (0..WORDS_MIN_BYTES).step_by(WORD_NUMBER_BYTES) {
+        for number in [WORD_NUMBER_MAX + 1, 0x8000, u16::MAX] {
+            let mut words = ABANDON_ABOUT;
+            words[at..at + WORD_NUMBER_BYTES].copy_from_slice(&number.to_be_bytes());
+            let refused = with_buffer(ENTROPY_ROOM_BYTES, |b| entropy_into(&words, b));
+            assert_eq!(refused, Err(Refusal::NumberTooLarge), "{number} at byte {at}");
+            assert_eq!(entropy(&words).err(), Some(Refusal::NumberTooLarge));
+        }
+    }
+}
+
+/// Of the 16 checksums that 12 words can end with, one is right.
+#[test]
+fn wrong_checksum_11() {
+    for last in 0..16 {
+        let mut words = ABANDON_ABOUT;
+        words[WORDS_MIN_BYTES - 1] = last;
+        if words == ABANDON_ABOUT {
+            let mut buffer = [FILL; ENTROPY_ROOM_BYTES + 1];
+            assert_eq!(entropy_into(&words, &mut buffer), Ok(ENTROPY_MIN_BYTES));
+            assert_eq!(
+                buffer[..],
+                [&[0; ENTROPY_MIN_BYTES][..], &[FILL; ENTROPY_ROOM_BYTES + 1 - ENTROPY_MIN_BYTES]].concat()
+            );
+        } else {
+            let refused = with_buffer(ENTROPY_ROOM_BYTES, |b| entropy_into(&words, b));
+            assert_eq!(refused, Err(Refusal::WrongChecksum), "{last}");
+        }
+    }
 }

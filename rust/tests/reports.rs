@@ -52,7 +52,7 @@ fn the_reports_of_the_layout() {
     let rows = [
         ("(ANSWER)", report!(Answered: refusal 1, count 8, fault_offset 8)),
         ("(WALK)", report!(Walked: refusal 1, count 8, fault_offset 8)),
-        ("(SEAL, UNSEAL, WRITE)", report!(Told: refusal 1, count 8)),
+        ("(SEAL, UNSEAL, WRITE, ENTROPY)", report!(Told: refusal 1, count 8)),
         ("(ASK)", report!(Asked: refusal 1, kind 1, count 8)),
         ("(the tap read)", report!(Tapped: refusal 1, source 1, offset 8, length 8)),
     ];

@@ -43,6 +43,12 @@ const CHAIN: (&str, u32) = ("chain code", 8);
 const EXPORTED: (&str, u32) = ("exported key", 9);
 const NEW_SECRET: (&str, u32) = ("new secret", 10);
 const INITIAL: (&str, u32) = ("INIT key", 11);
+const RECOVERED: (&str, u32) = ("entropy", 12);
+
+/// The numbers of the words of that entropy, 48 bytes.
+fn words() -> Vec<u8> {
+    in_bytes(&word_numbers(&key(RECOVERED.1)))
+}
 
 /// What the card makes of the pairing secret and 32 bytes after it: the cryptogram that it expects, and the pairing key.
 fn paired(after: &[u8; KEY_BYTES]) -> [u8; KEY_BYTES] {
@@ -57,11 +63,13 @@ fn in_words(key: [u8; KEY_BYTES]) -> Vec<u8> {
 /// All secrets.
 fn secrets() -> Vec<(&'static str, Vec<u8>)> {
     let digits = [("PIN", &PIN[..]), ("PUK", PUK), ("new PIN", NEW_PIN), ("new PUK", NEW_PUK)];
-    let keys = [PAIRED, ENC, MAC, LOADED, CHAIN, EXPORTED, NEW_SECRET, INITIAL];
+    let keys = [PAIRED, ENC, MAC, LOADED, CHAIN, EXPORTED, NEW_SECRET, INITIAL, RECOVERED];
     let hashes = [
         ("expected cryptogram", paired(&CARD_CHALLENGE).to_vec()),
         ("pairing key", paired(&SALT).to_vec()),
         ("pairing secret, in words", in_words(key(PAIRED.1))),
+        ("entropy, in words", in_words(key(RECOVERED.1))),
+        ("word numbers", words()),
     ];
     let digits = digits.into_iter().map(|(name, secret)| (name, secret.to_vec()));
     let keys = keys.map(|(name, seed)| (name, key(seed).to_vec()));
@@ -91,6 +99,7 @@ enum Operation {
     Seal,
     Unseal,
     Walk,
+    Entropy,
     Write,
     Read,
     Tap,
@@ -137,6 +146,7 @@ extern "C" {
     fn tw_seal(session: *mut Session, header: *const u8, data: *const u8, data_bytes: usize, buf: *mut u8, buf_bytes: usize) -> Told;
     fn tw_unseal(session: *mut Session, response: *const u8, response_bytes: usize, buf: *mut u8, buf_bytes: usize) -> Told;
     fn tw_walk(input: *const u8, input_bytes: usize) -> Placed;
+    fn tw_entropy(words: *const u8, words_bytes: usize, buf: *mut u8, buf_bytes: usize) -> Told;
     fn tw_write(card: *const Card, buf: *mut u8, buf_bytes: usize) -> Told;
     fn tw_read(card: *mut Card, record: *const u8, record_bytes: usize) -> u8;
     fn tw_tap(record: *const u8, record_bytes: usize, factory: *const u8, factory_bytes: usize) -> Tapped;
@@ -184,6 +194,7 @@ impl Call {
                 Operation::Seal => tw_seal(terminal, self.header.as_ptr(), input, input_bytes, buf, buf_bytes),
                 Operation::Unseal => tw_unseal(terminal, input, input_bytes, buf, buf_bytes),
                 Operation::Walk => counted(tw_walk(input, input_bytes), 0),
+                Operation::Entropy => tw_entropy(input, input_bytes, buf, buf_bytes),
                 Operation::Write => tw_write(card, buf, buf_bytes),
                 Operation::Read => only(tw_read(card, input, input_bytes)),
                 Operation::Tap => {
@@ -208,6 +219,7 @@ impl Call {
             Operation::Seal => terminal.seal(&self.header, input, buffer),
             Operation::Unseal => terminal.unseal(input, buffer),
             Operation::Walk => walk(input).map_err(Refusal::from),
+            Operation::Entropy => entropy_into(input, buffer),
             Operation::Write => card.write(buffer),
             Operation::Read => {
                 let read = Card::read(input);
@@ -298,9 +310,12 @@ fn calls() -> Vec<Call> {
     sealed("EXPORT", &mut life, EXPORT, P1_EXPORT_CURRENT, &[], &export_supply);
     sealed("SIGN", &mut life, SIGN, 0x00, &[0x5F; 32], &[0x12; 129]);
     sealed("SET NDEF", &mut life, SET_NDEF, 0x00, &[0x00, 0x03, 0xD0, 0x00, 0x00], &[]);
+    let (phrase, recovered) = (P1_MNEMONIC_24_WORDS, key(RECOVERED.1));
+    sealed("GENERATE MNEMONIC", &mut life, GENERATE_MNEMONIC, phrase, &[], &recovered);
     let mut record = [0; WRITE_ROOM_BYTES];
     let count = life.card.write(&mut record).expect("WRITE");
     calls.push(Call::of("WALK of LOAD's data", Operation::Walk, &life, &loaded));
+    calls.push(Call::of("ENTROPY", Operation::Entropy, &life, &words()));
     calls.push(Call::of("soundness", Operation::Sound, &life, &[]));
     calls.push(Call::of("WRITE", Operation::Write, &life, &[]));
     calls.push(Call::of("READ", Operation::Read, &life, &record[..count]));
@@ -339,7 +354,7 @@ fn calls_leave_no_secret_on_the_stack() {
         assert!(bare.life.card == safe.life.card || bare.operation == Operation::Read, "{name}");
         assert_eq!(bare.life.terminal, safe.life.terminal, "{name}");
     }
-    for name in ["PIN", "PUK", PAIRED.0, ENC.0, MAC.0] {
+    for name in ["PIN", "PUK", PAIRED.0, ENC.0, MAC.0, RECOVERED.0] {
         assert!(left_bare.contains(&name), "the search has not found the {name} after any bare call");
     }
 }
@@ -350,8 +365,8 @@ fn values_leave_no_secret_on_the_stack() {
     let life = calls().pop().expect("a call").life;
     let (card, terminal) = (&life.card, &life.terminal);
     let (card_bytes, session_bytes) = (Box::new(card.to_bytes()), Box::new(terminal.to_bytes()));
-    let keys = Box::new((key(ENC.1), key(MAC.1)));
-    let values: [(&str, &mut dyn FnMut()); 9] = [
+    let (keys, words) = (Box::new((key(ENC.1), key(MAC.1))), words());
+    let values: [(&str, &mut dyn FnMut()); 10] = [
         ("a card of bytes", &mut || seen(&Card::from_bytes(&card_bytes))),
         ("a card's copy", &mut || seen(&card.clone())),
         ("a card's bytes", &mut || wipe(&mut card.to_bytes())),
@@ -361,6 +376,7 @@ fn values_leave_no_secret_on_the_stack() {
         ("a session's copy", &mut || seen(&terminal.clone())),
         ("a session's bytes", &mut || wipe(&mut terminal.to_bytes())),
         ("what is compared", &mut || seen(&(*card == *card && *terminal == *terminal))),
+        ("entropy", &mut || seen(&entropy(&words))),
     ];
     for (name, value) in values {
         assert_eq!(found(&on_stack(value)), [], "{name}");
@@ -372,8 +388,8 @@ fn values_leave_no_secret_on_the_stack() {
 /// Builders and whole exchanges, the host's supplies among them, leave nothing either.
 #[test]
 fn exchanges_leave_no_secret_on_the_stack() {
-    let keys = Box::new([key(LOADED.1), key(CHAIN.1), key(INITIAL.1), key(PAIRED.1)]);
-    let [private_key, chain_code, aes_key, pairing_secret] = &*keys;
+    let keys = Box::new([key(LOADED.1), key(CHAIN.1), key(INITIAL.1), key(PAIRED.1), key(RECOVERED.1)]);
+    let [private_key, chain_code, aes_key, pairing_secret, recovered] = &*keys;
     let (point, iv, pin, puk) = (&POINT, &SEED_IV, PIN, PUK);
     let (init, loaded) = (
         InitParts {
@@ -392,9 +408,10 @@ fn exchanges_leave_no_secret_on_the_stack() {
     );
     let chat = Path::from_bytes(&EIP1581_PATH).expect("a path");
     let (mut life, mut desk) = (Box::new(Life::in_channel()), Desk::new());
-    desk.supply = |kind| match kind {
+    desk.supply = |kind, p1| match kind {
         SupplyKind::Export => [&[0x01], &POINT[..], &key(EXPORTED.1)].concat(),
-        _ => supply(kind),
+        SupplyKind::Mnemonic => key(RECOVERED.1).to_vec(),
+        _ => supply_for(kind, p1),
     };
     let mut send = |command: &ChannelCommand, data_bytes: usize| {
         let answer = exchange(&mut life.terminal, &mut life.card, &mut desk, command);
@@ -402,7 +419,7 @@ fn exchanges_leave_no_secret_on_the_stack() {
             .as_ref()
             .is_ok_and(|answer| answer.status().is_success() && answer.data().len() == data_bytes));
     };
-    let made: [(&str, &mut dyn FnMut()); 3] = [
+    let made: [(&str, &mut dyn FnMut()); 4] = [
         ("INIT", &mut || seen(&PlainCommand::init(&init))),
         ("LOAD's command", &mut || seen(&ChannelCommand::load(&loaded))),
         ("EXPORT's supply", &mut || {
@@ -411,6 +428,7 @@ fn exchanges_leave_no_secret_on_the_stack() {
                 private_key: Some(private_key),
             }))
         }),
+        ("GENERATE MNEMONIC's supply", &mut || seen(&Supply::mnemonic(recovered))),
     ];
     for (name, make) in made {
         assert_eq!(found(&on_stack(make)), [], "{name}");
@@ -419,6 +437,7 @@ fn exchanges_leave_no_secret_on_the_stack() {
         ("VERIFY", ChannelCommand::verify(PIN), 0),
         ("LOAD", ChannelCommand::load(&loaded), KEY_BYTES),
         ("EXPORT", ChannelCommand::export(&chat, ExportedKeys::PrivateAndPublic), 103),
+        ("GENERATE MNEMONIC", ChannelCommand::generate_mnemonic(Phrase::Words24), 48),
     ];
     for (name, command, data_bytes) in &exchanged {
         assert_eq!(found(&on_stack(&mut || send(command, *data_bytes))), [], "{name}");
@@ -458,6 +477,9 @@ fn a_dropped_value_is_zero() {
     assert_eq!(bytes_after_drop(life.card.slots()[0].clone()), [0; SLOT_BYTES]);
     assert_eq!(bytes_after_drop(life.card), [0; CARD_BYTES]);
     assert_eq!(bytes_after_drop(life.terminal), [0; SESSION_BYTES]);
+    // Of entropy its length stays, 32.
+    let left = bytes_after_drop(entropy(&words()).expect("entropy"));
+    assert_eq!(left.iter().filter(|&&byte| byte != 0).collect::<Vec<_>>(), [&32]);
     assert_eq!(bytes_after_drop([7_u8; 3]), [7; 3]);
 }
 

@@ -102,23 +102,34 @@ fn debug_shows_no_secret() {
 #[test]
 fn numbers_of_refusals_and_supplies() {
     let numbers: Vec<u8> = Refusal::ALL.iter().map(|refusal| refusal.number()).collect();
-    assert_eq!(numbers, [1, 2, 3, 4, 5, 6, 7, 8]);
+    assert_eq!(numbers, [1, 2, 3, 4, 5, 6, 7, 8, 9, 10, 11]);
     for number in 0..=255 {
         let refusal = Refusal::from_number(number);
-        assert_eq!(refusal.map(Refusal::number), (1..=8).contains(&number).then_some(number));
+        assert_eq!(refusal.map(Refusal::number), (1..=11).contains(&number).then_some(number));
         let kind = SupplyKind::from_number(number);
-        assert_eq!(kind.map(SupplyKind::number), (number <= 9).then_some(number));
+        assert_eq!(kind.map(SupplyKind::number), (number <= 10).then_some(number));
     }
-    assert_eq!(SupplyKind::ALL.map(SupplyKind::bytes), [0, 33, 113, 32, 32, 32, 66, 1, 129, 98]);
+    for p1 in 0..=255 {
+        let of_mnemonic = if (4..=8).contains(&p1) { 4 * usize::from(p1) } else { 0 };
+        let bytes = SupplyKind::ALL.map(|kind| kind.bytes(p1));
+        assert_eq!(bytes, [0, 33, 113, 32, 32, 32, 66, 1, 129, 98, of_mnemonic], "P1 {p1:02X}");
+    }
     assert_eq!(SUPPLY_MAX_BYTES, 129);
     for kind in SupplyKind::ALL {
-        assert_eq!(supply(kind).len(), kind.bytes());
+        assert_eq!(supply(kind).len(), kind.bytes(command::P1_MNEMONIC_12_WORDS));
         assert_eq!(kind.command_name().is_none(), kind == SupplyKind::None);
     }
     let error: Box<dyn std::error::Error> = Refusal::Room.into();
     assert_eq!(error.to_string(), "refusal 2: the buffer is smaller than the operation asks for");
     assert_eq!(SupplyKind::Sign.to_string(), "supply for SIGN, 129 bytes");
     assert_eq!(SupplyKind::Export.to_string(), "supply for EXPORT, 98 bytes");
+    assert_eq!(SupplyKind::Mnemonic.to_string(), "supply for GENERATE MNEMONIC, 4 times P1 bytes");
+    assert_eq!(
+        Refusal::WrongCount.to_string(),
+        "refusal 9: not 12, 15, 18, 21 or 24 numbers of 2 bytes"
+    );
+    assert_eq!(Refusal::NumberTooLarge.to_string(), "refusal 10: a number is over 2047");
+    assert_eq!(Refusal::WrongChecksum.to_string(), "refusal 11: the checksum differs");
 }
 
 #[test]

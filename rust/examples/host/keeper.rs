@@ -157,6 +157,12 @@ impl Host for Keeper {
         }))
     }
 
+    /// As many random bytes as the phrase takes. The host keeps none of them: they are wiped here, and in the supply once it is read.
+    fn mnemonic(&mut self, _: &Card, phrase: Phrase) -> io::Result<Supply> {
+        let entropy = Secret(random()?);
+        Supply::mnemonic(&entropy.0[..phrase.entropy_bytes()]).map_err(io::Error::other)
+    }
+
     /// LOAD has brought another key, or REMOVE has removed it: the file has the record and its key, or is as it was.
     fn store(&mut self, card: &Card, record: &[u8]) -> io::Result<()> {
         if let Some(key) = self.loaded.take() {

@@ -118,6 +118,15 @@ impl Terminal {
         self.succeed(wire, &command)
     }
 
+    /// GENERATE MNEMONIC: the numbers of the words of a new recovery phrase, 2 bytes each.
+    pub fn phrase(&mut self, wire: &mut impl Wire, phrase: Phrase) -> Outcome<Answer> {
+        let answer = succeeded(self.send(wire, &ChannelCommand::generate_mnemonic(phrase))?)?;
+        match answer.data().len() == phrase.words_bytes() {
+            true => Ok(answer),
+            false => Err("GENERATE MNEMONIC: another number of words".into()),
+        }
+    }
+
     /// LOAD: the key's UID, as the card has worked it out.
     pub fn load(&mut self, wire: &mut impl Wire, key: &LoadedKey) -> Outcome<[u8; KEY_BYTES]> {
         let answer = succeeded(self.send(wire, &ChannelCommand::load(key))?)?;

@@ -14,8 +14,8 @@ pub struct Desk {
     pub fails_to_store: bool,
     /// The kind of supply that it makes, whichever is asked for.
     pub makes_only: Option<SupplyKind>,
-    /// A right supply of a kind.
-    pub supply: fn(SupplyKind) -> Vec<u8>,
+    /// A right supply of a kind, for a command with this P1.
+    pub supply: fn(SupplyKind, u8) -> Vec<u8>,
 }
 
 impl Desk {
@@ -26,15 +26,19 @@ impl Desk {
             fails_to_supply: false,
             fails_to_store: false,
             makes_only: None,
-            supply,
+            supply: supply_for,
         }
     }
 
     /// The right supply of this kind, or that of the kind that is set.
     fn made(&mut self, kind: SupplyKind, note: String) -> Result<Supply, &'static str> {
+        self.made_for(kind, command::P1_MNEMONIC_12_WORDS, note)
+    }
+
+    fn made_for(&mut self, kind: SupplyKind, p1: u8, note: String) -> Result<Supply, &'static str> {
         self.noted.push(note);
         let kind = self.makes_only.unwrap_or(kind);
-        let made = Supply::from_bytes(kind, &(self.supply)(kind)).expect("a right supply");
+        let made = Supply::from_bytes(kind, &(self.supply)(kind, p1)).expect("a right supply");
         (!self.fails_to_supply).then_some(made).ok_or("no random numbers")
     }
 
@@ -85,6 +89,9 @@ impl Host for Desk {
     }
     fn export(&mut self, _: &Card, path: &Path, keys: ExportedKeys) -> Result<Supply, Self::Error> {
         self.made(SupplyKind::Export, format!("export {path:?} {keys:?}"))
+    }
+    fn mnemonic(&mut self, _: &Card, phrase: Phrase) -> Result<Supply, Self::Error> {
+        self.made_for(SupplyKind::Mnemonic, phrase.checksum_bits(), format!("mnemonic {phrase:?}"))
     }
     /// A record that is stored is that of the card, and gives it back as after RESET.
     fn store(&mut self, card: &Card, record: &[u8]) -> Result<(), Self::Error> {

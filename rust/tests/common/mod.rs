@@ -30,6 +30,12 @@ const RANDOM: [u8; KEY_BYTES] = [0x92; KEY_BYTES];
 pub const CLIENT_CHALLENGE: [u8; KEY_BYTES] = [0x0F; KEY_BYTES];
 pub const CARD_CHALLENGE: [u8; KEY_BYTES] = [0x93; KEY_BYTES];
 
+/// What GENERATE MNEMONIC's supply begins with, as many bytes as P1 asks for.
+pub const ENTROPY: [u8; ENTROPY_MAX_BYTES] = [
+    0x9E, 0x01, 0x7C, 0xB3, 0x25, 0xD8, 0x4F, 0x60, 0xEA, 0x11, 0x93, 0x36, 0xC7, 0x58, 0x0D, 0xF2, 0x84, 0x2B, 0xA9, 0x6E, 0x17, 0xDC,
+    0x73, 0x40, 0xB5, 0x0A, 0xE8, 0x3F, 0x92, 0x65, 0xCD, 0x1A,
+];
+
 /// What fills a buffer before a call.
 pub const FILL: u8 = 0xA5;
 
@@ -54,6 +60,24 @@ pub fn pairing_key() -> [u8; KEY_BYTES] {
 /// The UID of the key that LOAD's supply names.
 pub fn key_uid() -> [u8; KEY_BYTES] {
     hashed(&[&POINT])
+}
+
+/// Bits as digits, the high one first.
+pub fn bits(bytes: &[u8]) -> String {
+    bytes.iter().map(|byte| format!("{byte:08b}")).collect()
+}
+
+/// The numbers of the words of this entropy (BIP 39): its bits and those of its checksum, cut into pieces of 11.
+pub fn word_numbers(entropy: &[u8]) -> Vec<u16> {
+    let all = bits(entropy) + &bits(&hashed(&[entropy]))[..entropy.len() / ENTROPY_BYTES_PER_CHECKSUM_BIT];
+    assert_eq!(all.len() % 11, 0);
+    let number = |at: usize| u16::from_str_radix(&all[at..at + 11], 2).expect("binary digits");
+    (0..all.len()).step_by(11).map(number).collect()
+}
+
+/// Numbers in 2 bytes each, the high byte first.
+pub fn in_bytes(numbers: &[u16]) -> Vec<u8> {
+    numbers.iter().flat_map(|number| number.to_be_bytes()).collect()
 }
 
 /// Where a field of this name lies in a card's bytes.
@@ -90,8 +114,13 @@ pub fn init_command() -> Vec<u8> {
     plain_command(card_header(command::INIT, 0x00), &data)
 }
 
-/// A right supply of this kind.
+/// A right supply of this kind; that of GENERATE MNEMONIC is for 12 words.
 pub fn supply(kind: SupplyKind) -> Vec<u8> {
+    supply_for(kind, command::P1_MNEMONIC_12_WORDS)
+}
+
+/// A right supply of this kind, for a command with this P1.
+pub fn supply_for(kind: SupplyKind, p1: u8) -> Vec<u8> {
     let yes: &[u8] = &[0x01];
     let parts: Vec<&[u8]> = match kind {
         SupplyKind::None => vec![],
@@ -104,6 +133,7 @@ pub fn supply(kind: SupplyKind) -> Vec<u8> {
         SupplyKind::Derive => vec![yes],
         SupplyKind::Sign => vec![&POINT, &[0; 31], &[0x80], &[0; 31], &[0x01]],
         SupplyKind::Export => vec![yes, &POINT, &PRIVATE_KEY],
+        SupplyKind::Mnemonic => vec![&ENTROPY[..kind.bytes(p1)]],
         other => panic!("no supply of {other} is known here"),
     };
     parts.concat()
@@ -165,7 +195,8 @@ impl Life {
         let asked = self.card.ask(command, &mut opened).expect("ASK");
         assert!(opened[asked.count..].iter().all(|&b| b == FILL));
         let mut response = vec![FILL; ANSWER_ROOM_BYTES];
-        let count = self.card.answer(command, &supply(asked.kind), &mut response).expect("ANSWER").count;
+        let supply = supply_for(asked.kind, command.get(2).copied().unwrap_or(0x00));
+        let count = self.card.answer(command, &supply, &mut response).expect("ANSWER").count;
         assert!(response[count..].iter().all(|&b| b == FILL));
         assert!(self.card.is_sound());
         response.truncate(count);
