@@ -23,8 +23,8 @@ use Rattle.rules.specs.Steps.{replyOf, Decision, endsAt}
 use Rattle.rules.specs.Engine.{AskOut, askRefused, asked, answerRefused, answeredAt, answered, withSupply}
 use Rattle.rules.specs.Reports.{AskDid, AnswerDid}
 use Rattle.rules.specs.Code.{replyWith, Replies}
-use Rattle.order.specs.declared.Way.{Way}
-use Rattle.order.specs.Routes.{Routes, RoutesIn}
+use Rattle.order_ends.specs.declared.Way.{Way}
+use Rattle.order_ends.specs.Routes.{Routes, RoutesIn}
 
 -- ---- ANSWER of a sound card, with room enough
 module _ (c : Card) (want : Decision) (r : Way) (d s : List ℕ) (h : Routes want r d) where

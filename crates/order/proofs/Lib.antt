@@ -1,2 +1,1 @@
-pub mod Routing
-mod Opened
+mod Routing

@@ -1,6 +1,7 @@
 -- Past step 1 the rest is step 2's.
 -- Assumes nothing.
-use Rattle.order.proofs.Routing.{routes-as, past-step1, step1-paths}
+use Rattle.order_ends.proofs.Ending.{routes-as}
+use Rattle.order.proofs.Routing.{past-step1, step1-paths}
 use borrow.Author.Needs.{needs}
 use Rattle.order.proofs.route.Statement.{statement}
 use Rattle.order.proofs.route.Tie as tie

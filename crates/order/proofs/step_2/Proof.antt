@@ -5,7 +5,8 @@ use Prim.Native.Nat.{ℕ, _-_}
 use native.Mathlib.Omega.{arith}
 use lib.ListN.{take, drop}
 use Rattle.rules.specs.Words.{wrongLength}
-use Rattle.order.proofs.Routing.{routes-as, ends-route, found, lost, part-short, step2-data, step2-wrong}
+use Rattle.order_ends.proofs.Ending.{routes-as, ends-route}
+use Rattle.order.proofs.Routing.{found, lost, part-short, step2-data, step2-wrong}
 use borrow.Author.Needs.{needs}
 use Rattle.order.proofs.step_2.Statement.{statement}
 use Rattle.order.proofs.step_2.Tie as tie

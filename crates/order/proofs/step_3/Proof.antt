@@ -4,7 +4,8 @@ use mathlib.Core.Path.{sym, _∙_}
 use mathlib.Core.Bool.{false}
 use Rattle.rules.specs.declared.Named.the-variants as named
 use Rattle.rules.specs.Words.{unknownClass, unknownInstruction}
-use Rattle.order.proofs.Routing.{routes-as, ends-route, plain-ends, step3-as}
+use Rattle.order_ends.proofs.Ending.{routes-as, ends-route}
+use Rattle.order.proofs.Routing.{plain-ends, step3-as}
 use borrow.Author.Needs.{needs}
 use Rattle.order.proofs.step_3.Statement.{statement}
 use Rattle.order.proofs.step_3.Tie as tie

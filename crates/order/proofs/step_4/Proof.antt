@@ -7,7 +7,8 @@ use Prim.Native.Nat.{ℕ}
 use native.Mathlib.Omega.{arith}
 use lib.ListN.{length, take}
 use Rattle.rules.specs.Words.{conditionsNotMet}
-use Rattle.order.proofs.Routing.{stored, routes-as, at-start, ends-route, is-plain, not-plain, step4-plain, step4-stage, step4-opens}
+use Rattle.order_ends.proofs.Ending.{stored, routes-as, ends-route}
+use Rattle.order.proofs.Routing.{at-start, is-plain, not-plain, step4-plain, step4-stage, step4-opens}
 use borrow.Author.Needs.{needs}
 use Rattle.order.proofs.step_4.Statement.{statement}
 use Rattle.order.proofs.step_4.Tie as tie

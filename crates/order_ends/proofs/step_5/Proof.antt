@@ -2,10 +2,10 @@
 -- Assumes nothing.
 use mathlib.Core.Path.{sym, _∙_}
 use Rattle.rules.specs.Words.{wrongParameters}
-use Rattle.order.proofs.Routing.{routes-as, ends-route, step5-listed, step5-unlisted, begun-paths}
+use Rattle.order_ends.proofs.Ending.{routes-as, ends-route, step5-listed, step5-unlisted, begun-paths}
 use borrow.Author.Needs.{needs}
-use Rattle.order.proofs.step_5.Statement.{statement}
-use Rattle.order.proofs.step_5.Tie as tie
+use Rattle.order_ends.proofs.step_5.Statement.{statement}
+use Rattle.order_ends.proofs.step_5.Tie as tie
 
 shared-slice-read-p1 : tie.Need-shared-slice-read-p1
 shared-slice-read-p1 c = search needs

@@ -1,10 +1,10 @@
 -- The checks hold, or the route ends with the word of the one that does not and the command's fault offset.
 -- Assumes nothing.
 use mathlib.Core.Path.{sym, _∙_}
-use Rattle.order.proofs.Routing.{ends-at-route, step6-goes, step6-ends}
+use Rattle.order_ends.proofs.Ending.{ends-at-route, step6-goes, step6-ends}
 use borrow.Author.Needs.{needs}
-use Rattle.order.proofs.step_6.Statement.{statement}
-use Rattle.order.proofs.step_6.Tie as tie
+use Rattle.order_ends.proofs.step_6.Statement.{statement}
+use Rattle.order_ends.proofs.step_6.Tie as tie
 
 judge-requires : tie.Need-judge-requires
 judge-requires c κs = search needs

@@ -21,7 +21,7 @@ use Rattle.rules.specs.declared.Instruction.{Instruction}
 use Rattle.rules.specs.Words.{securityNotMet, fails}
 use Rattle.rules.specs.Channel.{sessionOf, withMac, tell}
 use Rattle.rules.specs.Steps.{then, finish, ends, headerOf, openedBy, byOpening, step5}
-use Rattle.order.specs.Routes.{fromOpening, fromStep5}
+use Rattle.order_ends.specs.Routes.{fromOpening, fromStep5}
 
 header-is : (cmd : List ℕ) → 4 ≤ length cmd → (getD cmd 0 0 ∷ getD cmd 1 0 ∷ getD cmd 2 0 ∷ getD cmd 3 0 ∷ []) ≡ headerOf cmd
 header-is [] h = absurd (omega (arith, h))

@@ -8,11 +8,11 @@ use lib.ListN.{length, length-take}
 use Rattle.card.specs.State.{closed}
 use Rattle.rules.specs.Channel.{withMac}
 use Rattle.rules.specs.Words.{securityNotMet}
-use Rattle.order.proofs.Routing.{stored, routes-as, ends-route}
-use Rattle.order.proofs.Opened.{opens-as, open-none, open-long, open-within, open-goes, open-stored}
+use Rattle.order_ends.proofs.Ending.{stored, routes-as, ends-route}
+use Rattle.order_opens.proofs.Opened.{opens-as, open-none, open-long, open-within, open-goes, open-stored}
 use borrow.Author.Needs.{needs}
-use Rattle.order.proofs.step_4_opens.Statement.{statement}
-use Rattle.order.proofs.step_4_opens.Tie as tie
+use Rattle.order_opens.proofs.step_4_opens.Statement.{statement}
+use Rattle.order_opens.proofs.step_4_opens.Tie as tie
 
 session-of-requires : tie.Need-session-of-requires
 session-of-requires c κs = search needs

@@ -13,7 +13,7 @@ use Rattle.rules.specs.Rules.{noFault}
 use Rattle.rules.specs.Channel.{tell}
 use Rattle.rules.specs.Steps.{then, Opened, Decision, endsAt, finish, byOpening, openedBy, step3, step4, step5, pastStep1, checksOf, supplyOf, replyOf}
 use Rattle.command_table.specs.Fits.{PathsFit}
-use Rattle.order.specs.declared.Way.{Way}
+use Rattle.order_ends.specs.declared.Way.{Way}
 
 -- ---- what is decided from a step on
 abbrev pub fromStep5 : Instruction → List ℕ → Card → List ℕ → Decision
