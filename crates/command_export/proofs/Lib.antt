@@ -1,3 +1,2 @@
-pub mod CheckFacts
-pub mod PathFacts
-pub mod ExportReplies
+mod CheckFacts
+mod ExportReplies

@@ -6,8 +6,8 @@ use lib.Dec.{eqb}
 use Rattle.rules.specs.Commands.{isVerified, isExportData, exportedPath, mayGoOut, exportChecks}
 use Rattle.command_parts.proofs.CheckFacts.{check-then}
 use borrow.Author.Needs.{needs}
-use Rattle.command_export.proofs.export_verdict.Statement.{statement}
-use Rattle.command_export.proofs.export_verdict.Tie as tie
+use Rattle.command_export_checks.proofs.export_verdict.Statement.{statement}
+use Rattle.command_export_checks.proofs.export_verdict.Tie as tie
 
 is-export-data-requires : tie.Need-is-export-data-requires
 is-export-data-requires c κs = search needs

@@ -4,10 +4,10 @@ use mathlib.Core.Path.{refl}
 use native.Mathlib.Omega.{arith}
 use Rattle.rules.specs.Supplies.{pairFirstSupply}
 use Rattle.command_parts.proofs.SupplyFacts.{suits-long, within}
-use Rattle.command_pair.proofs.ReplyFacts.{first-replied}
+use Rattle.command_pair_first.proofs.ReplyFacts.{first-replied}
 use borrow.Author.Needs.{needs}
-use Rattle.command_pair.proofs.pair_first.Statement.{statement}
-use Rattle.command_pair.proofs.pair_first.Tie as tie
+use Rattle.command_pair_first.proofs.pair_first.Statement.{statement}
+use Rattle.command_pair_first.proofs.pair_first.Tie as tie
 
 key-part-requires : tie.Need-key-part-requires
 key-part-requires c κs = search needs

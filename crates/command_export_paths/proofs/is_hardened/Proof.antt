@@ -1,10 +1,10 @@
 -- The four bytes of the component, one by one.
 -- Assumes nothing.
 use mathlib.Core.Path.{sym}
-use Rattle.command_export.proofs.PathFacts.{same-four}
+use Rattle.command_export_paths.proofs.PathFacts.{same-four}
 use borrow.Author.Needs.{needs}
-use Rattle.command_export.proofs.is_hardened.Statement.{statement}
-use Rattle.command_export.proofs.is_hardened.Tie as tie
+use Rattle.command_export_paths.proofs.is_hardened.Statement.{statement}
+use Rattle.command_export_paths.proofs.is_hardened.Tie as tie
 
 shared-slice-read-first : tie.Need-shared-slice-read-first
 shared-slice-read-first c = search needs

@@ -4,10 +4,10 @@ use mathlib.Core.Path.{_≡_, ap, _∙_}
 use native.Mathlib.Omega.{arith}
 use lib.ListN.{length, replicate, length-append}
 use Rattle.sha_rules.specs.Hash.{sha256}
-use Rattle.command_pair.proofs.ReplyFacts.{wrote-whole}
+use Rattle.command_pair_first.proofs.ReplyFacts.{wrote-whole}
 use borrow.Author.Needs.{needs}
-use Rattle.command_pair.proofs.with_secret.Statement.{statement}
-use Rattle.command_pair.proofs.with_secret.Tie as tie
+use Rattle.command_pair_first.proofs.with_secret.Statement.{statement}
+use Rattle.command_pair_first.proofs.with_secret.Tie as tie
 
 slice-aggregate-put-both : tie.Need-slice-aggregate-put-both
 slice-aggregate-put-both c = search needs

@@ -3,10 +3,10 @@
 use mathlib.Core.Path.{sym, ap₂, _∙_}
 use mathlib.Core.Bool.{_&&_}
 use native.Mathlib.Omega.{arith}
-use Rattle.command_export.proofs.PathFacts.{eip-short, eip-long}
+use Rattle.command_export_paths.proofs.PathFacts.{eip-short, eip-long}
 use borrow.Author.Needs.{needs}
-use Rattle.command_export.proofs.in_eip_1581.Statement.{statement}
-use Rattle.command_export.proofs.in_eip_1581.Tie as tie
+use Rattle.command_export_paths.proofs.in_eip_1581.Statement.{statement}
+use Rattle.command_export_paths.proofs.in_eip_1581.Tie as tie
 
 returns : tie.Need-returns
 returns c = sym (eip-short (c .before .before .args .path .now) (omega (arith, c .if1 .taken)))

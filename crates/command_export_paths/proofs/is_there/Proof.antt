@@ -7,8 +7,8 @@ use lib.ListN.{length, take}
 use lib.Seq.{length-take-le}
 use Rattle.rules.specs.Commands.{inEip1581}
 use borrow.Author.Needs.{needs}
-use Rattle.command_export.proofs.is_there.Statement.{statement}
-use Rattle.command_export.proofs.is_there.Tie as tie
+use Rattle.command_export_paths.proofs.is_there.Statement.{statement}
+use Rattle.command_export_paths.proofs.is_there.Tie as tie
 
 wide-requires : tie.Need-wide-requires
 wide-requires c κs = search needs

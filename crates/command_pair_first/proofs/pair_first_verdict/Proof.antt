@@ -2,8 +2,8 @@
 -- Assumes nothing.
 use borrow.Author.Needs.{needs}
 use Rattle.rules.specs.Commands.{pairFirstChecks}
-use Rattle.command_pair.proofs.pair_first_verdict.Statement.{statement}
-use Rattle.command_pair.proofs.pair_first_verdict.Tie as tie
+use Rattle.command_pair_first.proofs.pair_first_verdict.Statement.{statement}
+use Rattle.command_pair_first.proofs.pair_first_verdict.Tie as tie
 
 has-free-requires : tie.Need-has-free-requires
 has-free-requires c κs = search needs

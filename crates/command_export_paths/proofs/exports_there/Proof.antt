@@ -1,8 +1,8 @@
 -- By cases on P1: the current path, or the given one.
 -- Assumes nothing.
 use borrow.Author.Needs.{needs}
-use Rattle.command_export.proofs.exports_there.Statement.{statement}
-use Rattle.command_export.proofs.exports_there.Tie as tie
+use Rattle.command_export_paths.proofs.exports_there.Statement.{statement}
+use Rattle.command_export_paths.proofs.exports_there.Tie as tie
 
 is-there-requires : tie.Need-is-there-requires
 is-there-requires c κs = search needs

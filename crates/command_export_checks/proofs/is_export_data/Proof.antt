@@ -2,8 +2,8 @@
 -- Assumes nothing.
 use mathlib.Core.Path.{refl}
 use borrow.Author.Needs.{needs}
-use Rattle.command_export.proofs.is_export_data.Statement.{statement}
-use Rattle.command_export.proofs.is_export_data.Tie as tie
+use Rattle.command_export_checks.proofs.is_export_data.Statement.{statement}
+use Rattle.command_export_checks.proofs.is_export_data.Tie as tie
 
 enum-told : tie.Need-enum-told
 enum-told c = search needs

@@ -1,8 +1,8 @@
 -- By cases on P2.
 -- Assumes nothing.
 use borrow.Author.Needs.{needs}
-use Rattle.command_export.proofs.may_go_out.Statement.{statement}
-use Rattle.command_export.proofs.may_go_out.Tie as tie
+use Rattle.command_export_paths.proofs.may_go_out.Statement.{statement}
+use Rattle.command_export_paths.proofs.may_go_out.Tie as tie
 
 enum-told : tie.Need-enum-told
 enum-told c = search needs
