@@ -487,8 +487,8 @@ tw_walked tw_walk(const uint8_t *input, size_t input_bytes);
    Refusals, in this order: TW_ROOM (buf_bytes under 32, however few the words), TW_WRONG_COUNT (words_bytes is not 24, 30, 36, 42 or 48),
    TW_NUMBER_TOO_LARGE (a number is over 2047), TW_WRONG_CHECKSUM (the bits after the entropy are not the first of its SHA-256: a word was
    copied wrongly, or two have changed places).
-   Words and entropy are secrets: whoever has either of them has the wallet. Pieces of both are on the stack afterwards, and tw_wipe_stack
-   wipes it; tw_wipe is for words and buffer.
+   Words and entropy are secrets: whoever has either of them has the wallet. The call leaves pieces of the entropy on the stack, which
+   tw_wipe_stack wipes; tw_wipe is for words and buffer.
    The caller ensures:
    - words: words_bytes bytes, valid to read, and written by no one during the call;
    - buf: buf_bytes bytes, valid to read and write, overlapping no other argument, and used by no other thread during the call;
