@@ -21,7 +21,7 @@ use Rattle.rules.specs.Words.{conditionsNotMet, unknownInstruction, word, fails
 use Rattle.rules.specs.Rows.{rowOf, class80, offered}
 use Rattle.rules.specs.Channel.{plainly}
 use Rattle.rules.specs.Steps.{stops, step1, dataOf, withByte, onCard, nameOf, isInitialised, step4, pastStep1, arrival}
-use Rattle.rules.specs.Engine.{AnswerOut, answerOut}
+use Rattle.rules.specs.Engine.{AnswerOut}
 use Rattle.laws_engine.proofs.Sound.{step1-keeps}
 use Rattle.laws_exchange.proofs.Unlisted.{answer-stops}
 use Rattle.claims.specs.Slots.{Supposed}
