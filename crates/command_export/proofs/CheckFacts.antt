@@ -1,7 +1,7 @@
--- A chain of checks, one by one, and what EXPORT's checks say of the data. Every length is in bytes.
+-- What EXPORT's checks say of the data. Every length is in bytes.
 -- Assumes nothing.
-use mathlib.Core.Path.{_≡_, ap₂, _∙_}
-use mathlib.Core.Bool.{Bool, true, cond}
+use mathlib.Core.Path.{_≡_}
+use mathlib.Core.Bool.{true}
 use mathlib.Core.List.{List}
 use Prim.Native.Nat.{ℕ, _≤_, _%_}
 use native.Mathlib.Omega.{arith}
@@ -14,15 +14,8 @@ use Rattle.card.specs.declared.Keys.{Keys}
 use Rattle.rules.specs.declared.ExportPath.{ExportPath}
 use Rattle.rules.specs.declared.ExportPath.the-variants as exportPath
 use Rattle.rules.specs.declared.ExportPart.{ExportPart}
-use Rattle.rules.specs.declared.Verdict.{Verdict}
-use Rattle.rules.specs.declared.Verdict.the-variants.{Fails}
 use Rattle.rules.specs.Words.{Hold}
 use Rattle.rules.specs.Commands.{isExportData, exportChecks}
-
--- ---- a check: its test b is d, and the verdict m after it is n
-module _ (w : ℕ) (b d : Bool) (m : Verdict) {n v : Verdict} where
-  pub check-then : v ≡ cond b m (Fails w) → b ≡ d → m ≡ n → v ≡ cond d n (Fails w)
-  check-then e f g = e ∙ ap₂ (λ (x : Bool) (y : Verdict). cond x y (Fails w)) f g
 
 -- ---- isExportData: at most 40 bytes, whatever P1 is
 data-long : (which : ExportPath) (d : List ℕ) → isExportData which d ≡ true → length d ≤ 40

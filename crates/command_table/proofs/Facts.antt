@@ -26,7 +26,7 @@ module _ (k known : Command) (e : k ≡ known) where
 
 -- ---- place: the commands by their numbers in the enum, all but LOAD, which is 11
 abbrev others : List ℕ
-others = 0 ∷ 1 ∷ 2 ∷ 3 ∷ 4 ∷ 5 ∷ 6 ∷ 7 ∷ 8 ∷ 9 ∷ 10 ∷ 12 ∷ 13 ∷ 14 ∷ 15 ∷ 16 ∷ 17 ∷ []
+others = 0 ∷ 1 ∷ 2 ∷ 3 ∷ 4 ∷ 5 ∷ 6 ∷ 7 ∷ 8 ∷ 9 ∷ 10 ∷ 12 ∷ 13 ∷ 14 ∷ 15 ∷ 16 ∷ 17 ∷ 18 ∷ []
 
 pub no-place : (k : Command) (d : List ℕ) → OneOf others (tagOf the-type k) → noFault ≡ ruleOf k .place d
 no-place k d h =

@@ -49,6 +49,7 @@ pub fn judge(card: Card, k: Command, data: &[u8]) -> Verdict
             command_export::export_verdict(pins, keys, which, what, data)
         }
         Command::SetNdef => command_ndef::ndef_verdict(pins, data),
+        Command::Mnemonic(which) => command_mnemonic::mnemonic_verdict(which, data),
     }
 }
 
@@ -79,6 +80,7 @@ pub fn act(card: Card, k: Command, data: &[u8], supply: &[u8], out: &mut [u8]) -
             command_export::export(card, which, what, data, supply, out)
         }
         Command::SetNdef => command_ndef::ndef(card, data),
+        Command::Mnemonic(which) => command_mnemonic::mnemonic(card, which, supply, out),
     }
 }
 

@@ -7,12 +7,13 @@ use Rattle.channel_rules.specs.declared.Session.{Session}
 use Rattle.rules.specs.declared.Answered.{Answered}
 use Rattle.channel_terminal.specs.declared.Outcome.{Outcome}
 use Rattle.template_walk.specs.Walk.{WalkOut}
+use Rattle.phrase_reverse.specs.declared.Entropy.{Entropy}
 use Rattle.library_calls.specs.declared.Counted.{Counted}
 use Rattle.library_calls.specs.declared.AnswerTold.{AnswerTold}
 use Rattle.library_calls.specs.declared.WalkTold.{WalkTold}
-use Rattle.library_calls.specs.Left.{answeredOf, sessionOutcome, walkOutOf}
+use Rattle.library_calls.specs.Left.{answeredOf, sessionOutcome, walkOutOf, entropyOf}
 
--- what is told of an answer, of an outcome, and of WALK
+-- what is told of an answer, of an outcome, of WALK and of ENTROPY
 abbrev ofAnswered : Answered → AnswerTold
 ofAnswered a = record { refusal = a .refusal; count = a .count; «fault_offset» = a .«fault_offset» }
 
@@ -22,6 +23,9 @@ ofOutcome o = record { refusal = o .refusal; count = o .count }
 abbrev ofWalk : WalkOut → WalkTold
 ofWalk w = record { refusal = w .refusal; count = w .count; «fault_offset» = w .offset }
 
+abbrev ofEntropy : Entropy → Counted
+ofEntropy e = record { refusal = e .refusal; count = e .count }
+
 pub answered-told : (r s : AnswerTold) (c : Card) → answeredOf r c ≡ answeredOf s c → r ≡ s
 answered-told r s c e = ap ofAnswered e
 
@@ -30,3 +34,6 @@ session-told r s k e = ap ofOutcome e
 
 pub walk-told : (r s : WalkTold) → walkOutOf r ≡ walkOutOf s → r ≡ s
 walk-told r s e = ap ofWalk e
+
+pub entropy-told : (r s : Counted) → entropyOf r ≡ entropyOf s → r ≡ s
+entropy-told r s e = ap ofEntropy e

@@ -8,6 +8,7 @@ use Rattle.rules.specs.declared.Answered.{Answered}
 use Rattle.channel_terminal.specs.declared.Outcome.{Outcome}
 use Rattle.record_write.specs.declared.Written.{Written}
 use Rattle.template_walk.specs.Walk.{WalkOut}
+use Rattle.phrase_reverse.specs.declared.Entropy.{Entropy}
 use Rattle.library_calls.specs.declared.Counted.{Counted}
 use Rattle.library_calls.specs.declared.AnswerTold.{AnswerTold}
 use Rattle.library_calls.specs.declared.WalkTold.{WalkTold}
@@ -27,6 +28,10 @@ sessionOutcome r s = record { refusal = r .refusal; count = r .count; session = 
 -- WRITE too
 abbrev pub writtenOf : Counted → Written
 writtenOf r = record { refusal = r .refusal; count = r .count }
+
+-- and ENTROPY
+abbrev pub entropyOf : Counted → Entropy
+entropyOf r = record { refusal = r .refusal; count = r .count }
 
 -- WALK tells the refusal's number, the count and the fault offset
 abbrev pub walkOutOf : WalkTold → WalkOut

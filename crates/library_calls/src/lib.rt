@@ -26,7 +26,7 @@ pub const TAP_RECORD: u8 = 1;
 
 pub const TAP_FACTORY: u8 = 2;
 
-// What SEAL, UNSEAL and WRITE report: the refusal's number, or 0 for none, and how many bytes they wrote from the buffer's start.
+// What SEAL, UNSEAL, WRITE and ENTROPY report: the refusal's number, or 0 for none, and how many bytes they wrote from the buffer's start.
 #[repr(C)]
 pub struct Counted {
     pub refusal: u8,

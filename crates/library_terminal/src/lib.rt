@@ -1,4 +1,4 @@
-// SEAL, UNSEAL and WALK for callers in C and Rust (RULES 3.8; include/treadlewisp.h). The session is lent, and changed where it lies.
+// SEAL, UNSEAL, WALK and ENTROPY for callers in C and Rust (RULES 3.8; include/treadlewisp.h). The session is lent, and changed where it lies.
 // Every length, room, count and offset is in bytes (WALK counts fields); a refusal 0 means that there was none.
 // Proved: the promises of the operations by value, over the session at entry and at exit; refused, it is as it was.
 ghost use mathlib.Core.Path.{_≡_};
@@ -6,7 +6,8 @@ ghost use lib.ListN.{length};
 ghost use Rattle.channel_rules.specs.Terminal.{sealOut, unsealOut};
 ghost use Rattle.channel_terminal.specs.Did.{Did};
 ghost use Rattle.template_walk.specs.Walk.{WALK};
-ghost use Rattle.library_calls.specs.Left.{sessionOutcome, walkOutOf};
+ghost use Rattle.phrase_reverse.specs.Reversed.{Reversed};
+ghost use Rattle.library_calls.specs.Left.{sessionOutcome, walkOutOf, entropyOf};
 use channel_rules::Session;
 use library_calls::Counted;
 use library_calls::WalkTold;
@@ -60,4 +61,15 @@ pub extern "C" fn tw_walk(input: &[u8]) -> WalkTold
         count,
         fault_offset,
     }
+}
+
+// ENTROPY: from the bytes of a recovery phrase's word numbers back to its entropy (RULES 7.12).
+#[no_mangle]
+pub extern "C" fn tw_entropy(words: &[u8], buf: &mut [u8]) -> Counted
+    ensures { λ r. ⌜ Reversed (now (words .entry)) (entropyOf r) (now (buf .entry)) (now (buf .exit)) ⌝ }
+{
+    let told = phrase_reverse::entropy_of(words, buf);
+    let refusal = told.refusal;
+    let count = told.count;
+    Counted { refusal, count }
 }

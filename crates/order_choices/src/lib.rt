@@ -17,6 +17,7 @@ use rules::ExportPart;
 use rules::ExportPath;
 use rules::Instruction;
 use rules::KeyForm;
+use rules::Phrase;
 use rules::SecretKind;
 use rules::StatusKind;
 
@@ -135,6 +136,22 @@ fn export(p1: u8, p2: u8) -> Choice
     }
 }
 
+fn mnemonic(p1: u8, p2: u8) -> Choice
+    ensures { λ r. ⌜ r ≡ choiceOf (rowOf ins.Mnemonic .lists p1 p2) ⌝ }
+{
+    if p2 != 0 {
+        return Choice::Unlisted;
+    }
+    match p1 {
+        0x04 => Choice::Listed(Command::Mnemonic(Phrase::Words12)),
+        0x05 => Choice::Listed(Command::Mnemonic(Phrase::Words15)),
+        0x06 => Choice::Listed(Command::Mnemonic(Phrase::Words18)),
+        0x07 => Choice::Listed(Command::Mnemonic(Phrase::Words21)),
+        0x08 => Choice::Listed(Command::Mnemonic(Phrase::Words24)),
+        _ => Choice::Unlisted,
+    }
+}
+
 // Step 5: P1 and P2.
 pub fn choose(i: Instruction, p1: u8, p2: u8) -> Choice
     ensures { λ r. ⌜ r ≡ choiceOf (rowOf i .lists p1 p2) ⌝ }
@@ -157,5 +174,6 @@ pub fn choose(i: Instruction, p1: u8, p2: u8) -> Choice
         Instruction::Sign => only(0x00, Command::Sign, p1, p2),
         Instruction::Export => export(p1, p2),
         Instruction::SetNdef => only(0x00, Command::SetNdef, p1, p2),
+        Instruction::Mnemonic => mnemonic(p1, p2),
     }
 }

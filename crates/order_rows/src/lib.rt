@@ -14,6 +14,7 @@ use rules::INS_DERIVE;
 use rules::INS_EXPORT;
 use rules::INS_INIT;
 use rules::INS_LOAD;
+use rules::INS_MNEMONIC;
 use rules::INS_MUTUAL;
 use rules::INS_OPEN;
 use rules::INS_PAIR;
@@ -52,6 +53,7 @@ fn of_class_80(ins: u8) -> Named
         INS_SIGN => Named::Known(Instruction::Sign),
         INS_EXPORT => Named::Known(Instruction::Export),
         INS_SET_NDEF => Named::Known(Instruction::SetNdef),
+        INS_MNEMONIC => Named::Known(Instruction::Mnemonic),
         _ => Named::Unknown,
     }
 }
@@ -106,6 +108,7 @@ fn row_of(i: Instruction) -> Row
         Instruction::Sign => entry(Offer::AfterInit, STAGE_AUTHENTICATED, Loss::Nothing),
         Instruction::Export => entry(Offer::AfterInit, STAGE_AUTHENTICATED, Loss::Nothing),
         Instruction::SetNdef => entry(Offer::AfterInit, STAGE_AUTHENTICATED, Loss::Nothing),
+        Instruction::Mnemonic => entry(Offer::AfterInit, STAGE_AUTHENTICATED, Loss::Nothing),
     }
 }
 

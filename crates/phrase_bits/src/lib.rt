@@ -11,6 +11,9 @@ pub const BYTE_BITS: usize = 8;
 
 pub const NUMBER_BITS: usize = 11;
 
+// An entropy has 4 bytes for each bit of its checksum.
+pub const ENTROPY_BYTES_PER_CHECKSUM_BIT: usize = 4;
+
 // How many numbers of 11 bits there are.
 const NUMBERS: u32 = 2048;
 

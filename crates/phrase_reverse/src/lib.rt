@@ -9,6 +9,7 @@ ghost use lib.ListN.{length, take};
 ghost use Rattle.refusals.specs.Refusals.{noRefusal};
 ghost use Rattle.phrase_rules.specs.Reverse.{entropyIn, Counted, must, wordsRefusal};
 ghost use Rattle.phrase_reverse.specs.Reversed.{Reversed};
+use phrase_bits::ENTROPY_BYTES_PER_CHECKSUM_BIT;
 use phrase_checks::WORD_BYTES_PER_CHECKSUM_BIT;
 use phrase_checks::in_eleven_bits;
 use phrase_checks::is_checked;
@@ -19,9 +20,6 @@ use refusals::REFUSAL_NUMBER_TOO_LARGE;
 use refusals::REFUSAL_ROOM;
 use refusals::REFUSAL_WRONG_CHECKSUM;
 use refusals::REFUSAL_WRONG_COUNT;
-
-// The entropy has 4 bytes for each bit of the checksum.
-const ENTROPY_BYTES_PER_CHECKSUM_BIT: usize = 4;
 
 // What is answered: the refusal's number, or 0 for none, and how many bytes of entropy were written.
 pub struct Entropy {

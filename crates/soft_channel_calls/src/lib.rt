@@ -1,11 +1,14 @@
-// The soft card's calls of commands and of the terminal's end: ASK, ANSWER, SEAL, UNSEAL, all four in a row, WALK, and the session.
+// The soft card's calls of commands and of the terminal's end: ASK, ANSWER, SEAL, UNSEAL, all four in a row, WALK, ENTROPY, and the session.
 // Every length, room, count and offset is in bytes.
 // Proved: every function is safe and ends.
 use soft_card_bytes::SESSION_BYTES;
 use soft_state::Desk;
+use soft_state::Last;
 use soft_state::args;
 use soft_word_bytes::VALUE_MAX_BYTES;
 use text_print::say;
+
+const STATUS_WORD_BYTES: usize = 2;
 
 pub fn ask(d: Desk, line: &[u8]) {
     let mut cmd = [0u8; VALUE_MAX_BYTES];
@@ -105,17 +108,49 @@ fn session_kept(before: Desk, d: Desk) -> Desk {
     soft_state::with_session(d, session)
 }
 
-// The card's answer, which is the last, is unsealed.
-fn opened(d: Desk) -> Desk {
+fn status_word(high: u8, low: u8) -> u16 {
+    high as u16 * 256 + low as u16
+}
+
+// The word numbers before a response's status word, if that is 9000.
+fn say_numbers(response: &[u8]) {
+    let n = response.len();
+    if n < STATUS_WORD_BYTES {
+        return;
+    }
+    if status_word(response[n - 2], response[n - 1]) == rules::SUCCESS {
+        let end = text_fill::bounded(n - STATUS_WORD_BYTES, response);
+        soft_names::say_words(&response[..end]);
+    }
+}
+
+// What was opened of the response to a command with this instruction byte: GENERATE MNEMONIC's word numbers.
+fn say_opened(done: bool, ins: u8, response: &[u8]) {
+    if done && ins == rules::INS_MNEMONIC {
+        say_numbers(response);
+    }
+}
+
+fn say_last(done: bool, ins: u8, last: Last) {
+    let bytes = last.bytes;
+    let n = text_fill::bounded(last.len, &bytes);
+    say_opened(done, ins, &bytes[..n]);
+}
+
+// The card's answer, which is the last, is unsealed; `ins` is the command's instruction byte.
+fn opened(d: Desk, ins: u8) -> Desk {
     let last = d.last;
     let bytes = last.bytes;
     let n = text_fill::bounded(last.len, &bytes);
     let step = soft_steps::unseal(d, &bytes[..n], refusals::UNSEAL_ROOM_BYTES);
-    shown(step.desk)
+    let next = step.desk;
+    say_last(step.done, ins, next.last);
+    shown(next)
 }
 
-// The sealed command, which is the last, is asked about and answered; `before` is the desk before it was sealed, and `data` what was sealed.
-fn exchanged(before: Desk, d: Desk, data: &[u8], supply: &[u8]) -> Desk {
+// The sealed command, which is the last, is asked about and answered; `before` is the desk before it was sealed, `ins` its instruction byte,
+// and `data` what was sealed.
+fn exchanged(before: Desk, d: Desk, ins: u8, data: &[u8], supply: &[u8]) -> Desk {
     let last = d.last;
     let bytes = last.bytes;
     let n = text_fill::bounded(last.len, &bytes);
@@ -126,7 +161,7 @@ fn exchanged(before: Desk, d: Desk, data: &[u8], supply: &[u8]) -> Desk {
     let step = soft_steps::answer(d, &bytes[..n], supply, refusals::ANSWER_ROOM_BYTES);
     say_fault(data, step.fault_offset);
     if step.done {
-        opened(step.desk)
+        opened(step.desk, ins)
     } else {
         session_kept(before, d)
     }
@@ -150,7 +185,7 @@ fn send_with(d: Desk, line: &[u8], header: [u8; 4]) -> Desk {
         return d;
     }
     let m = text_fill::bounded(u.len, &supply);
-    exchanged(d, step.desk, &plain[..n], &supply[..m])
+    exchanged(d, step.desk, header[1], &plain[..n], &supply[..m])
 }
 
 pub fn send(d: Desk, line: &[u8]) -> Desk {
@@ -191,6 +226,21 @@ pub fn walk(d: Desk, line: &[u8]) {
     }
     let n = text_fill::bounded(t.len, &input);
     walk_in(&input[..n]);
+}
+
+// ---- ENTROPY
+pub fn entropy(d: Desk, line: &[u8]) -> Desk {
+    let mut words = [0u8; VALUE_MAX_BYTES];
+    let t = args::take(line, 1, b"WORDS", d.last, &mut words);
+    if !t.ok {
+        return d;
+    }
+    let room = args::room(line, 2, refusals::ENTROPY_ROOM_BYTES);
+    if !room.ok {
+        return d;
+    }
+    let n = text_fill::bounded(t.len, &words);
+    soft_steps::entropy(d, &words[..n], room.len)
 }
 
 // ---- the session

@@ -102,6 +102,15 @@ fn say_high(refusal: u8) {
     }
 }
 
+// The refusals of word numbers.
+fn say_numbers(refusal: u8) {
+    match refusal {
+        9 => say(b"not 12, 15, 18, 21 or 24 numbers of 2 bytes"),
+        10 => say(b"a number is over 2047"),
+        _ => say(b"the checksum differs"),
+    }
+}
+
 // A refusal: its number, and what it means where the operation asks for a buffer of `room_bytes`.
 pub fn say_refusal(refusal: u8, room_bytes: usize) {
     say(b"refusal ");
@@ -109,7 +118,9 @@ pub fn say_refusal(refusal: u8, room_bytes: usize) {
     say(b", ");
     if refusal < 5 {
         say_low(refusal, room_bytes);
-    } else {
+    } else if refusal < 9 {
         say_high(refusal);
+    } else {
+        say_numbers(refusal);
     }
 }

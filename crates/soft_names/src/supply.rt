@@ -17,7 +17,8 @@ fn say_last_kinds(kind: u8) {
         6 => say(b"LOAD: 66 bytes: flag, public key 65"),
         7 => say(b"DERIVE: 1 byte: flag"),
         8 => say(b"SIGN: 129 bytes: public key 65, r 32, s 32"),
-        _ => say(b"EXPORT: 98 bytes: flag, public key 65, private key 32"),
+        9 => say(b"EXPORT: 98 bytes: flag, public key 65, private key 32"),
+        _ => say(b"MNEMONIC: 4 times P1 bytes: entropy"),
     }
 }
 

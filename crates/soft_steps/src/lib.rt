@@ -1,4 +1,4 @@
-// The operations that write to a buffer, and what the soft card says of their results: ASK, ANSWER, SEAL, UNSEAL, WRITE.
+// The operations that write to a buffer, and what the soft card says of their results: ASK, ANSWER, SEAL, UNSEAL, WRITE, ENTROPY.
 // Every length, room, count and offset is in bytes.
 // Proved: every function is safe and ends.
 use soft_card_bytes::CARD_BYTES;
@@ -143,4 +143,20 @@ pub fn write(d: Desk, room_bytes: usize) -> Desk {
     let mut buf = [0u8; VALUE_MAX_BYTES];
     let n = text_fill::bounded(room_bytes, &buf);
     write_in(d, &mut buf[..n])
+}
+
+fn entropy_in(d: Desk, words: &[u8], buf: &mut [u8]) -> Desk {
+    let r = phrase_reverse::entropy_of(words, buf);
+    if r.refusal != 0 {
+        say_refused(b"entropy:", r.refusal, refusals::ENTROPY_ROOM_BYTES);
+        return d;
+    }
+    wrote(d, b"entropy:", buf, r.count, false)
+}
+
+// ENTROPY.
+pub fn entropy(d: Desk, words: &[u8], room_bytes: usize) -> Desk {
+    let mut buf = [0u8; VALUE_MAX_BYTES];
+    let n = text_fill::bounded(room_bytes, &buf);
+    entropy_in(d, words, &mut buf[..n])
 }

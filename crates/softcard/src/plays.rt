@@ -19,6 +19,7 @@ enum Call {
     Unseal,
     Send,
     Walk,
+    Entropy,
     Session,
     Help,
     Unknown,
@@ -71,6 +72,9 @@ fn channel_call(line: &[u8]) -> Call {
     if is_word(line, 0, b"walk") {
         return Call::Walk;
     }
+    if is_word(line, 0, b"entropy") {
+        return Call::Entropy;
+    }
     if is_word(line, 0, b"session") {
         return Call::Session;
     }
@@ -105,6 +109,7 @@ fn takes(call: Call, n: usize) -> bool {
         Call::Unseal => n == 2 || n == 4,
         Call::Send => n == 4,
         Call::Walk => n == 2,
+        Call::Entropy => n == 2 || n == 4,
         Call::Session => n == 1 || n == 2 || n == 4,
         Call::Help => n == 1,
         Call::Unknown => false,
@@ -132,6 +137,7 @@ fn more_help() {
     say(
         b"walk BYTES                     how many fields that are no templates, or the faulty field\n",
     );
+    say(b"entropy WORDS [room N]         the entropy of the word numbers of a recovery phrase\n");
     card_help();
 }
 
@@ -188,6 +194,7 @@ fn play_channel(d: Desk, call: Call, line: &[u8]) -> Desk {
         Call::Seal => soft_channel_calls::seal(d, line),
         Call::Unseal => soft_channel_calls::unseal(d, line),
         Call::Send => soft_channel_calls::send(d, line),
+        Call::Entropy => soft_channel_calls::entropy(d, line),
         Call::Session => soft_channel_calls::session(d, line),
         Call::Ask => {
             soft_channel_calls::ask(d, line);

@@ -4,7 +4,7 @@ use mathlib.Core.Path.{refl}
 use mathlib.Core.Bool.{_&&_}
 use lib.Dec.{eqb}
 use Rattle.rules.specs.Commands.{isVerified, isExportData, exportedPath, mayGoOut, exportChecks}
-use Rattle.command_export.proofs.CheckFacts.{check-then}
+use Rattle.command_parts.proofs.CheckFacts.{check-then}
 use borrow.Author.Needs.{needs}
 use Rattle.command_export.proofs.export_verdict.Statement.{statement}
 use Rattle.command_export.proofs.export_verdict.Tie as tie

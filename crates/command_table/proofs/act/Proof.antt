@@ -158,6 +158,14 @@ unfolding ruleOf
 ndef-requires c κs = let b5 = c .before .before .before .before .before in
     checked _ _ (c .enum-told13 .given .1) _ _ (b5 .pre .0 .0)
 
+enum-known-k-6 : tie.Need-enum-known-k-6
+enum-known-k-6 c = search needs
+
+mnemonic-requires : tie.Need-mnemonic-requires
+unfolding ruleOf
+mnemonic-requires c κs = let b7 = c .before .before .before .before .before .before .before in
+    (suited _ _ (c .before .before .k6 .given .1) _ (b7 .pre .0 .1), b7 .pre .1 .1)
+
 same-length : tie.Need-same-length
 same-length c = search needs
 
@@ -266,6 +274,14 @@ returns-18 : tie.Need-returns-18
 unfolding ruleOf
 returns-18 c = rw (c .before .enum-told13 .given .1) (silent _ (ndef-response _ _) (c .ndef .ensures))
 
+same-length-10 : tie.Need-same-length-10
+same-length-10 c = search needs
+
+returns-19 : tie.Need-returns-19
+unfolding ruleOf
+returns-19 c = let b5 = c .before .before .before .before .before in
+    rw (b5 .k6 .given .1) (c .before .before .mnemonic .ensures)
+
 pub act-spec : {M : Type 1} → statement M
 act-spec =
     tie.close
@@ -306,6 +322,8 @@ act-spec =
     export-requires
     enum-told-13
     ndef-requires
+    enum-known-k-6
+    mnemonic-requires
     same-length
     returns
     returns-2
@@ -332,4 +350,6 @@ act-spec =
     returns-16
     same-length-9
     returns-17
-    returns-18)
+    returns-18
+    same-length-10
+    returns-19)

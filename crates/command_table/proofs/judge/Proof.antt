@@ -113,6 +113,12 @@ enum-told-14 c = search needs
 ndef-verdict-requires : tie.Need-ndef-verdict-requires
 ndef-verdict-requires c κs = search needs
 
+enum-known-k-5 : tie.Need-enum-known-k-5
+enum-known-k-5 c = search needs
+
+mnemonic-verdict-requires : tie.Need-mnemonic-verdict-requires
+mnemonic-verdict-requires c κs = search needs
+
 returns : tie.Need-returns
 unfolding ruleOf
 returns c = rw (c .before .enum-told .given .1, c .select-verdict .ensures)
@@ -185,6 +191,10 @@ returns-18 : tie.Need-returns-18
 unfolding ruleOf
 returns-18 c = rw (c .before .enum-told14 .given .1, c .ndef-verdict .ensures)
 
+returns-19 : tie.Need-returns-19
+unfolding ruleOf
+returns-19 c = rw (c .before .before .k5 .given .1, c .mnemonic-verdict .ensures)
+
 pub judge-spec : {M : Type 1} → statement M
 judge-spec =
     tie.close
@@ -225,6 +235,8 @@ judge-spec =
     export-verdict-requires
     enum-told-14
     ndef-verdict-requires
+    enum-known-k-5
+    mnemonic-verdict-requires
     returns
     returns-2
     returns-3
@@ -242,4 +254,5 @@ judge-spec =
     returns-15
     returns-16
     returns-17
-    returns-18)
+    returns-18
+    returns-19)

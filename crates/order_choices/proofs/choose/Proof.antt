@@ -106,6 +106,12 @@ enum-told-17 c = search needs
 only-requires-10 : tie.Need-only-requires-10
 only-requires-10 c κs = search needs
 
+enum-told-18 : tie.Need-enum-told-18
+enum-told-18 c = search needs
+
+mnemonic-requires : tie.Need-mnemonic-requires
+mnemonic-requires c κs = search needs
+
 returns : tie.Need-returns
 returns c = rw (c .before .enum-told .given .1, c .only .ensures)
 
@@ -157,6 +163,9 @@ returns-16 c = rw (c .before .enum-told16 .given .1, c .export .ensures)
 returns-17 : tie.Need-returns-17
 returns-17 c = rw (c .before .enum-told17 .given .1, c .only10 .ensures)
 
+returns-18 : tie.Need-returns-18
+returns-18 c = rw (c .before .enum-told18 .given .1, c .mnemonic .ensures)
+
 pub choose-spec : {M : Type 1} → statement M
 choose-spec =
     tie.close
@@ -195,6 +204,8 @@ choose-spec =
     export-requires
     enum-told-17
     only-requires-10
+    enum-told-18
+    mnemonic-requires
     returns
     returns-2
     returns-3
@@ -211,4 +222,5 @@ choose-spec =
     returns-14
     returns-15
     returns-16
-    returns-17)
+    returns-17
+    returns-18)

@@ -55,7 +55,10 @@ returns-16 : tie.Need-returns-16
 returns-16 c = rw (c .match .keys16)
 
 returns-17 : tie.Need-returns-17
-returns-17 c = sym (unknown (c .before .args .ins) class80 _ (c .match .rest) .1)
+returns-17 c = rw (c .match .keys17)
+
+returns-18 : tie.Need-returns-18
+returns-18 c = sym (unknown (c .before .args .ins) class80 _ (c .match .rest) .1)
 
 pub of-class-80-spec : {M : Type 1} → statement M
 of-class-80-spec =
@@ -77,4 +80,5 @@ of-class-80-spec =
     returns-14
     returns-15
     returns-16
-    returns-17)
+    returns-17
+    returns-18)

@@ -106,6 +106,12 @@ enum-told-17 c = search needs
 entry-requires-17 : tie.Need-entry-requires-17
 entry-requires-17 c κs = search needs
 
+enum-told-18 : tie.Need-enum-told-18
+enum-told-18 c = search needs
+
+entry-requires-18 : tie.Need-entry-requires-18
+entry-requires-18 c κs = search needs
+
 returns : tie.Need-returns
 returns c = rw (c .before .enum-told .given .1) (c .entry .ensures)
 
@@ -157,6 +163,9 @@ returns-16 c = rw (c .before .enum-told16 .given .1) (c .entry16 .ensures)
 returns-17 : tie.Need-returns-17
 returns-17 c = rw (c .before .enum-told17 .given .1) (c .entry17 .ensures)
 
+returns-18 : tie.Need-returns-18
+returns-18 c = rw (c .before .enum-told18 .given .1) (c .entry18 .ensures)
+
 pub row-of-spec : {M : Type 1} → statement M
 row-of-spec =
     tie.close
@@ -195,6 +204,8 @@ row-of-spec =
     entry-requires-16
     enum-told-17
     entry-requires-17
+    enum-told-18
+    entry-requires-18
     returns
     returns-2
     returns-3
@@ -211,4 +222,5 @@ row-of-spec =
     returns-14
     returns-15
     returns-16
-    returns-17)
+    returns-17
+    returns-18)
