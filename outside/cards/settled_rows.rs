@@ -1,11 +1,11 @@
 //! The rows to settle (RULES 11.4), on the model and the library: one card from FRESH through INIT, PAIR, OPEN and MUTUAL to its status and
 //! wrong PINs, as a well-behaved terminal does it, and the rows on padding, templates and signatures; beside them, exported keys (RULES
-//! 6.19). Lengths are in bytes.
+//! 6.19) and a published recovery phrase (RULES 6.22). Lengths are in bytes.
 
 use crate::both::{hex, Both};
 use outside::hashes::plain::sha256;
 use outside::model::card::{Card, Session};
-use outside::model::engine::{ANSWER_ROOM_BYTES, SEAL_ROOM_BYTES, UNSEAL_ROOM_BYTES};
+use outside::model::engine::{ANSWER_ROOM_BYTES, ENTROPY_ROOM_BYTES, SEAL_ROOM_BYTES, UNSEAL_ROOM_BYTES};
 use outside::model::message::{encrypt, pad, unpad, HEADER_BYTES};
 use outside::random::choice::array;
 use outside::random::Random;
@@ -122,6 +122,19 @@ impl Script<'_> {
         let wanted = format!("a1438041{}9000", hex(&public_key));
         row(hex(&opened) == wanted, "EXPORT of the public part above the node");
     }
+
+    /// BIP 39's first phrase, abandon eleven times and about: the numbers are 0 and 3.
+    fn phrase(&mut self) {
+        let entropy = [0x00; 16];
+        let opened = self.sealed([0x80, 0xd2, 0x04, 0x00], &[], &entropy);
+        row(
+            hex(&opened) == format!("{}00039000", "0000".repeat(11)),
+            "GENERATE MNEMONIC of zeros",
+        );
+        let mut buffer = vec![0xff; ENTROPY_ROOM_BYTES];
+        let told = self.both.entropy(&opened[..24], &mut buffer);
+        row((told.refusal, &buffer[..told.count]) == (0, &entropy), "ENTROPY of 0 and 3");
+    }
 }
 
 /// Padding, on the model; WALK, on both.
@@ -148,6 +161,7 @@ pub fn run(both: &mut Both, seed: u64) {
     script.wrong_pins();
     script.signature(random);
     script.export(random);
+    script.phrase();
     row(script.both.reset(&mut script.card) == 0, "RESET");
     row(script.plain(&[0x80, STATUS, 0x00, 0x00], &[]) == [0x69, 0x85], "status in stage 0");
 }

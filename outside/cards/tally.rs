@@ -284,15 +284,7 @@ impl Tally {
             print_part(&self.taps, recorded);
         }
         println!("slots: {}", listed(shown(&self.slots)));
-        println!("word numbers by their count, and of them per refusal:");
-        for (operation, count) in [Operation::Answer, Operation::Entropy]
-            .iter()
-            .flat_map(|operation| EVERY_COUNT.map(|count| (*operation, count)))
-        {
-            let of_it = self.phrases.iter().filter(|((o, c, _), _)| (*o, *c) == (operation, count));
-            let parts = listed(of_it.map(|((.., refusal), times)| format!("{refusal}: {times}")));
-            println!("  {:<8}{count:>3}   {parts}", format!("{operation:?}"));
-        }
+        self.print_phrases();
         self.print_faults();
         println!("EXPORT past its data, by P1, P2 and the place of the path:");
         for exported in every_exported() {
@@ -300,6 +292,18 @@ impl Tally {
             let parts = listed(of_it.map(|((_, status), count)| format!("{status:04x}: {count}")));
             let (p1, p2, place) = exported;
             println!("  {p1:02x} {p2:02x} {:<9}{parts}", format!("{place:?}"));
+        }
+    }
+
+    /// What GENERATE MNEMONIC and ENTROPY said, by the count of words.
+    fn print_phrases(&self) {
+        println!("word numbers by their count, and of them per refusal:");
+        for operation in [Operation::Answer, Operation::Entropy] {
+            for count in EVERY_COUNT {
+                let of_it = self.phrases.iter().filter(|((o, c, _), _)| (*o, *c) == (operation, count));
+                let parts = listed(of_it.map(|((.., refusal), times)| format!("{refusal}: {times}")));
+                println!("  {:<8}{count:>3}   {parts}", format!("{operation:?}"));
+            }
         }
     }
 

@@ -1,5 +1,6 @@
-//! The word numbers of a recovery phrase (RULES 6.22 and 7.12), as BIP 39 makes them: the bits of the entropy and the first bits of its SHA-256 after
-//! them, cut into numbers of 11 bits. Numbers are told in 2 bytes each, high byte first; lengths are in bytes where no other unit is said.
+//! The word numbers of a recovery phrase (RULES 6.22 and 7.12), as BIP 39 makes them: the bits of the entropy and the first bits of its
+//! SHA-256 after them, cut into numbers of 11 bits. Numbers are told in 2 bytes each, high byte first; lengths are in bytes where no other
+//! unit is said.
 
 use super::hash::sha256;
 use super::status::{NUMBER_TOO_LARGE, WRONG_CHECKSUM, WRONG_COUNT};

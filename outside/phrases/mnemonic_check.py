@@ -69,17 +69,20 @@ def taken_back(program, words):
 
 
 def published(program, english, file):
-    pairs = [line.rstrip("\n").split(" ", 1) for line in open(file, encoding="utf-8")]
+    with open(file, encoding="utf-8") as lines:
+        pairs = [line.rstrip("\n").split(" ", 1) for line in lines]
+    expect(len(pairs) > 0, "no published phrases")
     entropies, phrases = [bytes.fromhex(pair[0]) for pair in pairs], [pair[1] for pair in pairs]
     expect([english.to_mnemonic(entropy) for entropy in entropies] == phrases, "the package makes other phrases than the published ones")
     words = [english.words(phrase) for phrase in phrases]
     expect(calls(program, "words", entropies) == [data.hex() for data in words], "the card makes other words than the published ones")
-    expect(taken_back(program, words) == [(NOT_REFUSED, entropy) for entropy in entropies], "a published phrase goes back to another entropy")
+    wanted = [(NOT_REFUSED, entropy) for entropy in entropies]
+    expect(taken_back(program, words) == wanted, "a published phrase goes back to another entropy")
     print(f"mnemonic: {len(phrases)} published phrases, both ways")
 
 
 def made(program, english, entropies):
-    """The phrases, which the card makes as well."""
+    """The card makes the phrases that the package makes."""
     phrases = [english.to_mnemonic(entropy) for entropy in entropies]
     for entropy, phrase, answer in zip(entropies, phrases, calls(program, "words", entropies)):
         expect(answer == english.words(phrase).hex(), f"the card makes {answer} of {entropy.hex()}, and not: {phrase}")
@@ -121,7 +124,8 @@ def main(program, file):
         refused, right = damaged(program, english, [with_other_word(draw, english, phrase) for phrase in phrases])
         expect(refused > 0, "no damaged phrase was refused")
         count = len(phrases[0].split(" "))
-        print(f"mnemonic: {count} words: {PHRASES} phrases by the card, {PHRASES} back; of {PHRASES} with a word changed {refused} refused, {right} right again")
+        print(f"mnemonic: {count} words: {PHRASES} phrases by the card, {PHRASES} back; of {PHRASES} with a word changed {refused} refused, "
+              f"{right} right again")
 
 
 if __name__ == "__main__":

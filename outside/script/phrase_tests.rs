@@ -73,7 +73,7 @@ fn refusals_of_entropy() {
         let wanted = format!("entropy: refusal {wanted}");
         assert_eq!(said(&format!("entropy {words} room {room}")), [wanted], "{words}");
         // The last bytes stay those of before.
-        let kept = format!("seal 00*4 00*224\nwrite\nentropy {words} room {room}\nread last");
+        let kept = format!("write\nentropy {words} room {room}\nread last");
         assert_eq!(said(&kept), ["read: done"], "{words}");
     }
 }
