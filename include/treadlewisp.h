@@ -483,12 +483,12 @@ tw_walked tw_walk(const uint8_t *input, size_t input_bytes);
    answers without the status word: 12, 15, 18, 21 or 24 numbers of 2 bytes, the high byte first. The entropy is written from the buffer's
    start, 16, 20, 24, 28 or 32 bytes; bytes past it stay. It needs no card, no session and no list of words. The two undo each other: of
    what GENERATE MNEMONIC answers, ENTROPY gives the entropy that the host supplied; and from what ENTROPY gives, GENERATE MNEMONIC makes
-   words again.
+   the same words again.
    Refusals, in this order: TW_ROOM (buf_bytes under 32, however few the words), TW_WRONG_COUNT (words_bytes is not 24, 30, 36, 42 or 48),
    TW_NUMBER_TOO_LARGE (a number is over 2047), TW_WRONG_CHECKSUM (the bits after the entropy are not the first of its SHA-256: a word was
    copied wrongly, or two have changed places).
-   Words and entropy are secrets: whoever has either of them has the wallet. Pieces of both are on the stack afterwards, and tw_wipe_stack
-   wipes it; tw_wipe is for words and buffer.
+   Words and entropy are secrets: whoever has either of them has the wallet. The call leaves pieces of the entropy on the stack, which
+   tw_wipe_stack wipes; tw_wipe is for words and buffer.
    The caller ensures:
    - words: words_bytes bytes, valid to read, and written by no one during the call;
    - buf: buf_bytes bytes, valid to read and write, overlapping no other argument, and used by no other thread during the call;

@@ -172,7 +172,7 @@ pub const SET_NDEF: u8 = 0xF3;
 /// It needs the channel alone: no PIN and no key. P1 is the size of the phrase's checksum in bits, 04 to 08 ([`Phrase`](crate::Phrase)), P2 is
 /// 00; others are 6A86. There are no data: any are 6A80. The supply is 4 times P1 bytes of entropy, and the answer 3 times P1 numbers from 0
 /// to 2047, each in 2 bytes, the high byte first: 6 times P1 bytes. Of the card nothing changes but the channel's IV. It keeps neither entropy
-/// nor words, and has no other key afterwards.
+/// nor words, and its key stays as it was.
 ///
 /// The list of words is the terminal's: it shows the word of each number, works out the seed of the phrase, and brings it by [`LOAD`].
 /// [`entropy`](crate::entropy) makes the entropy of the numbers again.

@@ -1,4 +1,4 @@
-//! The numbers that `docs/LAYOUT.md`, `include/treadlewisp.h` and the proved crates `card`, `record_rules`, `refusals` and `phrase_reverse` have, held
+//! The numbers that `docs/LAYOUT.md`, `include/treadlewisp.h` and the proved crates `card`, `record_rules`, `refusals` and `phrase_bits` have, held
 //! against this crate's own, which follow from the fields.
 
 use std::collections::{BTreeMap, BTreeSet};
@@ -255,7 +255,7 @@ fn the_constants_of_the_header() {
 /// The proved code's lengths are the crate's, so that neither can change alone.
 #[test]
 fn the_constants_of_the_engine() {
-    let engine = ["card", "record_rules", "refusals", "phrase_reverse"]
+    let engine = ["card", "record_rules", "refusals", "phrase_bits"]
         .into_iter()
         .flat_map(rattle)
         .collect();

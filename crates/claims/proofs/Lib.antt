@@ -27,6 +27,7 @@ pub mod LoadTurns
 pub mod VerifiedLoads
 pub mod Hashing
 pub mod Faults
+pub mod Unopened
 pub mod Mnemonic
 pub mod Secrecy
 pub mod Claims

@@ -42,6 +42,7 @@ use Rattle.laws_two_runs.proofs.Reached.{inChannel, stage2-reached}
 use Rattle.claims.specs.TapRecord.{Fails}
 use Rattle.claims.specs.Mnemonic.{mnemonicWith, Sent, Asked, command, Generated, Example, Mnemonic}
 use Rattle.claims.proofs.LoadTurns.{number, refusal-by}
+use Rattle.claims.proofs.Unopened.{no-channel, before-init}
 
 -- ---- P1 and P2
 mnemonic-sealed : isPlain ins.Mnemonic ≡ false
@@ -296,5 +297,7 @@ mnemonic = record {
       (λ x p e. generated c t x p (a .nodata) e) n (a .least) (a .most) (a .sent) l;
   unlisted = unlisted;
   somedata = λ c t n p l m f. by-phrase (λ (k : ℕ). Sent c t k 0 → Fails c t (0x6A ∷ 0x80 ∷ [])) (λ x q. some-data c t x q f) n l m p;
+  nochannel = no-channel;
+  beforeinit = before-init;
   twelve = twelve;
 }

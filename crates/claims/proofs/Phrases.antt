@@ -1,13 +1,13 @@
 -- The word numbers and their reverse, by the laws of crate `phrase_rules`; and the numbers as the digits of one number.
 -- Assumes nothing.
 use mathlib.Core.Path.{_≡_, refl, sym, ap, ap₂, _∙_}
-use mathlib.Core.List.{List, [], _∷_}
+use mathlib.Core.List.{List, [], _∷_, _++_}
 use Prim.Native.Nat.{ℕ, zero, suc, _+_, _-_, _*_, _/_, _%_, _^_, _≤_, _<_}
 use native.Mathlib.Nat.{mul-comm}
 use native.Mathlib.Omega.{arith}
 use lib.Arith.{digits-div}
 use lib.ListN.{length, take, drop, getD, take-append-drop, length-drop}
-use Rattle.octets.specs.Bytes.{Bytes}
+use Rattle.octets.specs.Bytes.{Bytes, written}
 use Rattle.sha_rules.specs.Hash.{sha256}
 use Rattle.sha_rules.proofs.Blocks.{length-sha256, bytes-sha256}
 use Rattle.phrase_rules.specs.Bits.{bitsOf, bits, readOn, number}
@@ -16,6 +16,8 @@ use Rattle.phrase_rules.specs.Reverse.{reverseRefusal, reverseBytes}
 use Rattle.phrase_rules.proofs.Bits.{Below, below-drop, below-at, below-bytes, below-bitsOf, length-bitsOf, read-append, read-high, number-append, number-below, number-bitsOf}
 use Rattle.phrase_rules.proofs.Numbers.{checksum-in-byte, length-checksum, length-wordNumbers, below-wordNumbers, bits-wordNumbers, length-numbersOf}
 use Rattle.phrase_rules.proofs.Reverse.{Accepted, by-acceptance, reverse-accepts, reverse-generate, generate-reverse, length-entropyIn, bytes-entropyIn}
+use Rattle.phrase_reverse.specs.declared.Entropy.{Entropy}
+use Rattle.phrase_reverse.specs.Reversed.{Reversed}
 use Rattle.claims.specs.Phrases.{IsEntropy, numberAt, valueOn, value, Numbers, Phrases}
 
 -- ---- the bits of numbers are their digits in base 2 ^ w
@@ -120,12 +122,27 @@ module _ (words : List ℕ) (room : ℕ) (b : Bytes words) (e : reverseRefusal w
     bytes = bytes-entropyIn words b accepted;
   })
 
+-- and what the code's contract has of it
+module _ (n : ℕ) (e before after : List ℕ) (r : Entropy) (i : IsEntropy n e) (l : 32 ≤ length before) (d : Reversed (numbersOf e) r before after) where
+  gives : reverseBytes (numbersOf e) (length before) ≡ e
+  gives = reverse-generate n e (i .least) (i .most) (i .long) (i .bytes) (length before) l
+
+  written-there : (r .refusal ≡ 0) × ((r .count ≡ 4 * n) × (after ≡ e ++ drop (4 * n) before))
+  written-there = (
+    ap (λ (x : Entropy). x .refusal) (d .told) ∙ reverse-accepts n e (i .least) (i .most) (i .long) (i .bytes) (length before) l,
+    (
+      ap (λ (x : Entropy). x .count) (d .told) ∙ ap length gives ∙ i .long,
+      d .left ∙ ap (λ (x : List ℕ). written x before) gives ∙ ap (λ (k : ℕ). e ++ drop k before) (i .long),
+    ),
+  )
+
 pub phrases : Phrases
 phrases = record {
   back = λ n e room i l. (
     reverse-accepts n e (i .least) (i .most) (i .long) (i .bytes) room l,
     reverse-generate n e (i .least) (i .most) (i .long) (i .bytes) room l,
   );
+  written = written-there;
   again = λ words room b e. (gives-entropy words room b e, generate-reverse words room b e);
   numbers = are-numbers;
 }

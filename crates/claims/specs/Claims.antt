@@ -26,9 +26,10 @@ pub record Claims : Type 0 where
   pub refusals : Refusals
   -- WALK by what it reads (RULES 9.8): what it takes, and exactly when it refuses
   pub walkreads : WalkReads
-  -- demand 2 (RULES 11.2): AES, CBC and padding; lengths of fields and DER integers; round trips, agreement of ASK and ANSWER, soundness, RESET
+  -- demand 2 (RULES 11.2): AES, CBC and padding; word numbers and entropy, which undo each other; lengths of fields and DER integers; round trips, agreement of ASK and ANSWER, soundness, RESET
   -- twice; terminal and card together
   pub ciphers : Ciphers
+  pub phrases : Phrases
   pub templates : Templates
   pub trips : Trips
   pub together : Together
@@ -45,8 +46,7 @@ pub record Claims : Type 0 where
   -- what the card hashes (RULES 6.8, 6.14), and where LOAD's data are at fault (RULES 5.9)
   pub hashing : Hashing
   pub faults : Faults
-  -- word numbers and entropy undo each other (RULES 7.12), and GENERATE MNEMONIC (RULES 6.22)
-  pub phrases : Phrases
+  -- GENERATE MNEMONIC (RULES 6.22)
   pub mnemonic : Mnemonic
   -- the rows to settle and that what they suppose is met (RULES 11.4); and the wrong engines that the rules shut out (RULES 11.5)
   pub rows : Rows

@@ -1,10 +1,11 @@
 -- GENERATE MNEMONIC (RULES 6.22): its supply, its answer, which ENTROPY turns back into the supply, and its errors. Every length and room is in
 -- bytes; n, which is P1, is the checksum's size in bits.
-use Prim.Native.Nat.{ℕ, _*_, _≤_}
+use Prim.Native.Nat.{ℕ, _*_, _≤_, _<_}
 use mathlib.Core.Path.{_≡_}
 use mathlib.Core.Bool.{true, false}
 use mathlib.Core.List.{List, [], _∷_, _++_}
 use mathlib.Core.Logic.{_↔_}
+use mathlib.Core.Option.{some}
 use lib.ListN.{length, take}
 use Rattle.phrase_rules.specs.Numbers.{numbersOf}
 use Rattle.phrase_rules.specs.Reverse.{reverseRefusal, reverseBytes}
@@ -13,10 +14,11 @@ use Rattle.card.specs.State.{zeros}
 use Rattle.card.specs.Sound.{isSound}
 use Rattle.rules.specs.Commands.{isVerified, hasKey}
 use Rattle.rules.specs.Channel.{sessionOf, withMac}
+use Rattle.rules.specs.Steps.{step1, dataOf, isInitialised}
 use Rattle.rules.specs.Engine.{askOut, answerOut}
 use Rattle.laws_exchange.specs.Exchange.{Typed, Turn, sealedBy, answeredBy, unsealedBy}
 use Rattle.laws_two_runs.specs.Runs.{Call}
-use Rattle.claims.specs.Slots.{at}
+use Rattle.claims.specs.Slots.{Supposed, Says, at}
 use Rattle.claims.specs.TapRecord.{Fails}
 
 -- ---- a turn of SEAL, ANSWER and UNSEAL with GENERATE MNEMONIC in stage 2: its header, 80 D2 P1 P2; nothing is supposed of PIN, tries and key
@@ -50,6 +52,11 @@ pub record Generated (c : Card) (t : Turn) (n : ℕ) : Type 0 where
   pub taken : (room : ℕ) → 32 ≤ room → reverseRefusal (take (6 * n) (unsealedBy c t .bytes)) room ≡ 0
   pub back : (room : ℕ) → 32 ≤ room → reverseBytes (take (6 * n) (unsealedBy c t .bytes)) room ≡ t .supply
 
+-- ---- a command of class 80 that ends with this plain status word, on the card that step 1 leaves
+pub record Stops (c : Card) (cmd s : List ℕ) (room : ℕ) (w : List ℕ) : Type 0 where
+  pub says : Says (answerOut c cmd s room) w
+  pub card : answerOut c cmd s room .card ≡ step1 cmd c
+
 -- ---- an example: from FRESH, calls lead to a card without a verified PIN and without a key, where 16 zeros give 12 numbers
 pub record Example : Type 0 where
   pub calls : List Call
@@ -70,5 +77,10 @@ pub record Mnemonic : Type 0 where
   -- 6A86 where P1 is not 04 to 08 or P2 is not 00, whatever the data; else 6A80 for data; both whatever the supply
   pub unlisted : (c : Card) (t : Turn) (p1 p2 : ℕ) → Sent c t p1 p2 → (4 ≤ p1 → p1 ≤ 8 → p2 ≡ 0 → ⊥) → Fails c t (0x6A ∷ 0x86 ∷ [])
   pub somedata : (c : Card) (t : Turn) (n : ℕ) → Sent c t n 0 → 4 ≤ n → n ≤ 8 → (t .data′ ≡ [] → ⊥) → Fails c t (0x6A ∷ 0x80 ∷ [])
+  -- without a channel in stage 2 it is plain 6985; before INIT it is unknown, as every instruction of class 80 but INIT: plain 6D00
+  pub nochannel : (c : Card) (rest d s : List ℕ) (room : ℕ) → Supposed c (0x80 ∷ 0xD2 ∷ rest) d room → c .channel .stage < 2
+      → Stops c (0x80 ∷ 0xD2 ∷ rest) s room (0x69 ∷ 0x85 ∷ [])
+  pub beforeinit : (c : Card) (ins : ℕ) (rest d s : List ℕ) (room : ℕ) → isSound c ≡ true → isInitialised c ≡ false → (ins ≡ 0xFE → ⊥)
+      → dataOf (0x80 ∷ ins ∷ rest) ≡ some d → 258 ≤ room → Stops c (0x80 ∷ ins ∷ rest) s room (0x6D ∷ 0x00 ∷ [])
   -- and this occurs
   pub twelve : Example

@@ -1,4 +1,4 @@
--- The size of a phrase's checksum, how much entropy a supply that suits has, and the reply that its word numbers are. Lengths are in bytes, a checksum in bits.
+-- How much entropy a supply that suits has, and the reply that its word numbers are. Lengths are in bytes, a checksum in bits.
 -- Assumes nothing.
 use mathlib.Core.Path.{_≡_, refl, ap, _∙_}
 use mathlib.Core.Bool.{true}
@@ -12,23 +12,15 @@ use Rattle.phrase_rules.specs.Numbers.{numbersOf}
 use Rattle.phrase_numbers.specs.Put.{PutNumbers}
 use Rattle.card.specs.declared.Card.{Card}
 use Rattle.rules.specs.declared.Phrase.{Phrase}
-use Rattle.rules.specs.declared.Phrase.the-variants as phrase
 use Rattle.rules.specs.declared.Replied.{Replied}
 use Rattle.rules.specs.Words.{success}
 use Rattle.rules.specs.Code.{Replies}
 use Rattle.rules.specs.Supplies.{suits, mnemonicSupply}
 use Rattle.rules.specs.Rows.{checksumBits}
 use Rattle.rules.specs.Commands.{mnemonicReply}
+use Rattle.rules.proofs.Phrases.{bits-most}
 use Rattle.command_parts.specs.Replies.{said}
 use Rattle.command_parts.proofs.SupplyFacts.{suits-long}
-
--- ---- checksumBits: at most 8
-pub bits-most : (x : Phrase) → checksumBits x ≤ 8
-bits-most phrase.Words12 = omega arith
-bits-most phrase.Words15 = omega arith
-bits-most phrase.Words18 = omega arith
-bits-most phrase.Words21 = omega arith
-bits-most phrase.Words24 = omega arith
 
 -- ---- mnemonicSupply: the entropy is the whole supply, and its numbers fit the buffer
 module _ (x : Phrase) (s : List ℕ) (m : ℕ) (h : suits (mnemonicSupply (checksumBits x)) s ≡ true) (e : m ≡ 4 * checksumBits x) where

@@ -3,7 +3,7 @@
 use mathlib.Core.Path.{ap}
 use Prim.Native.Nat.{ℕ, _*_}
 use native.Mathlib.Omega.{arith}
-use Rattle.command_mnemonic.proofs.Phrases.{bits-most}
+use Rattle.rules.proofs.Phrases.{bits-most}
 use borrow.Author.Needs.{needs}
 use Rattle.command_mnemonic.proofs.entropy_bytes.Statement.{statement}
 use Rattle.command_mnemonic.proofs.entropy_bytes.Tie as tie
