@@ -19,11 +19,11 @@ pub fn answer(card: Card, cmd: &[u8], supply: &[u8], buf: &mut [u8]) -> Answered
 {
     if sound::sound(card) {
         if buf.len() < ANSWER_ROOM_BYTES {
-            return engine_sound::refused(card, REFUSAL_ROOM);
+            return engine_reports::refused(card, REFUSAL_ROOM);
         }
         return engine_sound::answer_sound(card, cmd, supply, buf);
     }
-    engine_sound::refused(card, REFUSAL_UNSOUND)
+    engine_reports::refused(card, REFUSAL_UNSOUND)
 }
 
 // ASK (RULES 3.5): which supply ANSWER will read, with the command's data for it from the buffer's start.
@@ -32,9 +32,9 @@ pub fn ask(card: Card, cmd: &[u8], buf: &mut [u8]) -> Asked
 {
     if sound::sound(card) {
         if buf.len() < ASK_ROOM_BYTES {
-            return engine_sound::ask_refused(REFUSAL_ROOM);
+            return engine_reports::ask_refused(REFUSAL_ROOM);
         }
         return engine_sound::ask_sound(card, cmd, buf);
     }
-    engine_sound::ask_refused(REFUSAL_UNSOUND)
+    engine_reports::ask_refused(REFUSAL_UNSOUND)
 }

@@ -7,7 +7,6 @@ ghost use Prim.Native.Nat.{_≤_};
 ghost use lib.ListN.{length};
 ghost use Rattle.rules.specs.Words.{Hold};
 ghost use Rattle.rules.specs.Supplies.{suits};
-ghost use Rattle.rules.specs.Rules.{noFault};
 ghost use Rattle.rules.specs.Channel.{tell};
 ghost use Rattle.rules.specs.Steps.{checksOf, supplyOf, replyOf, decide};
 ghost use Rattle.rules.specs.Engine.{asked, answered, withSupply};
@@ -19,60 +18,6 @@ use refusals::REFUSAL_SUPPLY;
 use rules::Answered;
 use rules::Asked;
 use rules::Command;
-use rules::NO_FAULT;
-use rules::Supply;
-
-// A supply's flag byte: 00 no, 01 yes.
-const FLAG_YES: u8 = 0x01;
-
-pub fn ask_refused(refusal: u8) -> Asked
-    ensures { λ r. ⌜ r ≡ record { refusal = refusal; kind = 0; count = 0 } ⌝ }
-{
-    Asked {
-        refusal,
-        kind: 0,
-        count: 0,
-    }
-}
-
-pub fn refused(card: Card, refusal: u8) -> Answered
-    ensures { λ r. ⌜ r ≡ record { refusal = refusal; count = 0; «fault_offset» = noFault; card = card } ⌝ }
-{
-    Answered {
-        refusal,
-        count: 0,
-        fault_offset: NO_FAULT,
-        card,
-    }
-}
-
-// What is answered, with this fault offset.
-fn with_fault(told: Answered, fault_offset: usize) -> Answered
-    ensures { λ r. ⌜ r ≡ record { refusal = told .refusal; count = told .count; «fault_offset» = «fault_offset»; card = told .card } ⌝ }
-{
-    let mut r = told;
-    r.fault_offset = fault_offset;
-    r
-}
-
-// Whether a supply has the form that is asked for: its length, and a flag byte of 0 or 1. One that is not read has every form.
-fn supply_suits(k: Supply, s: &[u8]) -> bool
-    ensures { λ r. ⌜ r ≡ suits k (now (s .entry)) ⌝ }
-{
-    if k.kind == 0 {
-        return true;
-    }
-    if s.len() != k.bytes {
-        return false;
-    }
-    if !k.flagged {
-        return true;
-    }
-    if s.len() == 0 {
-        return true;
-    }
-    s[0] <= FLAG_YES
-}
 
 // Past the checks and the supply's form: the command's reply, as it goes out.
 fn perform(
@@ -106,13 +51,13 @@ pub fn answer_sound(card: Card, cmd: &[u8], supply: &[u8], buf: &mut [u8]) -> An
     let count = way.count;
     let k = way.command;
     if way.goes {
-        if supply_suits(way.supply, supply) {
+        if engine_reports::supply_suits(way.supply, supply) {
             return perform(way.over, next, k, &plain[0..count], supply, buf);
         }
-        return refused(card, REFUSAL_SUPPLY);
+        return engine_reports::refused(card, REFUSAL_SUPPLY);
     }
     let told = engine_responses::tell(way.over, next, way.status, &plain[0..0], buf);
-    with_fault(told, way.fault_offset)
+    engine_reports::with_fault(told, way.fault_offset)
 }
 
 // ASK for a sound card, with room enough: nothing is written where no supply is read.
@@ -126,7 +71,7 @@ pub fn ask_sound(card: Card, cmd: &[u8], buf: &mut [u8]) -> Asked
     let kind = way.supply.kind;
     if way.goes {
         if kind == 0 {
-            return ask_refused(REFUSAL_NONE);
+            return engine_reports::ask_refused(REFUSAL_NONE);
         }
         octets::put(buf, 0, &plain[0..count]);
         return Asked {
@@ -135,5 +80,5 @@ pub fn ask_sound(card: Card, cmd: &[u8], buf: &mut [u8]) -> Asked
             count,
         };
     }
-    ask_refused(REFUSAL_NONE)
+    engine_reports::ask_refused(REFUSAL_NONE)
 }

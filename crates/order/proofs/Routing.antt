@@ -21,9 +21,9 @@ use Rattle.rules.specs.Channel.{plainly, tell}
 use Rattle.rules.specs.Rows.{rowOf, isPlain}
 use Rattle.rules.specs.Steps as steps
 use Rattle.command_table.specs.Fits.{PathsFit}
-use Rattle.order_steps.specs.declared.Form.{Form}
-use Rattle.order_steps.specs.declared.Form.the-variants as form
-use Rattle.order_steps.specs.Form.{DataAt, FormSays}
+use Rattle.order_form.specs.declared.Form.{Form}
+use Rattle.order_form.specs.declared.Form.the-variants as form
+use Rattle.order_form.specs.Form.{DataAt, FormSays}
 use Rattle.order_ends.specs.Routes.{fromStep2, fromStep3, fromStep4, fromOpening, fromStep5}
 use Rattle.order_ends.proofs.Ending.{paths-by}
 

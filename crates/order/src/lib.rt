@@ -9,7 +9,7 @@ ghost use Rattle.rules.specs.Steps.{decide};
 ghost use Rattle.order_ends.specs.Routes.{RoutesIn, fromStep2, fromStep3, fromStep4};
 use card::Card;
 use order_ends::Way;
-use order_steps::Form;
+use order_form::Form;
 use rules::Instruction;
 use rules::Named;
 
@@ -30,7 +30,7 @@ fn step_2(card: Card, cmd: &[u8], plain: &mut [u8]) -> Way
     requires { ⌜ (length (now plain) ≡ 255) × PathsFit (card .keys) ⌝ }
     ensures { λ r. ⌜ RoutesIn (fromStep2 (now (cmd .entry)) card) r (now (plain .exit)) ⌝ }
 {
-    let form = order_steps::find_data(cmd);
+    let form = order_form::find_data(cmd);
     match form {
         Form::Data(start, stop) => step_3(card, cmd, &cmd[start..stop], plain),
         Form::Wrong => order_ends::ends(false, card, rules::WRONG_LENGTH),

@@ -1,1 +1,1 @@
-pub mod Decoding
+mod Decoding

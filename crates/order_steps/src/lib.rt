@@ -1,32 +1,17 @@
-// What the order of checks (RULES 5) asks of a command's bytes, and what it takes from the card: step 1, the form of step 2, and what an
-// instruction gives up.
-// Every length, Lc included, is in bytes.
+// What the order of checks (RULES 5) takes from the card: step 1, by the command's first bytes, and what an instruction gives up.
+// Every length is in bytes.
 // Proved: each answer is the rulebook's, for every command, however short, and every card.
 ghost use mathlib.Core.Path.{_≡_};
-ghost use Prim.Native.Nat.{_<_};
 ghost use Rattle.card.specs.State.{forgotten};
-ghost use Rattle.rules.specs.Steps.{step1, begins, dropping, forgetting, lcFits, begun, failed};
-ghost use Rattle.order_steps.specs.Form.{FormSays};
+ghost use Rattle.rules.specs.Steps.{step1, begins, dropping, forgetting, begun, failed};
 use card::Card;
-use card::wide;
 use rules::CLASS;
 use rules::INS_MUTUAL;
 use rules::INS_PAIR;
 use rules::Loss;
 
-// CLA INS P1 P2, and with Lc, in bytes.
-pub const HEADER_BYTES: usize = 4;
-
-pub const FRONT_BYTES: usize = 5;
-
 // P1 of PAIR's final step.
 const P1_FINAL: u8 = 0x01;
-
-// Step 2: where the command's data starts and ends, counted from byte 0, or that the form is wrong.
-pub enum Form {
-    Data(usize, usize),
-    Wrong,
-}
 
 // The card without a pending pairing.
 fn forget(mut card: Card) -> Card
@@ -78,35 +63,6 @@ pub fn step_1(card: Card, cmd: &[u8]) -> Card
 {
     let dropped = drop_channel(card, cmd);
     drop_pending(dropped, cmd)
-}
-
-// Whether byte 4 can be the Lc of a command of this many bytes.
-fn lc_fits(lc: usize, whole: usize) -> bool
-    requires { ⌜ lc < 256 ⌝ }
-    ensures { λ r. ⌜ r ≡ lcFits lc whole ⌝ }
-{
-    let some = lc != 0;
-    let bare = whole == FRONT_BYTES + lc;
-    let with_le = whole == FRONT_BYTES + 1 + lc;
-    some & (bare | with_le)
-}
-
-// Step 2, the form.
-pub fn find_data(cmd: &[u8]) -> Form
-    ensures { λ r. ⌜ FormSays (now (cmd .entry)) r ⌝ }
-{
-    let n = cmd.len();
-    if n < HEADER_BYTES {
-        return Form::Wrong;
-    }
-    if n <= FRONT_BYTES {
-        return Form::Data(n, n);
-    }
-    let lc = wide(cmd[4]);
-    if lc_fits(lc, n) {
-        return Form::Data(FRONT_BYTES, FRONT_BYTES + lc);
-    }
-    Form::Wrong
 }
 
 // Step 5: OPEN closes any channel before steps 5 and 6.

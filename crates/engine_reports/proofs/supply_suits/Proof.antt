@@ -1,10 +1,10 @@
 -- Not read, a wrong length, no flag, or the flag.
 -- Assumes nothing.
 use mathlib.Core.Path.{_∙_}
-use Rattle.engine_sound.proofs.Suits.{suits-unread, suits-length, suits-unflagged, suits-flagged, no-flag}
+use Rattle.engine_reports.proofs.Suits.{suits-unread, suits-length, suits-unflagged, suits-flagged, no-flag}
 use borrow.Author.Needs.{needs}
-use Rattle.engine_sound.proofs.supply_suits.Statement.{statement}
-use Rattle.engine_sound.proofs.supply_suits.Tie as tie
+use Rattle.engine_reports.proofs.supply_suits.Statement.{statement}
+use Rattle.engine_reports.proofs.supply_suits.Tie as tie
 
 returns : tie.Need-returns
 returns c = suits-unread (c .before .before .args .k) (c .before .before .args .s .now) (c .if1 .taken)

@@ -2,10 +2,10 @@
 -- Assumes nothing.
 use native.Mathlib.Omega.{arith}
 use mathlib.Core.Path.{sym, _∙_}
-use Rattle.order_steps.proofs.Decoding.{form-short, form-bare, form-data, form-wrong}
+use Rattle.order_form.proofs.Decoding.{form-short, form-bare, form-data, form-wrong}
 use borrow.Author.Needs.{needs}
-use Rattle.order_steps.proofs.find_data.Statement.{statement}
-use Rattle.order_steps.proofs.find_data.Tie as tie
+use Rattle.order_form.proofs.find_data.Statement.{statement}
+use Rattle.order_form.proofs.find_data.Tie as tie
 
 returns : tie.Need-returns
 returns c = form-short (c .before .before .args .cmd .now) (c .if1 .taken)

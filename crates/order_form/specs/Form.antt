@@ -5,8 +5,8 @@ use mathlib.Core.List.{List}
 use mathlib.Core.Option.{none, some}
 use lib.ListN.{length, take, drop}
 use Rattle.rules.specs.Steps.{dataOf}
-use Rattle.order_steps.specs.declared.Form.{Form}
-use Rattle.order_steps.specs.declared.Form.the-variants as form
+use Rattle.order_form.specs.declared.Form.{Form}
+use Rattle.order_form.specs.declared.Form.the-variants as form
 
 -- the header is there, and the data, 255 bytes at most, are those from the place `start` up to the place `stop`
 pub record DataAt (cmd : List ℕ) (start stop : ℕ) : Type 0 where
