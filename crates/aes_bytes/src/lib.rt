@@ -1,6 +1,7 @@
 // The operations of AES on one byte: the S-box, its inverse, and the products of the field.
 // A table has 256 bytes; a byte is looked up in it.
 // Proved: the two constant tables are FIPS 197's, and each function gives what the field's rule says, for every byte.
+#![tactic(auto)]
 ghost use Rattle.std.specs.Prelude.{◌≡◌};
 ghost use Rattle.aes_field.specs.Field.{x_times, sub_byte, inv_sub_byte};
 ghost use Rattle.aes_field.specs.Tables.{sbox, inv_sbox};
@@ -47,7 +48,7 @@ pub fn x_times(b: u8) -> u8
 }
 
 // A byte's products by 9, 11, 13 and 14, which the inverse column step takes.
-#[derive(Drop)]
+#[derive(Clone, Copy)]
 pub struct Products {
     pub by_9: u8,
     pub by_11: u8,

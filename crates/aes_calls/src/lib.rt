@@ -1,6 +1,7 @@
 // The lengths of a call of AES-256 in CBC mode or of CBC-MAC from C or Rust, and the number that a call with a wrong one is refused with.
 // Every length is in bytes: a key has 32, an IV, a head block and a MAC 16 each, the data a number of whole blocks of 16.
 // Proved: each number is the definition's (specs/Calls.antt has them), for all lengths.
+#![tactic(auto)]
 ghost use Rattle.std.specs.Prelude.{◌≡◌, length};
 ghost use Rattle.aes_calls.specs.Calls.{cbc_answer, mac_answer, seal_answer};
 

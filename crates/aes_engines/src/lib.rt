@@ -1,6 +1,7 @@
 // AES-256 of one block under a key, by each of the two engines: the plain one, byte by byte, and the one from four tables of words.
 // A key has 32 bytes, a block 16 bytes.
 // Proved: both give AES-256 of FIPS 197, so that both give the same, for every key and block.
+#![tactic(auto)]
 ghost use Rattle.std.specs.Prelude.{◌≡◌};
 ghost use Rattle.aes_engines.specs.Engines.{Enciphered};
 
@@ -26,7 +27,7 @@ pub fn encrypt_by_tables(key: &[u8; 32], s: [u8; 16]) -> [u8; 16]
 }
 
 // What both engines give for one key and block.
-#[derive(Drop)]
+#[derive(Clone, Copy)]
 pub struct Both {
     pub plain: [u8; 16],
     pub tables: [u8; 16],

@@ -1,1 +1,3 @@
 // The finite field of AES: laws of its definitions, and no code.
+
+#![tactic(auto)]

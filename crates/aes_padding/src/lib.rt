@@ -1,6 +1,7 @@
 // Padding to whole blocks of 16 bytes, ISO/IEC 9797-1 method 2: 80, then 00 up to the end of the block.
 // Every length is in bytes.
 // Proved: unpadding gives back what was padded, and takes nothing else.
+#![tactic(auto)]
 ghost use Rattle.std.specs.Prelude.{◌≡◌, ◌≤◌, length, take};
 ghost use Rattle.octets.specs.Bytes.{written};
 ghost use Rattle.aes_padding.specs.Padding.{padded_bytes, pad, unpad, answer};
@@ -11,7 +12,7 @@ use octets::BLOCK_BYTES;
 pub const PADDING_MARK: u8 = 0x80;
 
 // What unpadding finds: the data's length in bytes, or that the padding is wrong.
-#[derive(Drop)]
+#[derive(Clone, Copy)]
 pub enum Unpadded {
     Bytes(usize),
     Wrong,

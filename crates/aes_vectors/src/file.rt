@@ -7,7 +7,7 @@ use text_hex::text;
 use text_hex::text::TextSpan;
 
 // The entries of the two sections that were found and that passed, and the faults of the file: lines that are not understood.
-#[derive(Drop)]
+#[derive(Clone, Copy)]
 pub struct Tally {
     pub encrypt_found: u64,
     pub encrypt_passed: u64,
@@ -19,7 +19,7 @@ pub struct Tally {
 const FILE_MAX_BYTES: usize = 262144;
 
 // How far the reading is: the entry whose lines are being read, with its section (UNKNOWN before the first), and the count so far.
-#[derive(Drop)]
+#[derive(Clone, Copy)]
 struct State {
     entry: Entry,
     tally: Tally,

@@ -2,6 +2,7 @@
 // Keys have 32 bytes, blocks 16 bytes. The files lie in the folder that the program is run in (data/).
 // Proved: every function is safe and ends. What the engine answers to the vectors is compared, not proved: that it is AES-256 is proved
 // in the crates below.
+#![tactic(auto)]
 mod file;
 mod report;
 mod trial;
@@ -10,7 +11,7 @@ use text_hex::text;
 
 // The entries that passed and that should be there, and the faults: files and lines that cannot be read, and sections with another
 // number of entries than they should have.
-#[derive(Drop)]
+#[derive(Clone, Copy)]
 struct Sum {
     passed: u64,
     wanted: u64,

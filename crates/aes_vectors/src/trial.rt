@@ -22,7 +22,7 @@ const OTHER_HEAD: [u8; 16] = [0xa5; 16];
 const ENCRYPT_BY_TABLES: u8 = 255;
 
 // Where the values of an entry are in the file.
-#[derive(Drop)]
+#[derive(Clone, Copy)]
 pub struct Entry {
     pub section: u8,
     pub count: TextSpan,

@@ -1,6 +1,7 @@
 // CIPHER of FIPS 197 by the engine from tables: AES-256 on one block, from the four tables and a key schedule in words.
 // A block has 16 bytes or four words, a table 256 words, a schedule 60 words.
 // Proved: the result is the definition's, for every schedule and block.
+#![tactic(auto)]
 ghost use Rattle.std.specs.Prelude.{◌≡◌, length};
 ghost use Rattle.aes_rules.specs.Cipher.{cipher};
 ghost use Rattle.aes_words.specs.Words.{bytes_of};

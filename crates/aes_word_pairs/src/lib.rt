@@ -1,6 +1,7 @@
 // CIPHER of FIPS 197 on two blocks under two key schedules, round by round in step: neither waits for the other.
 // A block has 16 bytes, here four words of 32 bits; a table has 256 words, a schedule 60 words.
 // Proved: each result is the definition's for its own schedule and block, whatever the other is.
+#![tactic(auto)]
 ghost use Rattle.std.specs.Prelude.{◌≡◌, length};
 ghost use Rattle.aes_rules.specs.Cipher.{cipher};
 ghost use Rattle.aes_words.specs.Words.{bytes_of};
@@ -9,7 +10,7 @@ ghost use Rattle.aes_tables.specs.Tables.{FourTables};
 use aes_keys::ROUNDS;
 
 // Two blocks, or what became of them.
-#[derive(Drop)]
+#[derive(Clone, Copy)]
 pub struct Pair {
     pub first: [u32; 4],
     pub second: [u32; 4],

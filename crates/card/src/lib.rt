@@ -1,6 +1,7 @@
 // The card (RULES 2.1): everything that it keeps, by value, as nested structs of bytes and byte arrays.
 // Every field is a u8 or an array of u8, so the structs have one layout without padding; every length is in bytes.
 // Proved: a fresh card and a card at power-up are what their definitions say, field by field.
+#![tactic(auto)]
 ghost use Rattle.std.specs.Prelude.{◌≡◌};
 ghost use Rattle.card.specs.State.{fresh_of, reset_of, closed, closed_of};
 
@@ -74,7 +75,7 @@ pub fn wide(b: u8) -> usize
 
 // Which card it is: the UID and the card's public key.
 #[repr(C)]
-#[derive(Drop)]
+#[derive(Clone, Copy)]
 pub struct Identity {
     pub uid: [u8; UID_BYTES],
     pub public_key: [u8; PUBLIC_KEY_BYTES],
@@ -82,7 +83,7 @@ pub struct Identity {
 
 // The PIN, the PUK that unblocks it, the tries left for each, and whether the PIN is verified (0 or 1).
 #[repr(C)]
-#[derive(Drop)]
+#[derive(Clone, Copy)]
 pub struct Pins {
     pub pin: [u8; PIN_BYTES],
     pub puk: [u8; PUK_BYTES],
@@ -93,7 +94,7 @@ pub struct Pins {
 
 // A pairing slot: whether it is filled (0 or 1), and the pairing key.
 #[repr(C)]
-#[derive(Drop)]
+#[derive(Clone, Copy)]
 pub struct Slot {
     pub filled: u8,
     pub key: [u8; KEY_BYTES],
@@ -101,7 +102,7 @@ pub struct Slot {
 
 // The pairing secret, the slots, and the pending pairing: whether there is one (0 or 1), and the client cryptogram expected.
 #[repr(C)]
-#[derive(Drop)]
+#[derive(Clone, Copy)]
 pub struct Pairing {
     pub secret: [u8; KEY_BYTES],
     pub slots: [Slot; Card::SLOTS],
@@ -111,7 +112,7 @@ pub struct Pairing {
 
 // A key path: how many bytes of it are in use, 4 a component, and the bytes, the high byte of a component first.
 #[repr(C)]
-#[derive(Drop)]
+#[derive(Clone, Copy)]
 pub struct Path {
     pub len: u8,
     pub bytes: [u8; PATH_MAX_BYTES],
@@ -119,7 +120,7 @@ pub struct Path {
 
 // The key's kind (0 none, 1 a key, 2 an extended key), its UID, the current path and the PIN-less path.
 #[repr(C)]
-#[derive(Drop)]
+#[derive(Clone, Copy)]
 pub struct Keys {
     pub kind: u8,
     pub uid: [u8; KEY_BYTES],
@@ -129,7 +130,7 @@ pub struct Keys {
 
 // The secure channel: its stage (0 closed, 1 opened, 2 mutually authenticated), and the session: both keys and the IV.
 #[repr(C)]
-#[derive(Drop)]
+#[derive(Clone, Copy)]
 pub struct Channel {
     pub stage: u8,
     pub enc_key: [u8; KEY_BYTES],
@@ -139,7 +140,7 @@ pub struct Channel {
 
 // The tap record, which a phone held to the card reads: how many bytes of it are in use, 0 for none, and the bytes.
 #[repr(C)]
-#[derive(Drop)]
+#[derive(Clone, Copy)]
 pub struct Tap {
     pub len: u8,
     pub bytes: [u8; TAP_MAX_BYTES],
@@ -147,7 +148,7 @@ pub struct Tap {
 
 // The whole card. Before INIT, initialised is 0 and all but the identity is zero.
 #[repr(C)]
-#[derive(Drop)]
+#[derive(Clone, Copy)]
 pub struct Card {
     pub initialised: u8,
     pub identity: Identity,

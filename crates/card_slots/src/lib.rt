@@ -1,6 +1,7 @@
 // The search for a free pairing slot, and whether the slots from an index on are all free.
 // An index counts slots from 0; the facts hold for any number of slots.
 // Proved: the slot found is the free one with the least index, and none is found exactly where all are filled.
+#![tactic(auto)]
 ghost use Rattle.std.specs.Prelude.{◌≡◌, drop};
 ghost use Rattle.card.specs.Slots.{all_of, some_of, is_free};
 ghost use Rattle.card_slots.specs.Free.{first_free, Says};
@@ -8,7 +9,7 @@ ghost use Rattle.card_slots.specs.Free.{first_free, Says};
 use card::{Card, Slot};
 
 // The first free slot, by its index, or that all slots are filled. `Says` of specs/Free.antt states each case.
-#[derive(Drop)]
+#[derive(Clone, Copy)]
 pub enum Free {
     At(usize),
     Full,

@@ -1,6 +1,7 @@
 // The card's end of the channel: its session, and the card after a message.
 // Keys and IV are in bytes.
 // Proved: the session and the next card are the rulebook's, for any card.
+#![tactic(auto)]
 ghost use Rattle.std.specs.Prelude.{◌≡◌};
 ghost use Rattle.rules.specs.Channel.{session_of, with_mac};
 

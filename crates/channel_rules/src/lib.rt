@@ -1,6 +1,7 @@
 // Sealed messages: the session of one end of the channel, the definitions of sealing and opening, and their laws.
 // Every length is in bytes: keys 32, IV and MAC 16, data at most 223.
 // Proved: under the same session, what one end seals the other opens to the same bytes, and both then hold the same session.
+#![tactic(auto)]
 ghost use Rattle.std.specs.Prelude.{◌≡◌};
 ghost use Rattle.channel_rules.specs.Message.{with_iv};
 
@@ -13,7 +14,7 @@ pub const FIELD_MAX_BYTES: usize = 240;
 
 // A session of the channel (RULES 8.1), as one end holds it: the encryption key, the MAC key, and the IV of the next message.
 #[repr(C)]
-#[derive(Drop)]
+#[derive(Clone, Copy)]
 pub struct Session {
     pub enc_key: [u8; 32],
     pub mac_key: [u8; 32],
@@ -37,7 +38,7 @@ impl Session {
 
 // What opening a field finds: how many bytes of data it holds, or that it does not open, which is 6982 at the card and refusal 7 at the
 // terminal. `opening_out` of specs/Message.antt states each case.
-#[derive(Drop)]
+#[derive(Clone, Copy)]
 pub enum Opening {
     Bytes(usize),
     Refused,

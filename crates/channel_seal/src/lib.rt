@@ -1,6 +1,7 @@
 // Sealing of a field, which both ends of the channel share, and of a response, by the card.
 // Every length is in bytes: a field is a MAC of 16 with the ciphertext directly after it, 32 to 240 in all.
 // Proved: a field and a response are sealed as the definitions say, for every session and every content.
+#![tactic(auto)]
 ghost use Rattle.std.specs.Prelude.{◌≡◌, [], ◌∷◌, ◌++◌, ◌+◌, ◌≤◌, length};
 ghost use Rattle.refusals.specs.Refusals.{answer_room};
 ghost use Rattle.aes_padding.specs.Padding.{padded_bytes};
@@ -13,7 +14,7 @@ use channel_rules::{MAC_BYTES, Session};
 pub const PLAIN_SUCCESS: [u8; 2] = [0x90, 0x00];
 
 // A sealed response: how many bytes it has, and the session of the end that sealed it.
-#[derive(Drop)]
+#[derive(Clone, Copy)]
 pub struct Response {
     pub count: usize,
     pub session: Session,

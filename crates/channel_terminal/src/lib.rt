@@ -1,6 +1,7 @@
 // The terminal's end of the channel: what SEAL and UNSEAL answer, and SEAL, which makes a whole sealed command (RULES 8.6).
 // Every length, Lc included, is in bytes.
 // Proved: refusal, count, next session and every byte of the buffer are the definition's, for every input; nothing is required.
+#![tactic(auto)]
 ghost use Rattle.std.specs.Prelude.{◌≡◌, [], ◌∷◌, length};
 ghost use Rattle.channel_rules.specs.Terminal.{seal_out};
 ghost use Rattle.channel_terminal.specs.Did.{Did};
@@ -15,7 +16,7 @@ const FRONT_BYTES: usize = 5;
 
 // What an operation answers: the refusal's number or 0, how many bytes it wrote from the buffer's start, and the next session.
 #[repr(C)]
-#[derive(Drop)]
+#[derive(Clone, Copy)]
 pub struct Outcome {
     pub refusal: u8,
     pub count: usize,

@@ -1,6 +1,7 @@
 // CHANGE (RULES 6.12), of the PIN, the PUK or the pairing secret: the verdict of its checks, and its reply where they hold.
 // Every length and count is in bytes.
 // Proved: the verdict and the reply are what the command's rule gives, for every card and all data.
+#![tactic(auto)]
 ghost use Rattle.std.specs.Prelude.{◌≡◌};
 ghost use Rattle.rules.specs.Words.{Hold, verdict};
 ghost use Rattle.rules.specs.Code.{replied_of};

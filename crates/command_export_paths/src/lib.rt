@@ -1,6 +1,7 @@
 // Which path EXPORT (RULES 6.19) takes its keys from, and whether a private key may go out of it: at the node of EIP-1581 and below it alone.
 // Every length and place is in bytes.
 // Proved: each answer is the rulebook's, for every path, all data and every card whose current path fits.
+#![tactic(auto)]
 ghost use Rattle.std.specs.Prelude.{◌≡◌, [], ◌∷◌, ◌+◌, ◌≤◌, length};
 ghost use Rattle.octets.specs.Bytes.{same_bytes};
 ghost use Rattle.card.specs.State.{path_bytes};

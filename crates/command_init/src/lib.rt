@@ -1,6 +1,7 @@
 // INIT (RULES 6.5), which is plain in every stage: the verdict of its check, and its reply where that holds.
 // Every length and count is in bytes.
 // Proved: the verdict and the reply are what the command's rule gives, for every card, data and supply.
+#![tactic(auto)]
 ghost use Rattle.std.specs.Prelude.{◌≡◌, true, length};
 ghost use Rattle.aes_rules.specs.Aes.{inv_aes256};
 ghost use Rattle.aes_cbc.specs.Mode.{cbc_decrypt};

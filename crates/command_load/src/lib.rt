@@ -1,6 +1,7 @@
 // LOAD (RULES 6.14), P1 01 and 02 a keypair, with its chain code or without, P1 03 a seed: its reply where its checks hold.
 // Every length and count is in bytes.
 // Proved: each reply and byte of the buffer is what the command's rule gives, for every card and supply.
+#![tactic(auto)]
 ghost use Rattle.std.specs.Prelude.{true, ◌≡◌, ◌≤◌, length};
 ghost use Rattle.rules.specs.Code.{Replies};
 ghost use Rattle.rules.specs.Supplies.{suits, load_supply};

@@ -1,6 +1,7 @@
 // LOAD (RULES 6.14): the verdict of its checks, and the fault offset in data that it does not take.
 // Every length and offset is in bytes.
 // Proved: each verdict and offset is what the command's rule gives, for every card and data.
+#![tactic(auto)]
 ghost use Rattle.std.specs.Prelude.{◌≡◌};
 ghost use Rattle.rules.specs.Words.{verdict};
 ghost use Rattle.rules.specs.Supplies.{load_supply};

@@ -1,6 +1,7 @@
 // SET NDEF (RULES 6.20): the verdict of its checks, and its reply where they hold.
 // Every length is in bytes.
 // Proved: verdict and reply are what the command's rule gives, for every card and all data.
+#![tactic(auto)]
 ghost use Rattle.std.specs.Prelude.{◌≡◌, ◌≤◌, length};
 ghost use Rattle.card.specs.Sizes.{tap_most_bytes};
 ghost use Rattle.card.specs.State.{tap_of};

@@ -1,6 +1,7 @@
 // PAIR's first step (RULES 6.8): the verdict of its checks, and its reply where they hold, with both cryptograms hashed from the pairing secret.
 // Every length and count is in bytes.
 // Proved: the verdict, the reply and each byte of the buffer are what the step's rule gives, for every card, data and supply.
+#![tactic(auto)]
 ghost use Rattle.std.specs.Prelude.{◌≡◌, true, ◌++◌, ◌≤◌, length};
 ghost use Rattle.sha_rules.specs.Hash.{sha256};
 ghost use Rattle.rules.specs.Words.{verdict};

@@ -1,6 +1,7 @@
 // DERIVE (RULES 6.15) and SET PIN-LESS PATH (RULES 6.17): for each the verdict of its checks, and its reply where they hold.
 // Every length and count is in bytes.
 // Proved: each verdict and reply is what the command's rule gives, for every card, data and supply.
+#![tactic(auto)]
 ghost use Rattle.std.specs.Prelude.{true, ◌≡◌, ◌≤◌, length};
 ghost use Rattle.card.specs.State.{path_of};
 ghost use Rattle.rules.specs.Words.{Hold, verdict};

@@ -1,6 +1,7 @@
 // REMOVE (RULES 6.16): the verdict of its checks, and its reply where they hold, no key and both paths empty.
 // Lengths are in bytes.
 // Proved: each verdict and reply is what the command's rule gives, for every card.
+#![tactic(auto)]
 ghost use Rattle.std.specs.Prelude.{◌≡◌};
 ghost use Rattle.rules.specs.Words.{verdict};
 ghost use Rattle.rules.specs.Code.{replied_of};

@@ -1,6 +1,7 @@
 // SELECT (RULES 6.4), which is plain in every stage: the verdict of its check, and its reply where that holds.
 // Every length and count is in bytes; slots are counted in slots.
 // Proved: the verdict, the reply and every byte of the buffer are what the command's rule gives, for every card and data.
+#![tactic(auto)]
 ghost use Rattle.std.specs.Prelude.{◌≡◌, ◌≤◌, ◌<◌, length};
 ghost use Rattle.template_rules.specs.Writing.{Wrote};
 ghost use Rattle.template_answers.specs.Answers.{pre_initialised, application_info};

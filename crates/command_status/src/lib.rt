@@ -1,6 +1,7 @@
 // GET STATUS (RULES 6.10), which has no checks of its own: its verdict and its reply.
 // Every length and count is in bytes.
 // Proved: the verdict, the reply and every byte of the buffer are what the command's rule gives, for every card whose current path fits.
+#![tactic(auto)]
 ghost use Rattle.std.specs.Prelude.{◌≡◌, [], ◌≤◌, length};
 ghost use Rattle.template_rules.specs.Writing.{Wrote};
 ghost use Rattle.card.specs.State.{path_bytes};

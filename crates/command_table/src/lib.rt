@@ -1,6 +1,7 @@
 // Any command, once it is decoded: the verdict of its checks, its reply, and its fault offset.
 // Every length and offset is in bytes.
 // Proved: for every command, verdict, reply and fault offset are what its rule gives.
+#![tactic(auto)]
 ghost use Rattle.std.specs.Prelude.{◌≡◌, true, ◌≤◌, length};
 ghost use Rattle.rules.specs.Words.{Hold, verdict};
 ghost use Rattle.rules.specs.Code.{Replies};

@@ -1,6 +1,7 @@
 // UNPAIR (RULES 6.9): the verdict of its check, and its reply where that holds.
 // A slot's index counts slots from 0; an index that no slot has changes nothing.
 // Proved: the verdict and the reply are what the command's rule gives, for every card and every index.
+#![tactic(auto)]
 ghost use Rattle.std.specs.Prelude.{◌≡◌, set};
 ghost use Rattle.card.specs.State.{free_slot};
 ghost use Rattle.rules.specs.Words.{verdict};

@@ -1,6 +1,7 @@
 // What ASK and ANSWER report beside a reply: a refusal, and the fault offset; and whether a supply has the form that is asked for.
 // Every length, count and offset is in bytes.
 // Proved: each report is the one named, with no fault told by a refusal, and the form is the rulebook's, for every supply.
+#![tactic(auto)]
 ghost use Rattle.std.specs.Prelude.{◌≡◌};
 ghost use Rattle.rules.specs.Supplies.{suits};
 ghost use Rattle.rules.specs.Rules.{no_fault};

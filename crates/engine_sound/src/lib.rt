@@ -1,6 +1,7 @@
 // ASK and ANSWER of a sound card, with room enough: the route is walked, and a supply that is read must have its form.
 // Every length, room, count and offset is in bytes.
 // Proved: refusal, kind, count, fault offset, next card and every byte of the buffer are what the rulebook's decision gives.
+#![tactic(auto)]
 ghost use Rattle.std.specs.Prelude.{◌≡◌, true, ◌≤◌, length};
 ghost use Rattle.rules.specs.Words.{Hold};
 ghost use Rattle.rules.specs.Supplies.{suits};

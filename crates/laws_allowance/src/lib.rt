@@ -4,3 +4,5 @@
 // Proved: from an INIT with 9000 on, the wrong PINs and the PIN tries left are 3 together, the wrong PUKs and the PUK tries left are 5; and
 // SIGN off a PIN-less path and EXPORT of a private key give 9000 only if the latest comparison came out right and the channel has not left
 // stage 2 since.
+
+#![tactic(auto)]

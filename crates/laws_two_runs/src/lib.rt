@@ -3,3 +3,5 @@
 // Every length and count is in bytes.
 // Proved: both runs show the same at every call and end with cards that agree, if each comparison that both make comes out alike; and what a run
 // shows at a call is what the contracts say, all of it but PIN and PUK.
+
+#![tactic(auto)]

@@ -1,6 +1,7 @@
 // What the types say of a card, which the claims on terminal and card together take as a hypothesis (`Typed`).
 // Every length is in bytes.
 // Proved: every card that code holds meets it, by its type alone.
+#![tactic(auto)]
 ghost use Rattle.octets.specs.Bytes.{Bytes};
 ghost use Rattle.laws_exchange.specs.Exchange.{Typed};
 

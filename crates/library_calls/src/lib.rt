@@ -1,6 +1,7 @@
 // WRITE and the tap read as the C boundary takes and gives them, and the structs of numbers for what each operation tells.
 // Every length, room, count and offset is in bytes (WALK counts fields); a refusal 0 means that there was none.
 // Proved: the promises of the operations by value.
+#![tactic(auto)]
 ghost use Rattle.std.specs.Prelude.{◌≡◌};
 ghost use Rattle.record_write.specs.Wrote.{WroteRecord};
 ghost use Rattle.record_tap.specs.Tap.{tap_place};
@@ -20,7 +21,7 @@ pub const TAP_FACTORY: u8 = 2;
 
 // What SEAL, UNSEAL, WRITE and ENTROPY report: the refusal's number, or 0 for none, and how many bytes they wrote from the buffer's start.
 #[repr(C)]
-#[derive(Drop)]
+#[derive(Clone, Copy)]
 pub struct Counted {
     pub refusal: u8,
     pub count: usize,
@@ -29,7 +30,7 @@ pub struct Counted {
 // What ANSWER reports: the refusal's number, or 0 for none; how many bytes it wrote from the buffer's start; and the fault offset in bytes
 // from the start of the opened data, or rules::NO_FAULT.
 #[repr(C)]
-#[derive(Drop)]
+#[derive(Clone, Copy)]
 pub struct AnswerTold {
     pub refusal: u8,
     pub count: usize,
@@ -39,7 +40,7 @@ pub struct AnswerTold {
 // What WALK reports: the refusal's number, or 0 for none; how many fields that are not templates it counted; and, where it refuses, the fault
 // offset in bytes from the input's start, else 0.
 #[repr(C)]
-#[derive(Drop)]
+#[derive(Clone, Copy)]
 pub struct WalkTold {
     pub refusal: u8,
     pub count: usize,
@@ -49,7 +50,7 @@ pub struct WalkTold {
 // What the tap read reports: the refusal's number, or 0 for none; which slice, as TAP_..; and where the part begins in it and how long it is,
 // in bytes.
 #[repr(C)]
-#[derive(Drop)]
+#[derive(Clone, Copy)]
 pub struct Tapped {
     pub refusal: u8,
     pub source: u8,

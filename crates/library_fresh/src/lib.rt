@@ -1,6 +1,7 @@
 // FRESH and soundness as the C boundary takes and gives them: arrays by reference, and a number for yes or no.
 // Every length is in bytes.
 // Proved: the promises of the operations by value.
+#![tactic(auto)]
 ghost use Rattle.std.specs.Prelude.{◌≡◌, cond};
 ghost use Rattle.card.specs.State.{fresh_of};
 ghost use Rattle.card.specs.Sound.{is_sound};

@@ -1,6 +1,7 @@
 // What the types say of bytes, which the claims take as a hypothesis (`Bytes`).
 // Every length is in bytes.
 // Proved: the elements of every slice and of every header that code holds are bytes, by their type alone.
+#![tactic(auto)]
 ghost use Rattle.std.specs.Prelude.{◌≡◌, ◌<◌, length};
 ghost use Rattle.octets.specs.Bytes.{Bytes};
 

@@ -1,6 +1,7 @@
 // The order of checks for a command (RULES 5), steps 1 to 4 and then those of order_opens and order_ends, walked once for ASK and ANSWER alike.
 // Every length, Lc included, and the fault offset are in bytes.
 // Proved: for every card and every command, however short, the route means what the rulebook decides.
+#![tactic(auto)]
 ghost use Rattle.std.specs.Prelude.{◌≡◌, ◌≤◌, length};
 ghost use Rattle.command_table.specs.Fits.{PathsFit};
 ghost use Rattle.rules.specs.Steps.{decide};

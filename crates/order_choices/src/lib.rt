@@ -1,6 +1,7 @@
 // Step 5 of the order of checks: the command that an instruction lists at P1 and P2 (RULES 6.1), if any.
 // Slots are counted from 0.
 // Proved: the choice is the one of the rulebook's row, for every instruction, P1 and P2.
+#![tactic(auto)]
 ghost use Rattle.std.specs.Prelude.{◌≡◌};
 ghost use Rattle.rules.specs.declared.Instruction.TheVariants as ins;
 ghost use Rattle.rules.specs.Rows.{row_of};

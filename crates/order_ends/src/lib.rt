@@ -1,6 +1,7 @@
 // The end of the order of checks (RULES 5): how a route ends, and steps 5 and 6, where each command that is named and opened arrives.
 // Every length and the fault offset are in bytes.
 // Proved: the route means what the rulebook decides from step 5 on, for every card and all data.
+#![tactic(auto)]
 ghost use Rattle.std.specs.Prelude.{◌≡◌, not, ◌≤◌, length};
 ghost use Rattle.command_table.specs.Fits.{PathsFit};
 ghost use Rattle.rules.specs.Rows.{is_plain};
@@ -13,7 +14,7 @@ use rules::{Choice, Command, Instruction, Supply, Verdict};
 // Where the order of checks leads: to a command whose checks hold (goes), with the supply that it reads, or to a status word and its fault offset.
 // `over` says that the answer goes over the channel, `count` how many bytes of data the command has, and `card` is the card that the answer
 // starts from.
-#[derive(Drop)]
+#[derive(Clone, Copy)]
 pub struct Way {
     pub goes: bool,
     pub over: bool,

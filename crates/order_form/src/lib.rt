@@ -1,6 +1,7 @@
 // Step 2 of the order of checks (RULES 5.2): the form of a command's bytes, and where its data is.
 // Every length, Lc included, and every place is in bytes.
 // Proved: a place is given exactly where the rulebook finds data there, for every command, however short.
+#![tactic(auto)]
 ghost use Rattle.std.specs.Prelude.{◌≡◌, ◌<◌};
 ghost use Rattle.rules.specs.Steps.{lc_fits};
 ghost use Rattle.order_form.specs.Form.{FormSays};
@@ -13,7 +14,7 @@ pub const HEADER_BYTES: usize = 4;
 pub const FRONT_BYTES: usize = 5;
 
 // Step 2: where the command's data starts and ends, counted from byte 0, or that the form is wrong.
-#[derive(Drop)]
+#[derive(Clone, Copy)]
 pub enum Form {
     Data(usize, usize),
     Wrong,

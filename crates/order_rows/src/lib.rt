@@ -1,6 +1,7 @@
 // The rows of the instructions (RULES 6.1), as the code reads them: step 3 of the order of checks, and what steps 4 to 6 ask of an instruction.
 // P1 and P2 are in the crate order_choices. Stages are counted from 0.
 // Proved: each answer is the rulebook's row, for every class and every instruction byte.
+#![tactic(auto)]
 ghost use Rattle.std.specs.Prelude.{◌≡◌};
 ghost use Rattle.rules.specs.Rows.{row_of, class80, offered};
 ghost use Rattle.rules.specs.Steps.{name_of, with_byte, by_class};
@@ -54,7 +55,7 @@ fn by_class(cla: u8, ins: u8) -> Named
 
 // A row: where the instruction is offered; the lowest stage of the channel that it goes in, 0 for those that are plain in every stage; and what
 // it gives up.
-#[derive(Drop)]
+#[derive(Clone, Copy)]
 pub struct Row {
     pub offer: Offer,
     pub stage: u8,

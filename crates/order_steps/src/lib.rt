@@ -1,6 +1,7 @@
 // What the order of checks (RULES 5) takes from the card: step 1, by the command's first bytes, and what an instruction gives up.
 // Every length is in bytes.
 // Proved: each answer is the rulebook's, for every command, however short, and every card.
+#![tactic(auto)]
 ghost use Rattle.std.specs.Prelude.{◌≡◌};
 ghost use Rattle.card.specs.State.{forgotten};
 ghost use Rattle.rules.specs.Steps.{step1, begins, dropping, forgetting, begun, failed};

@@ -1,6 +1,7 @@
 // What is asked of word numbers before they are taken: their count, that each has 11 bits, and their checksum.
 // Words and entropy are in bytes, the checksum in bits.
 // Proved: each check is the definition's.
+#![tactic(auto)]
 ghost use Rattle.std.specs.Prelude.{◌≡◌, ◌/◌, length};
 ghost use Rattle.phrase_rules.specs.Reverse.{from_two_bytes, entropy_in, is_word_count, Counted, in_eleven_bits, is_checked};
 

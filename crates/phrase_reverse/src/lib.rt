@@ -1,6 +1,7 @@
 // From the bytes of word numbers back to their entropy.
 // Words, entropy and buffer are in bytes, the checksum in bits.
 // Proved: the answer, and every byte of the buffer, is the definition's, refusals too.
+#![tactic(auto)]
 ghost use Rattle.std.specs.Prelude.{◌≡◌, cond, ◌*◌, ◌/◌, eqb, length, take};
 ghost use Rattle.refusals.specs.Refusals.{no_refusal};
 ghost use Rattle.phrase_rules.specs.Reverse.{entropy_in, Counted, must, words_refusal};
@@ -14,7 +15,7 @@ use refusals::{
 };
 
 // What is answered: the refusal's number, or 0 for none, and how many bytes of entropy were written.
-#[derive(Drop)]
+#[derive(Clone, Copy)]
 pub struct Entropy {
     pub refusal: u8,
     pub count: usize,

@@ -2,6 +2,7 @@
 // Every length and place is in bytes.
 // Proved: it refuses exactly where the definition does; otherwise the check accepts the plan, for every card, PIN and paths. Nothing is
 // required.
+#![tactic(auto)]
 ghost use Rattle.std.specs.Prelude.{◌≡◌, ◌+◌, ◌≤◌, length};
 ghost use Rattle.template_rules.specs.Writing.{Wrote};
 ghost use Rattle.plan_rules.specs.Plan.{Plans};
@@ -15,7 +16,7 @@ use refusals::REFUSAL_NONE;
 use rules::{CLASS, INS_DERIVE, INS_SET_PINLESS, INS_VERIFY};
 
 // Which of the three commands a plan has.
-#[derive(Drop)]
+#[derive(Clone, Copy)]
 pub struct Needs {
     pub verify: bool,
     pub set: bool,

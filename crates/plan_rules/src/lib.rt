@@ -2,6 +2,7 @@
 // Every length and count of bytes is in bytes; a plan's limit is in commands. The definitions are in specs/, the types and constants here.
 // Proved: whether a plan is accepted does not depend on PIN and PUK, nor on anything else but the flag of INIT, the PIN's tries,
 // verification and the keys.
+#![tactic(auto)]
 use card::{PATH_MAX_BYTES, PIN_BYTES};
 
 // The most commands that a plan has.
@@ -19,14 +20,14 @@ pub const PLAN_MAX_BYTES: usize = HEAD_BYTES
     + PATH_MAX_BYTES;
 
 // What the check answers: the refusal's number, or 0 for none, and whether the plan is accepted.
-#[derive(Drop)]
+#[derive(Clone, Copy)]
 pub struct Checked {
     pub refusal: u8,
     pub accepted: bool,
 }
 
 // What the planner answers: the refusal's number, or 0 for none, how many bytes the plan has, and the plan with zeros after it.
-#[derive(Drop)]
+#[derive(Clone, Copy)]
 pub struct Planned {
     pub refusal: u8,
     pub count: usize,

@@ -1,6 +1,7 @@
 // The steps of the check of job sheets (RULES 6.21): VERIFY, SET PIN-LESS PATH and DERIVE on the parts of a card that a plan can change,
 // and whether a path is the one asked for. Every length is in bytes.
 // Proved: each step is what the command's own rule gives, for all parts of a card and all data; nothing is required.
+#![tactic(auto)]
 ghost use Rattle.std.specs.Prelude.{true, ◌≡◌};
 ghost use Rattle.std.proofs.Math.Option.{none};
 ghost use Rattle.octets.specs.Bytes.{same_bytes};
@@ -15,7 +16,7 @@ use command_verify::{pin_right, verify_verdict};
 use rules::{INS_DERIVE, INS_SET_PINLESS, INS_VERIFY, Verdict};
 
 // Where a command of a plan leads: whether it gives 9000, and what it leaves then of the parts of a card that a plan can change.
-#[derive(Drop)]
+#[derive(Clone, Copy)]
 pub struct Step {
     pub goes: bool,
     pub pins: Pins,

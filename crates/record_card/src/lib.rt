@@ -1,6 +1,7 @@
 // The card that some bytes describe, if they are a stored record: its fields taken in their order, group by group.
 // Every length and place is in bytes.
 // Proved: it is the card of the definition, for any bytes of any length.
+#![tactic(auto)]
 ghost use Rattle.std.specs.Prelude.{◌≡◌};
 ghost use Rattle.record_rules.specs.Parse.{content, card_of};
 ghost use Rattle.record_card.specs.Taken.{At, IdentityTaken, SecretsTaken, KeysTaken};
@@ -9,7 +10,7 @@ use card::{Card, Identity, Keys, Pairing, Pins, SLOTS_BYTES};
 use record_spans::{slots_from, take_field, take_path, take_tap};
 
 // The first three fields read, and the place after them.
-#[derive(Drop)]
+#[derive(Clone, Copy)]
 pub struct IdentityRead {
     pub initialised: u8,
     pub identity: Identity,
@@ -17,7 +18,7 @@ pub struct IdentityRead {
 }
 
 // The five fields after those read, and the place after them.
-#[derive(Drop)]
+#[derive(Clone, Copy)]
 pub struct SecretsRead {
     pub pins: Pins,
     pub pairing: Pairing,
@@ -25,7 +26,7 @@ pub struct SecretsRead {
 }
 
 // The four fields after those read, and the place after them.
-#[derive(Drop)]
+#[derive(Clone, Copy)]
 pub struct KeysRead {
     pub keys: Keys,
     pub next: usize,

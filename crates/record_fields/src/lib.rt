@@ -1,6 +1,7 @@
 // The fields of the stored record, written one by one: any field, a path, the key UID, the tap record, and the content of the slots.
 // Every length, place and count is in bytes.
 // Proved: the field is at its place, nothing else changes, and the place after it is given.
+#![tactic(auto)]
 ghost use Rattle.std.specs.Prelude.{◌≡◌, [], ◌∷◌, ◌+◌, ◌*◌, ◌≤◌, ◌<◌, length, take};
 ghost use Rattle.octets.specs.Bytes.{overwrite};
 ghost use Rattle.card.specs.State.{key_uid, path_bytes};

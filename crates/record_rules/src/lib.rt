@@ -2,13 +2,14 @@
 // The definitions are in specs/: the table of fields, the record of a card, its length, and the card of a record.
 // Proved: READ of WRITE of a sound card is RESET of it, and WRITE of what READ took is the record: byte for byte in the form that
 // WRITE writes, and in an older one as that is renewed.
+#![tactic(auto)]
 use card::{
     KEY_BYTES, PATH_MAX_BYTES, PIN_BYTES, PUBLIC_KEY_BYTES, PUK_BYTES, SLOTS_BYTES, TAP_MAX_BYTES,
     UID_BYTES,
 };
 
 // A form of the record (RULES 10.4): how many slots field 24 holds, and whether field 34 is there.
-#[derive(Drop)]
+#[derive(Clone, Copy)]
 pub struct Form {
     pub slots: usize,
     pub tapped: bool,

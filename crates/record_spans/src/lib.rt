@@ -1,6 +1,7 @@
 // The content of a field of the stored record, found by its place and taken: bytes, a path, the tap record, and the slots.
 // Every length and place is in bytes.
 // Proved: what is taken is what the definition takes, from any bytes of any length, and the place after the field is given.
+#![tactic(auto)]
 ghost use Rattle.std.specs.Prelude.{◌≡◌, ◌≤◌, length, drop, get_or};
 ghost use Rattle.card.specs.State.{slot_count};
 ghost use Rattle.record_rules.specs.Parse.{body, fit, path_from, tap_from, slots_from};
@@ -10,21 +11,21 @@ use card::{Card, Path, SLOT_BYTES, SLOTS_BYTES, Slot, Tap, wide};
 use record_rules::HEAD_BYTES;
 
 // Where a field's content starts and ends.
-#[derive(Drop)]
+#[derive(Clone, Copy)]
 pub struct FieldSpan {
     pub start: usize,
     pub end: usize,
 }
 
 // How many bytes of a room are in use, and the place after the field that they came from.
-#[derive(Drop)]
+#[derive(Clone, Copy)]
 pub struct UsedRead {
     pub used: u8,
     pub next: usize,
 }
 
 // A path read, and the place after its field.
-#[derive(Drop)]
+#[derive(Clone, Copy)]
 pub struct PathRead {
     pub path: Path,
     pub next: usize,

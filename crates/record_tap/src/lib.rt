@@ -2,6 +2,7 @@
 // Every length and place is in bytes.
 // Proved: the part is field 34's content inside the stored record, or the factory record whole exactly where none is stored; where READ
 // refuses the record it is empty, and the call beside it answers 8.
+#![tactic(auto)]
 ghost use Rattle.std.specs.Prelude.{◌≡◌};
 ghost use Rattle.record_rules.specs.Answers.{read_answer};
 ghost use Rattle.record_tap.specs.Tap.{tap_place, tap_part, LentFrom};
@@ -10,7 +11,7 @@ use card::wide;
 use refusals::REFUSAL_NONE;
 
 // Where the tap record is: nowhere, since READ refuses the record; in the stored record, from a place on; or it is the factory record.
-#[derive(Drop)]
+#[derive(Clone, Copy)]
 pub enum TapPlace {
     Nowhere,
     Own { start: usize, count: usize },

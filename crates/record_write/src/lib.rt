@@ -2,6 +2,7 @@
 // Every length, place and count is in bytes.
 // Proved: the bytes written are the record of the card, the count is their number, and no other byte changes; a card that is
 // not sound is refused with 1, a buffer with less room than any record needs with 2, and then nothing is written.
+#![tactic(auto)]
 ghost use Rattle.std.specs.Prelude.{◌≤◌, length};
 ghost use Rattle.card.specs.Sizes.{path_most_bytes, tap_most_bytes, slot_count};
 ghost use Rattle.record_rules.specs.Fields.{fields_in};
@@ -16,7 +17,7 @@ use record_rules::{Form, WRITE_ROOM_BYTES};
 use refusals::{REFUSAL_NONE, REFUSAL_ROOM, REFUSAL_UNSOUND};
 
 // What WRITE answers: the refusal's number, or 0 for none, and how many bytes it wrote.
-#[derive(Drop)]
+#[derive(Clone, Copy)]
 pub struct Written {
     pub refusal: u8,
     pub count: usize,

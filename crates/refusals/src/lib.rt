@@ -2,6 +2,7 @@
 // Every room is in bytes. The same table is in specs/Refusals.antt as definitions (RULES 3.2), which every contract cites.
 // A refusal hands back the state that it was given and changes no byte of any buffer; the lowest number that applies is given.
 
+#![tactic(auto)]
 pub const REFUSAL_NONE: u8 = 0;
 
 // The card is not sound.

@@ -1,6 +1,7 @@
 // The rulebook: what a command is, and the definitions of all that the card does with one, from its bytes to its answer.
 // Every length and count is in bytes. The rules are in specs/; here are the types and the constants that the code and the rules share.
 // A new command has one row in specs/Rows.antt, one rule in specs/Commands.antt, and its name in the two enums below.
+#![tactic(auto)]
 use card::Card;
 
 // The status words (RULES 5.8), as one number of two bytes, SW1 SW2.
@@ -78,7 +79,7 @@ pub const NO_FAULT: usize = 255;
 pub const RESPONSE_MAX_BYTES: usize = 221;
 
 // What the class and the instruction byte name.
-#[derive(Drop)]
+#[derive(Clone, Copy)]
 pub enum Instruction {
     Select,
     Init,
@@ -101,7 +102,7 @@ pub enum Instruction {
 }
 
 // Where an instruction is offered: on every card, on one before INIT, or on one after INIT.
-#[derive(Drop)]
+#[derive(Clone, Copy)]
 pub enum Offer {
     Always,
     BeforeInit,
@@ -110,7 +111,7 @@ pub enum Offer {
 
 // What an instruction gives up at steps 5 and 6: nothing; the channel, before both; the channel in stage 1, by an error; or, with P1 01, the
 // pending pairing, by an error.
-#[derive(Drop)]
+#[derive(Clone, Copy)]
 pub enum Loss {
     Nothing,
     Channel,
@@ -119,7 +120,7 @@ pub enum Loss {
 }
 
 // Step 3: the instruction, or which of the two checks fails.
-#[derive(Drop)]
+#[derive(Clone, Copy)]
 pub enum Named {
     Known(Instruction),
     WrongClass,
@@ -127,14 +128,14 @@ pub enum Named {
 }
 
 // GET STATUS, P1 00 and 01: the tries and whether there is a key; the current path.
-#[derive(Drop)]
+#[derive(Clone, Copy)]
 pub enum StatusKind {
     Application,
     Path,
 }
 
 // CHANGE, P1 00, 01 and 02: which secret.
-#[derive(Drop)]
+#[derive(Clone, Copy)]
 pub enum SecretKind {
     Pin,
     Puk,
@@ -142,7 +143,7 @@ pub enum SecretKind {
 }
 
 // LOAD, P1 01, 02 and 03: a keypair; a keypair with its chain code; a seed of 64 bytes.
-#[derive(Drop)]
+#[derive(Clone, Copy)]
 pub enum KeyForm {
     Keypair,
     Extended,
@@ -150,7 +151,7 @@ pub enum KeyForm {
 }
 
 // EXPORT, P1 00, 01 and 02: the current path; the given one; the given one, which then becomes current.
-#[derive(Drop)]
+#[derive(Clone, Copy)]
 pub enum ExportPath {
     Current,
     Given,
@@ -158,14 +159,14 @@ pub enum ExportPath {
 }
 
 // EXPORT, P2 00 and 01: the private key and the public key; the public key alone.
-#[derive(Drop)]
+#[derive(Clone, Copy)]
 pub enum ExportPart {
     PrivateAndPublic,
     PublicOnly,
 }
 
 // GENERATE MNEMONIC, P1 04 to 08: a recovery phrase of 12, 15, 18, 21 or 24 words.
-#[derive(Drop)]
+#[derive(Clone, Copy)]
 pub enum Phrase {
     Words12,
     Words15,
@@ -176,7 +177,7 @@ pub enum Phrase {
 
 // A command whose P1 and P2 are listed. OPEN and UNPAIR carry the slot's index; GET STATUS, CHANGE, LOAD and GENERATE MNEMONIC the choice that
 // P1 makes; EXPORT those that P1 and P2 make.
-#[derive(Drop)]
+#[derive(Clone, Copy)]
 pub enum Command {
     Select,
     Init,
@@ -200,14 +201,14 @@ pub enum Command {
 }
 
 // Step 5: the command, or that its P1 and P2 are not listed.
-#[derive(Drop)]
+#[derive(Clone, Copy)]
 pub enum Choice {
     Listed(Command),
     Unlisted,
 }
 
 // A supply: its kind, or 0 for none; how many bytes it has; and whether its first byte is a flag.
-#[derive(Drop)]
+#[derive(Clone, Copy)]
 pub struct Supply {
     pub kind: u8,
     pub bytes: usize,
@@ -215,14 +216,14 @@ pub struct Supply {
 }
 
 // Step 6: the supply that is read where all checks hold, or the status word of the first check that does not.
-#[derive(Drop)]
+#[derive(Clone, Copy)]
 pub enum Verdict {
     Reads(Supply),
     Fails(u16),
 }
 
 // What a command's function answers: the status word, how many bytes of response data it wrote from the buffer's start, and the next card.
-#[derive(Drop)]
+#[derive(Clone, Copy)]
 pub struct Replied {
     pub status: u16,
     pub count: usize,
@@ -231,7 +232,7 @@ pub struct Replied {
 
 // What ASK answers: the refusal's number or 0, the kind of supply or 0, and how many bytes it wrote from the buffer's start.
 #[repr(C)]
-#[derive(Drop)]
+#[derive(Clone, Copy)]
 pub struct Asked {
     pub refusal: u8,
     pub kind: u8,
@@ -241,7 +242,7 @@ pub struct Asked {
 // What ANSWER answers: the refusal's number or 0, how many bytes it wrote from the buffer's start, the fault offset in bytes or NO_FAULT, and
 // the next card.
 #[repr(C)]
-#[derive(Drop)]
+#[derive(Clone, Copy)]
 pub struct Answered {
     pub refusal: u8,
     pub count: usize,

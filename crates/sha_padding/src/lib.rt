@@ -1,6 +1,7 @@
 // The padding of SHA-256: the end of a message with the byte 80, zeros and the message's length behind it.
 // Lengths are in bytes, but for the one that the padding holds, which is in bits; a block has 64 bytes.
 // Proved: the padded end is the definition's, for every message.
+#![tactic(auto)]
 ghost use Rattle.std.specs.Prelude.{◌≡◌, ◌++◌, ◌+◌, ◌%◌, length, take};
 ghost use Rattle.sha_rules.specs.Padding.{big_endian, length_in_bits, padding_bytes, padding};
 

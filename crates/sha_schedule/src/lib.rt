@@ -1,6 +1,7 @@
 // The message schedule of SHA-256: 64 words of 32 bits from a block of 64 bytes.
 // A word has four bytes, the highest first.
 // Proved: the schedule is the definition's, for every block.
+#![tactic(auto)]
 ghost use Rattle.std.specs.Prelude.{◌≡◌, ◌+◌, ◌*◌, ◌^◌, ◌<◌, ◌≤◌, length};
 ghost use Rattle.sha_rules.specs.Hash.{word, schedule_word, schedule};
 

@@ -7,7 +7,7 @@ use text_hex::text;
 use text_hex::text::TextSpan;
 
 // The entries that were found and that passed, and the faults of the file: lines that are not understood.
-#[derive(Drop)]
+#[derive(Clone, Copy)]
 pub struct Tally {
     pub found: u64,
     pub passed: u64,
@@ -30,7 +30,7 @@ const DIGEST: u8 = 4;
 const UNKNOWN: u8 = 5;
 
 // How far the reading is: the entry whose lines are being read, and the count so far.
-#[derive(Drop)]
+#[derive(Clone, Copy)]
 struct State {
     entry: Entry,
     tally: Tally,

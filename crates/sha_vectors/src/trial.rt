@@ -12,7 +12,7 @@ const MESSAGE_MAX_BYTES: usize = 128;
 const NO_LENGTH: usize = 129;
 
 // Where the values of an entry are in the file.
-#[derive(Drop)]
+#[derive(Clone, Copy)]
 pub struct Entry {
     pub bits: TextSpan,
     pub message: TextSpan,

@@ -2,6 +2,7 @@
 // Every length, room, count and offset is in bytes; WALK counts fields.
 // Proved: each call is the operation on the card whose bytes are given, by the layout's places (`card_at`), and its next card is given as its
 // bytes (`card_flat`); on a session likewise.
+#![tactic(auto)]
 ghost use Rattle.std.specs.Prelude.{◌≡◌, length};
 ghost use Rattle.card.specs.State.{fresh_of};
 ghost use Rattle.card.specs.Sound.{is_sound};
@@ -21,14 +22,14 @@ use rules::Asked;
 use soft_card_bytes::{CARD_BYTES, SESSION_BYTES};
 
 // What RESET and READ give: the refusal's number or 0, the next card.
-#[derive(Drop)]
+#[derive(Clone, Copy)]
 pub struct CardGiven {
     pub refusal: u8,
     pub card: [u8; CARD_BYTES],
 }
 
 // What ANSWER gives: the refusal's number or 0, the bytes written, the fault offset or rules::NO_FAULT, the next card.
-#[derive(Drop)]
+#[derive(Clone, Copy)]
 pub struct CardAnswered {
     pub refusal: u8,
     pub count: usize,
@@ -37,7 +38,7 @@ pub struct CardAnswered {
 }
 
 // What SEAL and UNSEAL give: the refusal's number or 0, the bytes written, the next session.
-#[derive(Drop)]
+#[derive(Clone, Copy)]
 pub struct Sealed {
     pub refusal: u8,
     pub count: usize,
@@ -45,14 +46,14 @@ pub struct Sealed {
 }
 
 // What WRITE gives: the refusal's number or 0, the bytes written.
-#[derive(Drop)]
+#[derive(Clone, Copy)]
 pub struct CountAnswered {
     pub refusal: u8,
     pub count: usize,
 }
 
 // What WALK gives: the refusal's number or 0, the fields counted, the fault offset or 0.
-#[derive(Drop)]
+#[derive(Clone, Copy)]
 pub struct WalkAnswered {
     pub refusal: u8,
     pub count: usize,

@@ -1,6 +1,7 @@
 // The soft card's calls on the card alone: FRESH, RESET, READ, WRITE, soundness, its fields, and the tap read of a stored record.
 // Every length, room and count is in bytes.
 // Proved: every function is safe and ends.
+#![tactic(auto)]
 use record_tap::TapPlace;
 use soft_card_bytes::CARD_BYTES;
 use soft_state::{Desk, args};

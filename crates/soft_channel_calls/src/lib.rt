@@ -1,6 +1,7 @@
 // The soft card's calls of commands and of the terminal's end: ASK, ANSWER, SEAL, UNSEAL, all four in a row, WALK, ENTROPY, and the session.
 // Every length, room, count and offset is in bytes.
 // Proved: every function is safe and ends.
+#![tactic(auto)]
 use soft_card_bytes::SESSION_BYTES;
 use soft_state::{Desk, Last, args};
 use soft_word_bytes::VALUE_MAX_BYTES;

@@ -1,6 +1,7 @@
 // What the soft card says: status words, refusals and supplies by name, fault offsets, and word numbers.
 // Every length and offset is in bytes; a length is written with its unit.
 // Proved: every function is safe and ends.
+#![tactic(auto)]
 mod fault;
 mod status;
 mod supply;

@@ -55,7 +55,7 @@ const FIELD_COUNT: usize = ROWS + SLOT_ROWS * Card::SLOTS - SLOT_ROWS;
 const SLOT_NAME_BYTES: usize = 4;
 
 // Where a field lies, from the record's start on; a length of 0 means no field.
-#[derive(Drop)]
+#[derive(Clone, Copy)]
 pub struct Field {
     pub at: usize,
     pub len: usize,

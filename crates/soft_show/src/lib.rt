@@ -1,6 +1,7 @@
 // What the soft card writes of a card and of a session.
 // Every length and place is in bytes.
 // Proved: every function is safe and ends.
+#![tactic(auto)]
 mod fields;
 
 use card::{Card, SLOT_BYTES};

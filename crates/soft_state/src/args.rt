@@ -4,7 +4,7 @@ use soft_word_bytes::VALUE_MAX_BYTES;
 use text_print::say;
 
 // Whether a word was taken, and its length or number.
-#[derive(Drop)]
+#[derive(Clone, Copy)]
 pub struct Taken {
     pub ok: bool,
     pub len: usize,

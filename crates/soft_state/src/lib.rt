@@ -1,6 +1,7 @@
 // What the soft card holds: the card, the terminal's session, and the bytes that were last written; and the words of a call as bytes
 // and numbers. Every length is in bytes.
 // Proved: every function is safe and ends.
+#![tactic(auto)]
 pub mod args;
 
 use soft_card_bytes::{CARD_BYTES, SESSION_BYTES};
@@ -8,13 +9,13 @@ use soft_card_bytes::{CARD_BYTES, SESSION_BYTES};
 // As many bytes as the longest output has: a stored record's.
 const LAST_MAX_BYTES: usize = record_rules::RECORD_MAX_BYTES;
 
-#[derive(Drop)]
+#[derive(Clone, Copy)]
 pub struct Last {
     pub bytes: [u8; LAST_MAX_BYTES],
     pub len: usize,
 }
 
-#[derive(Drop)]
+#[derive(Clone, Copy)]
 pub struct Desk {
     pub card: [u8; CARD_BYTES],
     pub session: [u8; SESSION_BYTES],

@@ -1,13 +1,14 @@
 // The operations that write to a buffer, and what the soft card says of their results: ASK, ANSWER, SEAL, UNSEAL, WRITE, ENTROPY.
 // Every length, room, count and offset is in bytes.
 // Proved: every function is safe and ends.
+#![tactic(auto)]
 use soft_card_bytes::CARD_BYTES;
 use soft_state::Desk;
 use soft_word_bytes::VALUE_MAX_BYTES;
 use text_print::say;
 
 // Whether a step was done and not refused, the fault offset that ANSWER told or rules::NO_FAULT, and the desk after it.
-#[derive(Drop)]
+#[derive(Clone, Copy)]
 pub struct Step {
     pub done: bool,
     pub fault_offset: usize,

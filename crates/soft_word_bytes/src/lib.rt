@@ -2,6 +2,7 @@
 // Every length is in bytes.
 // Proved: a word is read as the bytes that it means, or refused for the fault that it has, as the definition says. What the buffer holds
 // after a fault is not said, but that its length is kept.
+#![tactic(auto)]
 ghost use Rattle.std.specs.Prelude.{◌≡◌, [], ◌-◌, ◌≤◌, length};
 ghost use Rattle.text_fill.specs.Steps.{stepped};
 ghost use Rattle.soft_word_bytes.specs.Meaning.{taken, within, all_hex, pairs, counted, piece_of, pieces_in, joined, meaning, Puts, Reads};
@@ -19,7 +20,7 @@ pub const FORM: u8 = 1;
 pub const MANY: u8 = 2;
 
 // What was read so far: 0 or why the word is not taken, and how many bytes.
-#[derive(Drop)]
+#[derive(Clone, Copy)]
 pub struct Got {
     pub fault: u8,
     pub len: usize,

@@ -1,6 +1,7 @@
 // A card on the command line: calls are read line by line from standard input, and what each gives is written (docs/SOFTCARD.md).
 // Every length, room and count is in bytes and is written with its unit.
 // Proved: every function is safe and ends. What the operations give is proved in the crates below.
+#![tactic(auto)]
 mod plays;
 
 use libc::STDIN_FILENO;
@@ -10,7 +11,7 @@ use text_print::say;
 const LINE_MAX_BYTES: usize = 4096;
 
 // The desk after a line, and whether there was one.
-#[derive(Drop)]
+#[derive(Clone, Copy)]
 struct Played {
     found: bool,
     desk: Desk,

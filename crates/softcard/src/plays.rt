@@ -3,7 +3,7 @@ use soft_state::args::is_word;
 use soft_state::{Desk, args};
 use text_print::say;
 
-#[derive(Drop)]
+#[derive(Clone, Copy)]
 enum Call {
     Fresh,
     Reset,

@@ -1,5 +1,6 @@
 // Whether a card is sound, and RESET, which refuses a card that is not.
 // Proved: the answer is the definition of soundness for every card, whatever its bytes; RESET refuses with 1 or powers up.
+#![tactic(auto)]
 ghost use Rattle.std.specs.Prelude.{◌≡◌};
 ghost use Rattle.card.specs.Sound.{is_sound, parts_sound, parts_blank};
 ghost use Rattle.sound.specs.Reset.{reset_answer};
@@ -8,7 +9,7 @@ use card::{Card, STAGE_AUTHENTICATED, STAGE_CLOSED};
 use refusals::{REFUSAL_NONE, REFUSAL_UNSOUND};
 
 // What a call that gives a card answers: the refusal's number, or 0 for none, and the card.
-#[derive(Drop)]
+#[derive(Clone, Copy)]
 pub struct Answer {
     pub refusal: u8,
     pub card: Card,

@@ -1,6 +1,7 @@
 // Loops over bytes that soundness asks for: whether each is a digit, and whether each from a place on is zero.
 // Every length is in bytes.
 // Proved: each answer is the definition's, whatever the bytes.
+#![tactic(auto)]
 ghost use Rattle.std.specs.Prelude.{◌≡◌, drop};
 ghost use Rattle.card.specs.Slots.{all_of, all_zero};
 ghost use Rattle.card.specs.Sound.{is_digit};

@@ -1,6 +1,7 @@
 // The count of one stored record: what it adds to each of the eleven numbers of a stock count.
 // The numbers count records, cards and slots; a record's length is in bytes.
 // Proved: the count is what the table says of READ's answer, for any bytes.
+#![tactic(auto)]
 ghost use Rattle.std.specs.Prelude.{◌≡◌, ◌&&◌, cond, eqb};
 ghost use Rattle.record_rules.specs.Answers.{read_answer};
 ghost use Rattle.stock_rules.specs.Rows.{used_slots, one_if, one_of};

@@ -1,6 +1,7 @@
 // Whether a stock count is sound, and the records fed that it holds.
 // The numbers count records, cards and slots; sums of them are taken in 64 bits, where none wraps.
 // Proved: the answer is the definition of soundness for every count, whatever its numbers.
+#![tactic(auto)]
 ghost use Rattle.std.specs.Prelude.{◌≡◌, ◌<◌};
 ghost use Rattle.stock_rules.specs.Counts.{of_kinds, of_tries, fed, is_count};
 

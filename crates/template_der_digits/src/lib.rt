@@ -1,6 +1,7 @@
 // What the content of a DER integer is made of: which bytes of a number are leading zeros, and whether a zero has to be put in front.
 // Every length is in bytes.
 // Proved: zeros, the zero in front and the length of the content are those that the definitions of `template` give.
+#![tactic(auto)]
 ghost use Rattle.std.specs.Prelude.{◌≡◌, length};
 ghost use Rattle.template_rules.specs.Der.{leading_zeros, needs_zero, der_content};
 

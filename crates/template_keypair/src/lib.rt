@@ -1,6 +1,7 @@
 // LOAD's reader of keypair templates (RULES 9.4), for P1 01 and 02.
 // Every length is in bytes.
 // Proved: exactly the templates that the definition describes are accepted, and WALK accepts each of them.
+#![tactic(auto)]
 ghost use Rattle.std.specs.Prelude.{◌≡◌};
 ghost use Rattle.template_keypair.specs.Keypair.{private_fields, keypair, exactly};
 

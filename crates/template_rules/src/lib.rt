@@ -1,6 +1,7 @@
 // Fields of templates: reading the head of a field, and the definitions and laws of fields and DER integers, read and written.
 // Every length is in bytes.
 // Proved: a head is read as the definitions of specs/ say, and by them what is written is read back and no other form is taken.
+#![tactic(auto)]
 ghost use Rattle.std.specs.Prelude.{◌≡◌};
 ghost use Rattle.template_rules.specs.Template.{read_head, begins_with, HeadSays};
 
@@ -16,7 +17,7 @@ pub const TAG_INTEGER: u8 = 0x02;
 
 // What the head of a field, its tag and length, says: how many bytes it takes, and how many bytes of value follow. `HeadSays` of
 // specs/Template.antt states each case.
-#[derive(Drop)]
+#[derive(Clone, Copy)]
 pub enum Head {
     Of {
         head_bytes: usize,

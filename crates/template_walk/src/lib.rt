@@ -1,6 +1,7 @@
 // WALK (RULES 9.3): how many fields that are not templates some bytes hold, or why they are no templates.
 // Every length and place is in bytes; depth is counted in templates, a template at the top being at depth 1.
 // Proved: for any bytes the answer is what the definition of WALK gives. Calls nest only as deep as templates do.
+#![tactic(auto)]
 ghost use Rattle.std.specs.Prelude.{◌≡◌};
 ghost use Rattle.template_walk.specs.Walk.{read_field, template_of, sequence_of, walk_of, report, WALK};
 
@@ -12,7 +13,7 @@ pub const MAX_DEPTH: usize = 4;
 // A tag with this bit marks a template, a field whose value is a sequence of fields.
 pub const TEMPLATE_BIT: u8 = 0x20;
 
-#[derive(Drop)]
+#[derive(Clone, Copy)]
 pub enum Fault {
     Malformed,
     TooDeep,
@@ -20,7 +21,7 @@ pub enum Fault {
 
 // How many fields that are not templates there are, or the first fault from the left and the place of its field: how many bytes come before
 // the tag.
-#[derive(Drop)]
+#[derive(Clone, Copy)]
 pub enum Walked {
     Fields(usize),
     Refused { fault: Fault, at: usize },
@@ -28,7 +29,7 @@ pub enum Walked {
 
 // One field: how many fields that are not templates it is or holds, and its length in bytes; or its first fault and the place, counted from
 // the field's own tag.
-#[derive(Drop)]
+#[derive(Clone, Copy)]
 pub enum Field {
     Whole { fields: usize, bytes: usize },
     Faulty { fault: Fault, at: usize },

@@ -5,7 +5,7 @@ ghost use Rattle.text_hex.specs.Places.{First};
 use crate::hex;
 
 // A part of the file: from byte `start` up to byte `end`, which is not in it. No value starts at byte 0, so 0 to 0 means none.
-#[derive(Drop)]
+#[derive(Clone, Copy)]
 pub struct TextSpan {
     pub start: usize,
     pub end: usize,

@@ -1,10 +1,11 @@
 // Lines of standard input, for the soft card.
 // Every length is in bytes.
 // Proved: every function is safe and ends.
+#![tactic(auto)]
 use libc::STDIN_FILENO;
 
 // What was read: whether there was a line at all, its length, and whether more of it was dropped.
-#[derive(Drop)]
+#[derive(Clone, Copy)]
 pub struct Line {
     pub found: bool,
     pub len: usize,
@@ -12,7 +13,7 @@ pub struct Line {
 }
 
 // The next byte of the input, where there is one.
-#[derive(Drop)]
+#[derive(Clone, Copy)]
 struct Next {
     found: bool,
     byte: u8,

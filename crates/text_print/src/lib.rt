@@ -1,6 +1,7 @@
 // What the programs write, to standard output: words, numbers, lengths and bytes.
 // Lengths are in bytes; bytes are written in hexadecimal, two digits each, in capitals.
 // Proved: every function is safe and ends.
+#![tactic(auto)]
 use libc::STDOUT_FILENO;
 
 pub fn say(words: &[u8]) {

@@ -1,11 +1,12 @@
 // A line of text for the soft card: its words, which have spaces or tabs between them.
 // Every place and length is in bytes.
 // Proved: words, their number and whether a line is a comment are as defined, for any bytes.
+#![tactic(auto)]
 ghost use Rattle.std.specs.Prelude.{◌≡◌, cond, ◌+◌, ◌-◌, ◌≤◌, length, take, drop};
 ghost use Rattle.text_words.specs.Words.{is_blank, blanks, letters, word_of, word_count, is_comment, line_bytes};
 
 // A part of a line: from byte `start` up to byte `end`, which is not in it.
-#[derive(Drop)]
+#[derive(Clone, Copy)]
 pub struct WordSpan {
     pub start: usize,
     pub end: usize,
