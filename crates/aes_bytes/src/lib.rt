@@ -2,6 +2,7 @@
 // A table has 256 bytes; a byte is looked up in it.
 // Proved: the two constant tables are FIPS 197's, and each function gives what the field's rule says, for every byte.
 #![tactic(auto)]
+
 ghost use Rattle.std.specs.Prelude.{◌≡◌};
 ghost use Rattle.aes_field.specs.Field.{x_times, sub_byte, inv_sub_byte};
 ghost use Rattle.aes_field.specs.Tables.{sbox, inv_sbox};

@@ -3,6 +3,7 @@
 // (crate `aes_calls`) and changes nothing.
 // Proved, for every call: the number, and every byte of the caller's buffer, are the definition's.
 #![tactic(auto)]
+
 ghost use Rattle.std.specs.Prelude.{◌≡◌, length};
 ghost use Rattle.aes_rules.specs.Aes.{aes256, inv_aes256};
 ghost use Rattle.aes_cbc.specs.Mode.{cbc_encrypt, cbc_decrypt, cbc_mac};

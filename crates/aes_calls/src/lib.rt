@@ -2,6 +2,7 @@
 // Every length is in bytes: a key has 32, an IV, a head block and a MAC 16 each, the data a number of whole blocks of 16.
 // Proved: each number is the definition's (specs/Calls.antt has them), for all lengths.
 #![tactic(auto)]
+
 ghost use Rattle.std.specs.Prelude.{◌≡◌, length};
 ghost use Rattle.aes_calls.specs.Calls.{cbc_answer, mac_answer, seal_answer};
 
@@ -19,6 +20,7 @@ const WRONG_DATA_LENGTH: u8 = 3;
 const WRONG_MAC_LENGTH: u8 = 4;
 
 // The answer to a call of CBC with a key, an IV and data of these lengths, in bytes.
+#[tactic(auto, unfolding(crate::specs::Calls::cbc_answer))]
 pub fn cbc_answer(key: usize, iv: usize, text: usize) -> u8
     ensures { result ≡ cbc_answer key iv text }
 {
@@ -35,6 +37,7 @@ pub fn cbc_answer(key: usize, iv: usize, text: usize) -> u8
 }
 
 // The answer to a call of CBC-MAC with a key, data and room for the MAC of these lengths, in bytes.
+#[tactic(auto, unfolding(crate::specs::Calls::mac_answer))]
 pub fn mac_answer(key: usize, text: usize, room: usize) -> u8
     ensures { result ≡ mac_answer key text room }
 {
@@ -54,6 +57,7 @@ pub fn mac_answer(key: usize, text: usize, room: usize) -> u8
 }
 
 // The answer to a call that encrypts and takes the MAC, with keys, IV, head block, data and room for the MAC of these lengths, in bytes.
+#[tactic(auto, unfolding(crate::specs::Calls::seal_answer))]
 pub fn seal_answer(
     key_bytes: usize,
     mac_key_bytes: usize,

@@ -1,11 +1,11 @@
 -- The laws of CBC, over any cipher function that permutes blocks and for every number of whole blocks: lengths are kept, decryption undoes
 -- encryption, and encryption undoes decryption; and CBC-MAC is a block. AES-256 is such a function, so they hold of it under every key.
 -- Assumes nothing.
-use mathlib.Core.Path.{◌≡◌, refl, sym, ap, ◌∙◌}
+use mathlib.Core.Path.{◌≡◌, refl, ap, ◌∙◌}
 use mathlib.Core.List.{List, ◌++◌}
-use Prim.Native.Nat.{ℕ, ◌*◌, ◌/◌, ◌%◌, ◌≤◌}
+use Prim.Native.Nat.{ℕ, ◌*◌, ◌/◌, ◌%◌}
 use native.Mathlib.Omega.{arith}
-use lib.ListN.{length, take, drop, length-append, length-drop}
+use lib.ListN.{length, length-append, length-drop}
 use lib.Seq.{take_all}
 use Rattle.octets.specs.Bytes.{Bytes, Block, xor_bytes}
 use Rattle.octets.proofs.Lists.{xor_block, xor-bytes-undo, bytes-append, bytes_drop, bytes-replicate}

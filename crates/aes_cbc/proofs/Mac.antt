@@ -2,10 +2,10 @@
 -- Assumes nothing.
 use mathlib.Core.Path.{◌≡◌, refl, sym, ap, ap₂, ◌∙◌}
 use mathlib.Core.List.{List, [], ◌++◌, append-nil}
-use Prim.Native.Nat.{ℕ, suc, ◌+◌, ◌-◌, ◌/◌, ◌%◌, ◌≤◌, ◌<◌}
+use Prim.Native.Nat.{ℕ, suc, ◌+◌, ◌-◌, ◌/◌, ◌≤◌}
 use native.Mathlib.Omega.{arith}
 use lib.ListN.{length, take, drop, length-append}
-use lib.Seq.{take_at, drop_at, take_all, drop-drop}
+use lib.Seq.{take_at, drop_at, drop-drop}
 use Rattle.octets.specs.Bytes.{xor_bytes}
 use Rattle.octets.proofs.Lists.{xor-zeros}
 use Rattle.aes_cbc.specs.Mode.{chain, encrypt_block, cbc_encrypt, last_block, zero_block, cbc_mac}

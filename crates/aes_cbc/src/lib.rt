@@ -2,6 +2,7 @@
 // A key has 32 bytes, an IV and a MAC 16 bytes; the data is a number of whole blocks of 16 bytes, none included.
 // Proved: every byte of the slice is the definition's; decryption undoes encryption and encryption undoes decryption, for every length.
 #![tactic(auto)]
+
 ghost use Rattle.std.specs.Prelude.{◌≡◌, ◌++◌, ◌%◌, length};
 ghost use Rattle.aes_field.specs.Tables.{sbox, inv_sbox};
 ghost use Rattle.aes_rules.specs.Cipher.{cipher};

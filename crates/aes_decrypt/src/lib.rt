@@ -2,6 +2,7 @@
 // A block has 16 bytes, a schedule 240 bytes.
 // Proved: the result is the definition's, for every schedule and block.
 #![tactic(auto)]
+
 ghost use Rattle.std.specs.Prelude.{◌≡◌, [], ◌∷◌, length};
 ghost use Rattle.aes_field.specs.Tables.{inv_sbox};
 ghost use Rattle.aes_rules.specs.InvCipher.{inv_shift_rows, inv_sub_bytes, inv_mix_row, inv_mix_columns, inv_cipher};

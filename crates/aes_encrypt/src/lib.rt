@@ -2,6 +2,7 @@
 // A block has 16 bytes, a schedule 240 bytes.
 // Proved: the result is the definition's, for every schedule and block.
 #![tactic(auto)]
+
 ghost use Rattle.std.specs.Prelude.{◌≡◌, [], ◌∷◌, length};
 ghost use Rattle.aes_field.specs.Tables.{sbox};
 ghost use Rattle.aes_rules.specs.Cipher.{sub_bytes, shift_rows, mix_row, mix_columns, cipher};

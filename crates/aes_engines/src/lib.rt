@@ -2,6 +2,7 @@
 // A key has 32 bytes, a block 16 bytes.
 // Proved: both give AES-256 of FIPS 197, so that both give the same, for every key and block.
 #![tactic(auto)]
+
 ghost use Rattle.std.specs.Prelude.{◌≡◌};
 ghost use Rattle.aes_engines.specs.Engines.{Enciphered};
 

@@ -2,6 +2,7 @@
 // A key has 32 bytes, a word 4 bytes, a schedule 240 bytes.
 // Proved: the schedule is the definition's, for every key.
 #![tactic(auto)]
+
 ghost use Rattle.std.specs.Prelude.{◌≡◌, ◌+◌, ◌≤◌, ◌<◌, length};
 ghost use Rattle.octets.specs.Bytes.{xor_bytes};
 ghost use Rattle.aes_field.specs.Tables.{sbox};

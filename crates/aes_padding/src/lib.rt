@@ -2,6 +2,7 @@
 // Every length is in bytes.
 // Proved: unpadding gives back what was padded, and takes nothing else.
 #![tactic(auto)]
+
 ghost use Rattle.std.specs.Prelude.{◌≡◌, ◌≤◌, length, take};
 ghost use Rattle.octets.specs.Bytes.{written};
 ghost use Rattle.aes_padding.specs.Padding.{padded_bytes, pad, unpad, answer};

@@ -2,6 +2,7 @@
 // A table has 256 words. A constant table is copied where it is named, so each of these is called once and its result is handed down.
 // Proved: each entry of each table is what the rule makes of the S-box's byte.
 #![tactic(auto)]
+
 ghost use Rattle.std.specs.Prelude.{◌≡◌};
 ghost use Rattle.aes_tables.specs.Tables.{table0, table1, table2, table3};
 

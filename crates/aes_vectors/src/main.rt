@@ -3,6 +3,7 @@
 // Proved: every function is safe and ends. What the engine answers to the vectors is compared, not proved: that it is AES-256 is proved
 // in the crates below.
 #![tactic(auto)]
+
 mod file;
 mod report;
 mod trial;

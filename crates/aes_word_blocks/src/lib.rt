@@ -1,6 +1,7 @@
 // Blocks of four words of 32 bits: their exclusive-or, and their bytes written over a slice of 16 bytes.
 // Proved: each has, or leaves in the slice, the bytes of the definition.
 #![tactic(auto)]
+
 ghost use Rattle.std.specs.Prelude.{◌≡◌, length};
 ghost use Rattle.octets.specs.Bytes.{xor_bytes};
 ghost use Rattle.aes_words.specs.Words.{bytes_of};

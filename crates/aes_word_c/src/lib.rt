@@ -3,6 +3,7 @@
 // number (crate `aes_calls`) and changes nothing.
 // Proved, for every call: the number, and every byte of the caller's buffers, are the definition's, as with the plain engine.
 #![tactic(auto)]
+
 ghost use Rattle.std.specs.Prelude.{◌≡◌, ◌++◌, length};
 ghost use Rattle.aes_rules.specs.Aes.{aes256};
 ghost use Rattle.aes_cbc.specs.Mode.{cbc_encrypt, cbc_mac};

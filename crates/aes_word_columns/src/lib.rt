@@ -2,6 +2,7 @@
 // A column is a word of 32 bits, its lowest byte in row 0; a table has 256 words.
 // Proved: the column has the bytes of the definition, for all words.
 #![tactic(auto)]
+
 ghost use Rattle.std.specs.Prelude.{◌≡◌, [], ◌∷◌, ◌<◌};
 ghost use Rattle.octets.specs.Bytes.{xor_bytes};
 ghost use Rattle.aes_field.specs.Field.{sub_byte};

@@ -2,6 +2,7 @@
 // A block has 16 bytes or four words, a table 256 words, a schedule 60 words.
 // Proved: the result is the definition's, for every schedule and block.
 #![tactic(auto)]
+
 ghost use Rattle.std.specs.Prelude.{◌≡◌, length};
 ghost use Rattle.aes_rules.specs.Cipher.{cipher};
 ghost use Rattle.aes_words.specs.Words.{bytes_of};

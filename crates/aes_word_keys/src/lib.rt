@@ -2,6 +2,7 @@
 // A key has 32 bytes, a schedule 60 words; a word's lowest byte is the first of its four bytes.
 // Proved: the bytes of the schedule's words are the definition's schedule, for every key.
 #![tactic(auto)]
+
 ghost use Rattle.std.specs.Prelude.{◌≡◌, ◌+◌, ◌%◌, ◌≤◌, ◌<◌, length};
 ghost use Rattle.aes_rules.specs.Schedule.{rcon, changed, word_at, key_expansion};
 ghost use Rattle.aes_words.specs.Words.{word_bytes, bytes_of};

@@ -2,6 +2,7 @@
 // A key has 32 bytes, a head block and a MAC 16 bytes; the data is a number of whole blocks of 16 bytes, none included.
 // Proved: the MAC is what the definition of `aes_cbc` gives, as the plain engine's.
 #![tactic(auto)]
+
 ghost use Rattle.std.specs.Prelude.{◌≡◌, ◌++◌, ◌%◌, length};
 ghost use Rattle.aes_rules.specs.Cipher.{cipher};
 ghost use Rattle.aes_rules.specs.Aes.{aes256};

@@ -2,6 +2,7 @@
 // A block has 16 bytes, here four words of 32 bits; a table has 256 words, a schedule 60 words.
 // Proved: each result is the definition's for its own schedule and block, whatever the other is.
 #![tactic(auto)]
+
 ghost use Rattle.std.specs.Prelude.{◌≡◌, length};
 ghost use Rattle.aes_rules.specs.Cipher.{cipher};
 ghost use Rattle.aes_words.specs.Words.{bytes_of};

@@ -2,6 +2,7 @@
 // A word of the state is a column, a table has 256 words, a schedule 60 words.
 // Proved: each gives the bytes that the definition gives, for every schedule and state.
 #![tactic(auto)]
+
 ghost use Rattle.std.specs.Prelude.{◌≡◌, ◌≤◌, length};
 ghost use Rattle.aes_rules.specs.Cipher.{sub_bytes, shift_rows, add_round_key, round_key, round};
 ghost use Rattle.aes_words.specs.Words.{bytes_of};

@@ -1,6 +1,7 @@
 // Words of 32 bits as four bytes, the first byte the lowest, and blocks of 16 bytes as four words.
 // Proved: a word, and a block of words, has the bytes that it was made of, and gives them back.
 #![tactic(auto)]
+
 ghost use Rattle.std.specs.Prelude.{◌≡◌, [], ◌∷◌, ◌%◌, length};
 ghost use Rattle.aes_words.specs.Words.{word_bytes, bytes_of};
 

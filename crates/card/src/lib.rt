@@ -2,6 +2,7 @@
 // Every field is a u8 or an array of u8, so the structs have one layout without padding; every length is in bytes.
 // Proved: a fresh card and a card at power-up are what their definitions say, field by field.
 #![tactic(auto)]
+
 ghost use Rattle.std.specs.Prelude.{◌≡◌};
 ghost use Rattle.card.specs.State.{fresh_of, reset_of, closed, closed_of};
 

@@ -2,6 +2,7 @@
 // An index counts slots from 0; the facts hold for any number of slots.
 // Proved: the slot found is the free one with the least index, and none is found exactly where all are filled.
 #![tactic(auto)]
+
 ghost use Rattle.std.specs.Prelude.{◌≡◌, drop};
 ghost use Rattle.card.specs.Slots.{all_of, some_of, is_free};
 ghost use Rattle.card_slots.specs.Free.{first_free, Says};

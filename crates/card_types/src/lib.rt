@@ -2,6 +2,7 @@
 // Every length is in bytes.
 // Proved: every card that code holds has it, by its type alone.
 #![tactic(auto)]
+
 ghost use Rattle.std.specs.Prelude.{◌≡◌, length};
 ghost use Rattle.card.specs.Sizes.{uid_bytes, public_key_bytes, pin_bytes, puk_bytes, key_bytes, path_most_bytes, tap_most_bytes, slot_count};
 ghost use Rattle.card.specs.Shape.{KeysLong, Shaped};

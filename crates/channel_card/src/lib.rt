@@ -2,6 +2,7 @@
 // Keys and IV are in bytes.
 // Proved: the session and the next card are the rulebook's, for any card.
 #![tactic(auto)]
+
 ghost use Rattle.std.specs.Prelude.{◌≡◌};
 ghost use Rattle.rules.specs.Channel.{session_of, with_mac};
 

@@ -2,6 +2,7 @@
 // Every length is in bytes: a head block has 16, a field 32 to 240.
 // Proved: each is the definition's.
 #![tactic(auto)]
+
 ghost use Rattle.std.specs.Prelude.{◌≡◌, ◌<◌};
 ghost use Rattle.channel_rules.specs.Message.{command_head, response_head, field_form};
 

@@ -2,6 +2,7 @@
 // Every length is in bytes: a field is a MAC of 16 with the ciphertext directly after it, 32 to 240 in all.
 // Proved: a field is opened or refused as the definitions say, for every session and every field.
 #![tactic(auto)]
+
 ghost use Rattle.std.specs.Prelude.{◌≡◌, ◌≤◌, ◌%◌, length};
 ghost use Rattle.channel_rules.specs.Message.{command_head, response_head, opened, open_field};
 ghost use Rattle.channel_open.specs.Promise.{Opens};

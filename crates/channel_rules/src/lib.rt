@@ -2,6 +2,7 @@
 // Every length is in bytes: keys 32, IV and MAC 16, data at most 223.
 // Proved: under the same session, what one end seals the other opens to the same bytes, and both then hold the same session.
 #![tactic(auto)]
+
 ghost use Rattle.std.specs.Prelude.{◌≡◌};
 ghost use Rattle.channel_rules.specs.Message.{with_iv};
 

@@ -2,6 +2,7 @@
 // Every length is in bytes: a field is a MAC of 16 with the ciphertext directly after it, 32 to 240 in all.
 // Proved: a field and a response are sealed as the definitions say, for every session and every content.
 #![tactic(auto)]
+
 ghost use Rattle.std.specs.Prelude.{◌≡◌, [], ◌∷◌, ◌++◌, ◌+◌, ◌≤◌, length};
 ghost use Rattle.refusals.specs.Refusals.{answer_room};
 ghost use Rattle.aes_padding.specs.Padding.{padded_bytes};

@@ -2,6 +2,7 @@
 // Every length, Lc included, is in bytes.
 // Proved: refusal, count, next session and every byte of the buffer are the definition's, for every input; nothing is required.
 #![tactic(auto)]
+
 ghost use Rattle.std.specs.Prelude.{◌≡◌, [], ◌∷◌, length};
 ghost use Rattle.channel_rules.specs.Terminal.{seal_out};
 ghost use Rattle.channel_terminal.specs.Did.{Did};

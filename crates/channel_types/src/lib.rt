@@ -2,6 +2,7 @@
 // Every length is in bytes.
 // Proved: every session that code holds has keys of 32 bytes and an IV of 16 bytes, by its type alone.
 #![tactic(auto)]
+
 ghost use Rattle.std.specs.Prelude.{◌≡◌};
 ghost use Rattle.octets.specs.Bytes.{Block};
 ghost use Rattle.aes_rules.specs.Aes.{Key};

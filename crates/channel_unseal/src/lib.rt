@@ -2,6 +2,7 @@
 // Every length is in bytes.
 // Proved: refusal, count, next session and every byte of the buffer are the definition's, for every input; nothing is required.
 #![tactic(auto)]
+
 ghost use Rattle.std.specs.Prelude.{◌≡◌, ◌≤◌, length};
 ghost use Rattle.refusals.specs.Refusals.{unseal_room};
 ghost use Rattle.channel_rules.specs.Message.{response_head, open_field};

@@ -2,6 +2,7 @@
 // Every length, count and place is in bytes.
 // Proved: the reply and every byte of the buffer are what the command's rule gives, for every card and every supply of the right form.
 #![tactic(auto)]
+
 ghost use Rattle.std.specs.Prelude.{true, ◌≡◌, ◌≤◌, length};
 ghost use Rattle.template_rules.specs.Writing.{Wrote};
 ghost use Rattle.rules.specs.Words.{Hold};

@@ -2,6 +2,7 @@
 // Every length is in bytes.
 // Proved: the verdict is what the command's rule gives, for all data and every card whose current path fits.
 #![tactic(auto)]
+
 ghost use Rattle.std.specs.Prelude.{◌≡◌, ◌≤◌};
 ghost use Rattle.rules.specs.Words.{verdict};
 ghost use Rattle.rules.specs.Supplies.{export_supply};

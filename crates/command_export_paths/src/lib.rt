@@ -2,6 +2,7 @@
 // Every length and place is in bytes.
 // Proved: each answer is the rulebook's, for every path, all data and every card whose current path fits.
 #![tactic(auto)]
+
 ghost use Rattle.std.specs.Prelude.{◌≡◌, [], ◌∷◌, ◌+◌, ◌≤◌, length};
 ghost use Rattle.octets.specs.Bytes.{same_bytes};
 ghost use Rattle.card.specs.State.{path_bytes};

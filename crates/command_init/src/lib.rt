@@ -2,6 +2,7 @@
 // Every length and count is in bytes.
 // Proved: the verdict and the reply are what the command's rule gives, for every card, data and supply.
 #![tactic(auto)]
+
 ghost use Rattle.std.specs.Prelude.{◌≡◌, true, length};
 ghost use Rattle.aes_rules.specs.Aes.{inv_aes256};
 ghost use Rattle.aes_cbc.specs.Mode.{cbc_decrypt};

@@ -2,6 +2,7 @@
 // Every length and count is in bytes.
 // Proved: each reply and byte of the buffer is what the command's rule gives, for every card and supply.
 #![tactic(auto)]
+
 ghost use Rattle.std.specs.Prelude.{true, ◌≡◌, ◌≤◌, length};
 ghost use Rattle.rules.specs.Code.{Replies};
 ghost use Rattle.rules.specs.Supplies.{suits, load_supply};

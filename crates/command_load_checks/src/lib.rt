@@ -2,6 +2,7 @@
 // Every length and offset is in bytes.
 // Proved: each verdict and offset is what the command's rule gives, for every card and data.
 #![tactic(auto)]
+
 ghost use Rattle.std.specs.Prelude.{◌≡◌};
 ghost use Rattle.rules.specs.Words.{verdict};
 ghost use Rattle.rules.specs.Supplies.{load_supply};

@@ -2,6 +2,7 @@
 // Every length is in bytes.
 // Proved: verdict and reply are what the command's rule gives, for every card and all data.
 #![tactic(auto)]
+
 ghost use Rattle.std.specs.Prelude.{◌≡◌, ◌≤◌, length};
 ghost use Rattle.card.specs.Sizes.{tap_most_bytes};
 ghost use Rattle.card.specs.State.{tap_of};

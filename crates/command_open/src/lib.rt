@@ -2,6 +2,7 @@
 // Every length and count is in bytes; a slot's index counts slots from 0, and an index that no slot has reads as a free one.
 // Proved: the verdict, the reply and every byte of the buffer are what the command's rule gives, for every card, index, data and supply.
 #![tactic(auto)]
+
 ghost use Rattle.std.specs.Prelude.{◌≡◌, true, not, ◌++◌, ◌≤◌, length};
 ghost use Rattle.template_rules.specs.Writing.{Wrote};
 ghost use Rattle.card.specs.Slots.{is_free};

@@ -3,6 +3,7 @@
 // Every length and count is in bytes; a slot's index counts slots from 0.
 // Proved: the verdict, the reply and each byte of the buffer are what the step's rule gives, for every card, data and supply.
 #![tactic(auto)]
+
 ghost use Rattle.std.specs.Prelude.{◌≡◌, true, ◌≤◌, ◌<◌, length};
 ghost use Rattle.card.specs.State.{slot_count, not_pending};
 ghost use Rattle.rules.specs.Words.{verdict};

@@ -2,6 +2,7 @@
 // Every length and count is in bytes.
 // Proved: the verdict, the reply and each byte of the buffer are what the step's rule gives, for every card, data and supply.
 #![tactic(auto)]
+
 ghost use Rattle.std.specs.Prelude.{◌≡◌, true, ◌++◌, ◌≤◌, length};
 ghost use Rattle.sha_rules.specs.Hash.{sha256};
 ghost use Rattle.rules.specs.Words.{verdict};

@@ -2,6 +2,7 @@
 // Every length, count and place is in bytes.
 // Proved: each gives exactly what its contract names, for every card, all data and every supply; a chain of `must` is the rulebook's verdict.
 #![tactic(auto)]
+
 ghost use Rattle.std.specs.Prelude.{◌≡◌, cond, [], ◌++◌, ◌+◌, ◌≤◌, length};
 ghost use Rattle.template_rules.specs.Writing.{Wrote};
 ghost use Rattle.card.specs.State.{with_pins, with_pairing, with_keys, with_channel, with_tap};

@@ -2,6 +2,7 @@
 // Every length and count is in bytes.
 // Proved: each verdict and reply is what the command's rule gives, for every card, data and supply.
 #![tactic(auto)]
+
 ghost use Rattle.std.specs.Prelude.{true, ◌≡◌, ◌≤◌, length};
 ghost use Rattle.card.specs.State.{path_of};
 ghost use Rattle.rules.specs.Words.{Hold, verdict};

@@ -2,6 +2,7 @@
 // Lengths are in bytes.
 // Proved: each verdict and reply is what the command's rule gives, for every card.
 #![tactic(auto)]
+
 ghost use Rattle.std.specs.Prelude.{◌≡◌};
 ghost use Rattle.rules.specs.Words.{verdict};
 ghost use Rattle.rules.specs.Code.{replied_of};

@@ -2,6 +2,7 @@
 // Every length and count is in bytes.
 // Proved: the verdict, the reply and every byte of the buffer are what the command's rule gives, for every card whose paths fit.
 #![tactic(auto)]
+
 ghost use Rattle.std.specs.Prelude.{true, ◌≡◌, ◌≤◌, length};
 ghost use Rattle.octets.specs.Bytes.{same_bytes};
 ghost use Rattle.card.specs.State.{path_bytes};

@@ -2,6 +2,7 @@
 // Every length and count is in bytes.
 // Proved: the verdict, the reply and every byte of the buffer are what the command's rule gives, for every card whose current path fits.
 #![tactic(auto)]
+
 ghost use Rattle.std.specs.Prelude.{◌≡◌, [], ◌≤◌, length};
 ghost use Rattle.template_rules.specs.Writing.{Wrote};
 ghost use Rattle.card.specs.State.{path_bytes};

@@ -2,6 +2,7 @@
 // Every length and offset is in bytes.
 // Proved: for every command, verdict, reply and fault offset are what its rule gives.
 #![tactic(auto)]
+
 ghost use Rattle.std.specs.Prelude.{◌≡◌, true, ◌≤◌, length};
 ghost use Rattle.rules.specs.Words.{Hold, verdict};
 ghost use Rattle.rules.specs.Code.{Replies};

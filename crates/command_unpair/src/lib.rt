@@ -2,6 +2,7 @@
 // A slot's index counts slots from 0; an index that no slot has changes nothing.
 // Proved: the verdict and the reply are what the command's rule gives, for every card and every index.
 #![tactic(auto)]
+
 ghost use Rattle.std.specs.Prelude.{◌≡◌, set};
 ghost use Rattle.card.specs.State.{free_slot};
 ghost use Rattle.rules.specs.Words.{verdict};

@@ -2,6 +2,7 @@
 // Every length, room, count and offset is in bytes.
 // Proved: refusal, kind, count, fault offset, next card and every byte of the buffer are the rulebook's, for any card, command, supply and buffer.
 #![tactic(auto)]
+
 ghost use Rattle.std.specs.Prelude.{length};
 ghost use Rattle.rules.specs.Engine.{ask_out, answer_out};
 ghost use Rattle.rules.specs.Reports.{AskDid, AnswerDid};

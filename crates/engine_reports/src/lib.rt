@@ -2,6 +2,7 @@
 // Every length, count and offset is in bytes.
 // Proved: each report is the one named, with no fault told by a refusal, and the form is the rulebook's, for every supply.
 #![tactic(auto)]
+
 ghost use Rattle.std.specs.Prelude.{◌≡◌};
 ghost use Rattle.rules.specs.Supplies.{suits};
 ghost use Rattle.rules.specs.Rules.{no_fault};

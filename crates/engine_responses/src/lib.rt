@@ -3,6 +3,7 @@
 // Proved: the count, the fault offset, the next card and every byte of the buffer are the rulebook's, for any reply that fits and any buffer
 // with room.
 #![tactic(auto)]
+
 ghost use Rattle.std.specs.Prelude.{◌≡◌, ◌≤◌, length};
 ghost use Rattle.rules.specs.Channel.{plainly, sealed, tell};
 ghost use Rattle.rules.specs.Engine.{answered};

@@ -2,6 +2,7 @@
 // Every length, room, count and offset is in bytes.
 // Proved: refusal, kind, count, fault offset, next card and every byte of the buffer are what the rulebook's decision gives.
 #![tactic(auto)]
+
 ghost use Rattle.std.specs.Prelude.{◌≡◌, true, ◌≤◌, length};
 ghost use Rattle.rules.specs.Words.{Hold};
 ghost use Rattle.rules.specs.Supplies.{suits};

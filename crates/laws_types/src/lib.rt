@@ -2,6 +2,7 @@
 // Every length is in bytes.
 // Proved: every card that code holds meets it, by its type alone.
 #![tactic(auto)]
+
 ghost use Rattle.octets.specs.Bytes.{Bytes};
 ghost use Rattle.laws_exchange.specs.Exchange.{Typed};
 

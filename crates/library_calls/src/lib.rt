@@ -2,6 +2,7 @@
 // Every length, room, count and offset is in bytes (WALK counts fields); a refusal 0 means that there was none.
 // Proved: the promises of the operations by value.
 #![tactic(auto)]
+
 ghost use Rattle.std.specs.Prelude.{◌≡◌};
 ghost use Rattle.record_write.specs.Wrote.{WroteRecord};
 ghost use Rattle.record_tap.specs.Tap.{tap_place};

@@ -3,6 +3,7 @@
 // Every length, room and count is in bytes; a refusal 0 means that there was none.
 // Proved: the promises of the operations by value, over the record at entry and at exit; refused, it is as it was (READ: FRESH of zeros).
 #![tactic(auto)]
+
 ghost use Rattle.std.specs.Prelude.{◌≡◌, cond, length};
 ghost use Rattle.card.specs.State.{fresh_of};
 ghost use Rattle.card.specs.Sound.{is_sound};

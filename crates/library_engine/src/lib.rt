@@ -2,6 +2,7 @@
 // Every length, room, count and offset is in bytes; a refusal 0 means that there was none.
 // Proved: the promises of the operations by value, over the record at entry and at exit; refused, it is as it was.
 #![tactic(auto)]
+
 ghost use Rattle.std.specs.Prelude.{◌≡◌, length};
 ghost use Rattle.rules.specs.Engine.{ask_out, answer_out};
 ghost use Rattle.rules.specs.Reports.{AskDid, AnswerDid};

@@ -2,6 +2,7 @@
 // Every length is in bytes.
 // Proved: the promises of the operations by value.
 #![tactic(auto)]
+
 ghost use Rattle.std.specs.Prelude.{◌≡◌, cond};
 ghost use Rattle.card.specs.State.{fresh_of};
 ghost use Rattle.card.specs.Sound.{is_sound};

@@ -2,6 +2,7 @@
 // Every length and count is in bytes; a refusal 0 means that there was none.
 // Proved: the promise of the operation by value.
 #![tactic(auto)]
+
 ghost use Rattle.std.specs.Prelude.{◌≡◌, length};
 ghost use Rattle.channel_rules.specs.Terminal.{seal_out};
 ghost use Rattle.channel_terminal.specs.Did.{Did};

@@ -2,6 +2,7 @@
 // Every length, room, count and offset is in bytes (WALK counts fields); a refusal 0 means that there was none.
 // Proved: the promises of the operations by value, over the session at entry and at exit; refused, it is as it was.
 #![tactic(auto)]
+
 ghost use Rattle.std.specs.Prelude.{◌≡◌, length};
 ghost use Rattle.channel_rules.specs.Terminal.{seal_out, unseal_out};
 ghost use Rattle.channel_terminal.specs.Did.{Did};

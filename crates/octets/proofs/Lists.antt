@@ -7,10 +7,10 @@ use Prim.Native.Nat.{ℕ, zero, suc, ◌+◌, ◌-◌, ◌≤◌, ◌<◌}
 use native.Mathlib.Nat.{zero-add, not-suc-le-zero, le_of_suc-le-suc}
 use native.Mathlib.Omega.{arith}
 use lib.Bits.{bit_xor, xor_lt, xor_zero_r}
-use lib.Dec.{T, eqb, eqb→eq, eqb_refl}
+use lib.Dec.{T, eqb, eqb→eq}
 use lib.ListN.{length, take, drop, get_or, replicate, length-append, length-drop, drop_of_length-le}
-use lib.Seq.{drop-cons, take_at, drop_at, take_all, drop-drop, length-take-le, take-append-le}
-use borrow.Author.Tests.{eq-eqb, eqb-true}
+use lib.Seq.{drop-cons, take_at, drop_at, drop-drop, length-take-le}
+use borrow.Author.Tests.{eq-eqb}
 use Rattle.octets.specs.Bytes.{Bytes, Block, tabulate, xor_bytes, overwrite, written, same_bytes}
 use Rattle.octets.proofs.Xor.{xor-cancel, xor-undo}
 use Rattle.octets.proofs.Table.{and_left, and_right}

@@ -3,6 +3,7 @@
 // Proved: a block is read as it is, bytes are written in their place and nowhere else, and two slices are called the same
 // exactly where they are.
 #![tactic(auto)]
+
 ghost use Rattle.std.specs.Prelude.{◌≡◌, ◌+◌, ◌≤◌, length};
 ghost use Rattle.octets.specs.Bytes.{xor_bytes, overwrite, same_bytes};
 

@@ -2,6 +2,7 @@
 // Every length is in bytes.
 // Proved: the elements of every slice and of every header that code holds are bytes, by their type alone.
 #![tactic(auto)]
+
 ghost use Rattle.std.specs.Prelude.{◌≡◌, ◌<◌, length};
 ghost use Rattle.octets.specs.Bytes.{Bytes};
 

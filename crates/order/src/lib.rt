@@ -2,6 +2,7 @@
 // Every length, Lc included, and the fault offset are in bytes.
 // Proved: for every card and every command, however short, the route means what the rulebook decides.
 #![tactic(auto)]
+
 ghost use Rattle.std.specs.Prelude.{◌≡◌, ◌≤◌, length};
 ghost use Rattle.command_table.specs.Fits.{PathsFit};
 ghost use Rattle.rules.specs.Steps.{decide};

@@ -2,6 +2,7 @@
 // Slots are counted from 0.
 // Proved: the choice is the one of the rulebook's row, for every instruction, P1 and P2.
 #![tactic(auto)]
+
 ghost use Rattle.std.specs.Prelude.{◌≡◌};
 ghost use Rattle.rules.specs.declared.Instruction.TheVariants as ins;
 ghost use Rattle.rules.specs.Rows.{row_of};

@@ -2,6 +2,7 @@
 // Every length and the fault offset are in bytes.
 // Proved: the route means what the rulebook decides from step 5 on, for every card and all data.
 #![tactic(auto)]
+
 ghost use Rattle.std.specs.Prelude.{◌≡◌, not, ◌≤◌, length};
 ghost use Rattle.command_table.specs.Fits.{PathsFit};
 ghost use Rattle.rules.specs.Rows.{is_plain};

@@ -2,6 +2,7 @@
 // Every length, Lc included, and every place is in bytes.
 // Proved: a place is given exactly where the rulebook finds data there, for every command, however short.
 #![tactic(auto)]
+
 ghost use Rattle.std.specs.Prelude.{◌≡◌, ◌<◌};
 ghost use Rattle.rules.specs.Steps.{lc_fits};
 ghost use Rattle.order_form.specs.Form.{FormSays};

@@ -2,6 +2,7 @@
 // Slots are counted from 0.
 // Proved: each choice is the one of the rulebook's row, for every P1 and P2.
 #![tactic(auto)]
+
 ghost use Rattle.std.specs.Prelude.{◌≡◌, ◌&&◌, ltb};
 ghost use Rattle.card.specs.State.{slot_count};
 ghost use Rattle.card.specs.Slots.{is_zero};

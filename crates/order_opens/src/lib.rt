@@ -2,6 +2,7 @@
 // Every length is in bytes.
 // Proved: the route means what the rulebook decides from the opening on, for every card and every field, and a field that does not open closes the channel.
 #![tactic(auto)]
+
 ghost use Rattle.std.specs.Prelude.{◌≡◌, false, ◌≤◌, length};
 ghost use Rattle.command_table.specs.Fits.{PathsFit};
 ghost use Rattle.rules.specs.Rows.{is_plain};

@@ -2,6 +2,7 @@
 // P1 and P2 are in the crate order_choices. Stages are counted from 0.
 // Proved: each answer is the rulebook's row, for every class and every instruction byte.
 #![tactic(auto)]
+
 ghost use Rattle.std.specs.Prelude.{◌≡◌};
 ghost use Rattle.rules.specs.Rows.{row_of, class80, offered};
 ghost use Rattle.rules.specs.Steps.{name_of, with_byte, by_class};

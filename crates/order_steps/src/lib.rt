@@ -2,6 +2,7 @@
 // Every length is in bytes.
 // Proved: each answer is the rulebook's, for every command, however short, and every card.
 #![tactic(auto)]
+
 ghost use Rattle.std.specs.Prelude.{◌≡◌};
 ghost use Rattle.card.specs.State.{forgotten};
 ghost use Rattle.rules.specs.Steps.{step1, begins, dropping, forgetting, begun, failed};

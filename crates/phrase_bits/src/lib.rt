@@ -2,6 +2,7 @@
 // A width, and a place in a stream of bits, is in bits; a place in a slice is in bytes.
 // Proved: each number is the one that the definition cuts from the bits at its place.
 #![tactic(auto)]
+
 ghost use Rattle.std.specs.Prelude.{◌≡◌, ◌+◌, ◌-◌, ◌*◌, ◌/◌, ◌%◌, ◌^◌, ◌≤◌, ◌<◌, length, get_or, take, drop};
 ghost use Rattle.phrase_rules.specs.Bits.{bits, number};
 ghost use Rattle.phrase_rules.specs.Reverse.{from_two_bytes};

@@ -2,6 +2,7 @@
 // Words and entropy are in bytes, the checksum in bits.
 // Proved: each check is the definition's.
 #![tactic(auto)]
+
 ghost use Rattle.std.specs.Prelude.{◌≡◌, ◌/◌, length};
 ghost use Rattle.phrase_rules.specs.Reverse.{from_two_bytes, entropy_in, is_word_count, Counted, in_eleven_bits, is_checked};
 

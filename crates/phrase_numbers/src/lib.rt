@@ -2,6 +2,7 @@
 // Entropy and buffer are in bytes, the checksum in bits.
 // Proved: the bytes written are the definition's, from the buffer's start, and no other byte changes.
 #![tactic(auto)]
+
 ghost use Rattle.std.specs.Prelude.{◌≡◌, ◌∷◌, [], ◌++◌, ◌+◌, ◌*◌, ◌/◌, ◌%◌, ◌≤◌, ◌<◌, length, get_or, take};
 ghost use Rattle.sha_rules.specs.Hash.{sha256};
 ghost use Rattle.phrase_numbers.specs.Put.{PutNumbers};

@@ -2,6 +2,7 @@
 // Words, entropy and buffer are in bytes, the checksum in bits.
 // Proved: the answer, and every byte of the buffer, is the definition's, refusals too.
 #![tactic(auto)]
+
 ghost use Rattle.std.specs.Prelude.{◌≡◌, cond, ◌*◌, ◌/◌, eqb, length, take};
 ghost use Rattle.refusals.specs.Refusals.{no_refusal};
 ghost use Rattle.phrase_rules.specs.Reverse.{entropy_in, Counted, must, words_refusal};

@@ -3,6 +3,7 @@
 // Proved: the answer is the definition's, for every card, every plan and all asked paths; nothing is required. PIN and PUK are read for
 // soundness alone.
 #![tactic(auto)]
+
 ghost use Rattle.std.specs.Prelude.{not, ◌≡◌, leb, length};
 ghost use Rattle.card.specs.Slots.{is_zero};
 ghost use Rattle.plan_rules.specs.Plan.{first_bytes, after_first, run_plan, accepts, check_answer};

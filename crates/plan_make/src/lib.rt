@@ -3,6 +3,7 @@
 // Proved: it refuses exactly where the definition does; otherwise the check accepts the plan, for every card, PIN and paths. Nothing is
 // required.
 #![tactic(auto)]
+
 ghost use Rattle.std.specs.Prelude.{◌≡◌, ◌+◌, ◌≤◌, length};
 ghost use Rattle.template_rules.specs.Writing.{Wrote};
 ghost use Rattle.plan_rules.specs.Plan.{Plans};

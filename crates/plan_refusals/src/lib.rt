@@ -2,6 +2,7 @@
 // Every length is in bytes.
 // Proved: the number is the definition's, for every card, PIN and paths; nothing is required.
 #![tactic(auto)]
+
 ghost use Rattle.std.specs.Prelude.{◌≡◌};
 ghost use Rattle.plan_rules.specs.Plan.{can_plan, plan_refusal};
 ghost use Rattle.plan_rules.specs.Known.{bare};

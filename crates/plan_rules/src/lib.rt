@@ -3,6 +3,7 @@
 // Proved: whether a plan is accepted does not depend on PIN and PUK, nor on anything else but the flag of INIT, the PIN's tries,
 // verification and the keys.
 #![tactic(auto)]
+
 use card::{PATH_MAX_BYTES, PIN_BYTES};
 
 // The most commands that a plan has.

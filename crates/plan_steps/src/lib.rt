@@ -2,6 +2,7 @@
 // and whether a path is the one asked for. Every length is in bytes.
 // Proved: each step is what the command's own rule gives, for all parts of a card and all data; nothing is required.
 #![tactic(auto)]
+
 ghost use Rattle.std.specs.Prelude.{true, ◌≡◌};
 ghost use Rattle.std.proofs.Math.Option.{none};
 ghost use Rattle.octets.specs.Bytes.{same_bytes};

@@ -2,6 +2,7 @@
 // Every length and place is in bytes.
 // Proved: it is the card of the definition, for any bytes of any length.
 #![tactic(auto)]
+
 ghost use Rattle.std.specs.Prelude.{◌≡◌};
 ghost use Rattle.record_rules.specs.Parse.{content, card_of};
 ghost use Rattle.record_card.specs.Taken.{At, IdentityTaken, SecretsTaken, KeysTaken};

@@ -2,6 +2,7 @@
 // Every length, place and count is in bytes.
 // Proved: the field is at its place, nothing else changes, and the place after it is given.
 #![tactic(auto)]
+
 ghost use Rattle.std.specs.Prelude.{◌≡◌, [], ◌∷◌, ◌+◌, ◌*◌, ◌≤◌, ◌<◌, length, take};
 ghost use Rattle.octets.specs.Bytes.{overwrite};
 ghost use Rattle.card.specs.State.{key_uid, path_bytes};

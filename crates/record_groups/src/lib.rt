@@ -2,6 +2,7 @@
 // Every length, place and count is in bytes.
 // Proved: the fields of the group are written one after the other, nothing else changes, and the place after them is given.
 #![tactic(auto)]
+
 ghost use Rattle.std.specs.Prelude.{◌≡◌, ◌+◌, ◌≤◌, length};
 ghost use Rattle.card.specs.Sizes.{path_most_bytes, slot_count};
 ghost use Rattle.record_rules.specs.Fields.{identity_fields, secret_fields, key_fields};

@@ -3,6 +3,7 @@
 // Proved: a card is given exactly where the bytes are the record of a sound card in one of the forms, and then it is that card
 // reset; any other bytes, of any length, are refused with 8 and FRESH of zeros.
 #![tactic(auto)]
+
 ghost use Rattle.std.specs.Prelude.{◌≡◌, true, ◌≤◌};
 ghost use Rattle.record_rules.specs.Forms.{holds, is_in_form};
 ghost use Rattle.record_rules.specs.Answers.{is_record_of, read_answer};

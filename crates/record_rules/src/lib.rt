@@ -3,6 +3,7 @@
 // Proved: READ of WRITE of a sound card is RESET of it, and WRITE of what READ took is the record: byte for byte in the form that
 // WRITE writes, and in an older one as that is renewed.
 #![tactic(auto)]
+
 use card::{
     KEY_BYTES, PATH_MAX_BYTES, PIN_BYTES, PUBLIC_KEY_BYTES, PUK_BYTES, SLOTS_BYTES, TAP_MAX_BYTES,
     UID_BYTES,

@@ -2,6 +2,7 @@
 // Every length and place is in bytes.
 // Proved: what is taken is what the definition takes, from any bytes of any length, and the place after the field is given.
 #![tactic(auto)]
+
 ghost use Rattle.std.specs.Prelude.{◌≡◌, ◌≤◌, length, drop, get_or};
 ghost use Rattle.card.specs.State.{slot_count};
 ghost use Rattle.record_rules.specs.Parse.{body, fit, path_from, tap_from, slots_from};

@@ -3,6 +3,7 @@
 // Proved: the part is field 34's content inside the stored record, or the factory record whole exactly where none is stored; where READ
 // refuses the record it is empty, and the call beside it answers 8.
 #![tactic(auto)]
+
 ghost use Rattle.std.specs.Prelude.{◌≡◌};
 ghost use Rattle.record_rules.specs.Answers.{read_answer};
 ghost use Rattle.record_tap.specs.Tap.{tap_place, tap_part, LentFrom};

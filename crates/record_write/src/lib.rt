@@ -3,6 +3,7 @@
 // Proved: the bytes written are the record of the card, the count is their number, and no other byte changes; a card that is
 // not sound is refused with 1, a buffer with less room than any record needs with 2, and then nothing is written.
 #![tactic(auto)]
+
 ghost use Rattle.std.specs.Prelude.{◌≤◌, length};
 ghost use Rattle.card.specs.Sizes.{path_most_bytes, tap_most_bytes, slot_count};
 ghost use Rattle.record_rules.specs.Fields.{fields_in};

@@ -3,6 +3,7 @@
 // A refusal hands back the state that it was given and changes no byte of any buffer; the lowest number that applies is given.
 
 #![tactic(auto)]
+
 pub const REFUSAL_NONE: u8 = 0;
 
 // The card is not sound.

@@ -2,6 +2,7 @@
 // Every length and count is in bytes. The rules are in specs/; here are the types and the constants that the code and the rules share.
 // A new command has one row in specs/Rows.antt, one rule in specs/Commands.antt, and its name in the two enums below.
 #![tactic(auto)]
+
 use card::Card;
 
 // The status words (RULES 5.8), as one number of two bytes, SW1 SW2.

@@ -2,6 +2,7 @@
 // A block has 64 bytes; a hash value has 8 words of 32 bits, a schedule 64.
 // Proved: the result is the definition's, for every hash value and block.
 #![tactic(auto)]
+
 ghost use Rattle.std.specs.Prelude.{◌≡◌, List, ℕ, ◌+◌, ◌≤◌, length};
 ghost use Rattle.sha_rules.specs.Constants.{K};
 ghost use Rattle.sha_rules.specs.Hash.{rounds, compress};

@@ -3,6 +3,7 @@
 // nothing.
 // Proved, for every call: the number, and every byte of the caller's buffer, are the definition's.
 #![tactic(auto)]
+
 ghost use Rattle.std.specs.Prelude.{◌≡◌, length};
 ghost use Rattle.sha_rules.specs.Hash.{sha256};
 ghost use Rattle.sha_c.specs.Calls.{hash_answer, Did};

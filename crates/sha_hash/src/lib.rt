@@ -2,6 +2,7 @@
 // Lengths are in bytes; a block has 64 bytes, a digest 32.
 // Proved: the digest is the definition's, for every message.
 #![tactic(auto)]
+
 ghost use Rattle.std.specs.Prelude.{◌≡◌, ◌++◌, ◌+◌, ◌/◌, ◌%◌, length};
 ghost use Rattle.sha_rules.specs.Constants.{K};
 ghost use Rattle.sha_rules.specs.Padding.{big_endian, padding_bytes, padding};

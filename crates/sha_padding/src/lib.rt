@@ -2,6 +2,7 @@
 // Lengths are in bytes, but for the one that the padding holds, which is in bits; a block has 64 bytes.
 // Proved: the padded end is the definition's, for every message.
 #![tactic(auto)]
+
 ghost use Rattle.std.specs.Prelude.{◌≡◌, ◌++◌, ◌+◌, ◌%◌, length, take};
 ghost use Rattle.sha_rules.specs.Padding.{big_endian, length_in_bits, padding_bytes, padding};
 

@@ -2,6 +2,7 @@
 // A hash value, and the working variables, have 8 words of 32 bits.
 // Proved: the constants are the standard's, and each result is the definition's, for all words.
 #![tactic(auto)]
+
 ghost use Rattle.std.specs.Prelude.{◌≡◌};
 ghost use Rattle.sha_rules.specs.Constants.{K, H⁰};
 ghost use Rattle.sha_rules.specs.Hash.{T₁, T₂, round, added};

@@ -2,6 +2,7 @@
 // A word has four bytes, the highest first.
 // Proved: the schedule is the definition's, for every block.
 #![tactic(auto)]
+
 ghost use Rattle.std.specs.Prelude.{◌≡◌, ◌+◌, ◌*◌, ◌^◌, ◌<◌, ◌≤◌, length};
 ghost use Rattle.sha_rules.specs.Hash.{word, schedule_word, schedule};
 

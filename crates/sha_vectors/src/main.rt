@@ -4,6 +4,7 @@
 // Proved: every function is safe and ends. What the code answers to the vectors is compared, not proved: that it is SHA-256 is proved in the
 // crates below.
 #![tactic(auto)]
+
 ghost use Rattle.std.specs.Prelude.{◌≡◌, length};
 
 mod file;

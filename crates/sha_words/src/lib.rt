@@ -2,6 +2,7 @@
 // A word is four bytes, the highest first.
 // Proved: each gives what the definition says, for every word.
 #![tactic(auto)]
+
 ghost use Rattle.std.specs.Prelude.{◌≡◌, ◌<◌};
 ghost use Rattle.sha_rules.specs.Words.{◌⊞◌, rotr, Ch, Maj, Σ₀, Σ₁, σ₀, σ₁};
 

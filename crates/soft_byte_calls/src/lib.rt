@@ -3,6 +3,7 @@
 // Proved: each call is the operation on the card whose bytes are given, by the layout's places (`card_at`), and its next card is given as its
 // bytes (`card_flat`); on a session likewise.
 #![tactic(auto)]
+
 ghost use Rattle.std.specs.Prelude.{◌≡◌, length};
 ghost use Rattle.card.specs.State.{fresh_of};
 ghost use Rattle.card.specs.Sound.{is_sound};

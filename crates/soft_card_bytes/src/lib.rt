@@ -3,6 +3,7 @@
 // Proved: the card of such bytes has each field from its place in the layout (`card_at`), and its fields in the layout's order
 // (`card_flat`) are the bytes given. A session likewise.
 #![tactic(auto)]
+
 mod parts;
 
 ghost use Rattle.std.specs.Prelude.{◌≡◌, ◌+◌, ◌≤◌};

@@ -3,6 +3,7 @@
 // Proved: the bytes of a card are its fields in the layout's order (`card_flat`), those of a session likewise, and the card or
 // session of such bytes is the one that they were made of.
 #![tactic(auto)]
+
 mod parts;
 
 ghost use Rattle.std.specs.Prelude.{◌≡◌, ◌++◌, ◌+◌, ◌≤◌, take};

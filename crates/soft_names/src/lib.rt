@@ -2,6 +2,7 @@
 // Every length and offset is in bytes; a length is written with its unit.
 // Proved: every function is safe and ends.
 #![tactic(auto)]
+
 mod fault;
 mod status;
 mod supply;

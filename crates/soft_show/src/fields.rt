@@ -5,6 +5,7 @@ use card::{
     TAP_MAX_BYTES, UID_BYTES,
 };
 use soft_card_bytes::CARD_BYTES;
+use std::io;
 use text_print::say;
 
 // The rows of the table: each field's name, and its length in bytes.
@@ -134,17 +135,17 @@ fn is_named(k: usize, name: &[u8]) -> bool {
     }
 }
 
-fn say_name(k: usize) {
+fn say_name(rt: &impl Print, k: usize) -> io::Result<()> {
     let table = NAMES;
     let w = text_words::word(&table, row_of(k));
     let start = w.start;
     let end = w.end;
     if in_slot(k) {
-        say(b"slot");
-        text_print::say_size(slot_of(k));
-        say(b".");
+        say(rt, b"slot")?;
+        text_print::say_size(rt, slot_of(k))?;
+        say(rt, b".")?;
     }
-    say(&table[start..end]);
+    say(rt, &table[start..end])
 }
 
 // The field of that name.
@@ -163,22 +164,29 @@ pub fn find(name: &[u8]) -> Field {
 }
 
 // A field as a line: its name, its length and its bytes.
-fn say_field(record: [u8; CARD_BYTES], k: usize, at: usize, len: usize) {
+fn say_field(
+    rt: &impl Print,
+    record: [u8; CARD_BYTES],
+    k: usize,
+    at: usize,
+    len: usize,
+) -> io::Result<()> {
     let mut bytes = [0u8; CARD_BYTES];
     soft_card_bytes::fill(&mut bytes, &record, at);
     let n = text_fill::bounded(len, &bytes);
-    say(b"  ");
-    say_name(k);
-    text_print::say_bytes(b"", &bytes[..n]);
+    say(rt, b"  ")?;
+    say_name(rt, k)?;
+    text_print::say_bytes(rt, b"", &bytes[..n])
 }
 
-pub fn say_fields(record: [u8; CARD_BYTES]) {
+pub fn say_fields(rt: &impl Print, record: [u8; CARD_BYTES]) -> io::Result<()> {
     let mut at = 0;
     let mut k = 0;
     while k < FIELD_COUNT {
         let len = len_of(k);
-        say_field(record, k, at, len);
+        say_field(rt, record, k, at, len)?;
         at = std::num::wrapping_add_usize(at, len);
         k += 1;
     }
+    Ok(())
 }

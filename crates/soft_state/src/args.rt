@@ -1,6 +1,7 @@
 // The words of a call as bytes and numbers. What is wrong with one is written as the answer to a bad line.
 use crate::Last;
 use soft_word_bytes::VALUE_MAX_BYTES;
+use std::io;
 use text_print::say;
 
 // Whether a word was taken, and its length or number.
@@ -12,43 +13,52 @@ pub struct Taken {
 
 const NOT_TAKEN: Taken = Taken { ok: false, len: 0 };
 
-fn bad_start() {
-    say(b"bad line: ");
+fn bad_start(rt: &impl Print) -> io::Result<()> {
+    say(rt, b"bad line: ")
 }
 
-fn bad_end() {
-    say(b"; nothing changed\n");
+fn bad_end(rt: &impl Print) -> io::Result<()> {
+    say(rt, b"; nothing changed\n")
 }
 
-pub fn bad(why: &[u8]) {
-    bad_start();
-    say(why);
-    bad_end();
+pub fn bad(rt: &impl Print, why: &[u8]) -> io::Result<()> {
+    bad_start(rt)?;
+    say(rt, why)?;
+    bad_end(rt)
 }
 
-fn bad_named(name: &[u8], why: &[u8]) {
-    bad_start();
-    say(name);
-    say(why);
-    bad_end();
+fn bad_named(rt: &impl Print, name: &[u8], why: &[u8]) -> io::Result<()> {
+    bad_start(rt)?;
+    say(rt, name)?;
+    say(rt, why)?;
+    bad_end(rt)
 }
 
-fn bad_length(name: &[u8], wanted_bytes: usize, given_bytes: usize) {
-    bad_start();
-    say(name);
-    say(b" has ");
-    text_print::say_length(wanted_bytes);
-    say(b", not ");
-    text_print::say_length(given_bytes);
-    bad_end();
+fn bad_length(
+    rt: &impl Print,
+    name: &[u8],
+    wanted_bytes: usize,
+    given_bytes: usize,
+) -> io::Result<()> {
+    bad_start(rt)?;
+    say(rt, name)?;
+    say(rt, b" has ")?;
+    text_print::say_length(rt, wanted_bytes)?;
+    say(rt, b", not ")?;
+    text_print::say_length(rt, given_bytes)?;
+    bad_end(rt)
 }
 
 // The call takes another number of words.
-pub fn bad_words(line: &[u8]) {
+pub fn bad_words(rt: &impl Print, line: &[u8]) -> io::Result<()> {
     let w = text_words::word(line, 0);
     let start = w.start;
     let end = w.end;
-    bad_named(&line[start..end], b" takes other words, help lists them");
+    bad_named(
+        rt,
+        &line[start..end],
+        b" takes other words, help lists them",
+    )
 }
 
 pub fn is_word(line: &[u8], k: usize, text: &[u8]) -> bool {
@@ -69,46 +79,61 @@ fn value(line: &[u8], k: usize, last: Last, out: &mut [u8]) -> soft_word_bytes::
 }
 
 // The bytes of word number k, which the table of calls names so.
-pub fn take(line: &[u8], k: usize, name: &[u8], last: Last, out: &mut [u8]) -> Taken {
+pub fn take(
+    rt: &impl Print,
+    line: &[u8],
+    k: usize,
+    name: &[u8],
+    last: Last,
+    out: &mut [u8],
+) -> io::Result<Taken> {
     let got = value(line, k, last, out);
     if got.fault == soft_word_bytes::FORM {
-        bad_named(name, b" is not bytes");
-        return NOT_TAKEN;
+        bad_named(rt, name, b" is not bytes")?;
+        return Ok(NOT_TAKEN);
     }
     if got.fault == soft_word_bytes::MANY {
-        bad_named(name, b" has more than 1024 bytes");
-        return NOT_TAKEN;
+        bad_named(rt, name, b" has more than 1024 bytes")?;
+        return Ok(NOT_TAKEN);
     }
-    Taken {
+    Ok(Taken {
         ok: true,
         len: got.len,
-    }
+    })
 }
 
 // The same where the bytes have to be as many as `out` has; `field` is what has them.
 pub fn take_field(
+    rt: &impl Print,
     line: &[u8],
     k: usize,
     name: &[u8],
     field: &[u8],
     last: Last,
     out: &mut [u8],
-) -> bool {
+) -> io::Result<bool> {
     let mut bytes = [0u8; VALUE_MAX_BYTES];
-    let t = take(line, k, name, last, &mut bytes);
+    let t = take(rt, line, k, name, last, &mut bytes)?;
     if !t.ok {
-        return false;
+        return Ok(false);
     }
     if t.len != out.len() {
-        bad_length(field, out.len(), t.len);
-        return false;
+        bad_length(rt, field, out.len(), t.len)?;
+        return Ok(false);
     }
     soft_card_bytes::fill(out, &bytes, 0);
-    true
+    Ok(true)
 }
 
-pub fn take_exact(line: &[u8], k: usize, name: &[u8], last: Last, out: &mut [u8]) -> bool {
-    take_field(line, k, name, name, last, out)
+pub fn take_exact(
+    rt: &impl Print,
+    line: &[u8],
+    k: usize,
+    name: &[u8],
+    last: Last,
+    out: &mut [u8],
+) -> io::Result<bool> {
+    take_field(rt, line, k, name, name, last, out)
 }
 
 // The number after the word `room`.
@@ -123,17 +148,17 @@ fn room_number(line: &[u8], k: usize) -> usize {
 }
 
 // The room that a call gives after its first k words, or the least that the operation takes.
-pub fn room(line: &[u8], k: usize, least_bytes: usize) -> Taken {
+pub fn room(rt: &impl Print, line: &[u8], k: usize, least_bytes: usize) -> io::Result<Taken> {
     if text_words::count(line) <= k {
-        return Taken {
+        return Ok(Taken {
             ok: true,
             len: least_bytes,
-        };
+        });
     }
     let n = room_number(line, k);
     if n == text_decimal::NO_NUMBER {
-        bad(b"the room is a number of bytes, 0 to 1024");
-        return NOT_TAKEN;
+        bad(rt, b"the room is a number of bytes, 0 to 1024")?;
+        return Ok(NOT_TAKEN);
     }
-    Taken { ok: true, len: n }
+    Ok(Taken { ok: true, len: n })
 }

@@ -2,6 +2,7 @@
 // and numbers. Every length is in bytes.
 // Proved: every function is safe and ends.
 #![tactic(auto)]
+
 pub mod args;
 
 use soft_card_bytes::{CARD_BYTES, SESSION_BYTES};

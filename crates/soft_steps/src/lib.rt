@@ -2,9 +2,11 @@
 // Every length, room, count and offset is in bytes.
 // Proved: every function is safe and ends.
 #![tactic(auto)]
+
 use soft_card_bytes::CARD_BYTES;
 use soft_state::Desk;
 use soft_word_bytes::VALUE_MAX_BYTES;
+use std::io;
 use text_print::say;
 
 // Whether a step was done and not refused, the fault offset that ANSWER told or rules::NO_FAULT, and the desk after it.
@@ -24,141 +26,177 @@ fn without_fault(done: bool, desk: Desk) -> Step {
     }
 }
 
-fn say_refused(name: &[u8], refusal: u8, room_bytes: usize) {
-    say(name);
-    say(b" ");
-    soft_names::say_refusal(refusal, room_bytes);
-    say(b"\n");
+fn say_refused(rt: &impl Print, name: &[u8], refusal: u8, room_bytes: usize) -> io::Result<()> {
+    say(rt, name)?;
+    say(rt, b" ")?;
+    soft_names::say_refusal(rt, refusal, room_bytes)?;
+    say(rt, b"\n")
 }
 
 // What was written from a buffer's start.
-fn say_data(buf: &[u8], count: usize) {
+fn say_data(rt: &impl Print, buf: &[u8], count: usize) -> io::Result<()> {
     let n = text_fill::bounded(count, buf);
-    text_print::say_bytes(b"  data", &buf[..n]);
+    text_print::say_bytes(rt, b"  data", &buf[..n])
 }
 
-fn ask_in(card: [u8; CARD_BYTES], cmd: &[u8], buf: &mut [u8]) -> bool {
+fn ask_in(rt: &impl Print, card: [u8; CARD_BYTES], cmd: &[u8], buf: &mut [u8]) -> io::Result<bool> {
     let a = soft_byte_calls::ask(card, cmd, buf);
     if a.refusal != 0 {
-        say_refused(b"ask:", a.refusal, refusals::ASK_ROOM_BYTES);
-        return false;
+        say_refused(rt, b"ask:", a.refusal, refusals::ASK_ROOM_BYTES)?;
+        return Ok(false);
     }
-    say(b"ask: ");
-    soft_names::say_supply(a.kind);
-    say(b"\n");
+    say(rt, b"ask: ")?;
+    soft_names::say_supply(rt, a.kind)?;
+    say(rt, b"\n")?;
     if a.kind != 0 {
-        say_data(buf, a.count);
+        say_data(rt, buf, a.count)?;
     }
-    true
+    Ok(true)
 }
 
 // ASK; whether it was done and not refused.
-pub fn ask(card: [u8; CARD_BYTES], cmd: &[u8], room_bytes: usize) -> bool {
+pub fn ask(
+    rt: &impl Print,
+    card: [u8; CARD_BYTES],
+    cmd: &[u8],
+    room_bytes: usize,
+) -> io::Result<bool> {
     let mut buf = [0u8; VALUE_MAX_BYTES];
     let n = text_fill::bounded(room_bytes, &buf);
-    ask_in(card, cmd, &mut buf[..n])
+    ask_in(rt, card, cmd, &mut buf[..n])
 }
 
 // What was written from a buffer's start: it is shown, with its status word where it ends in one, and is now the last.
-pub fn wrote(d: Desk, name: &[u8], buf: &[u8], count: usize, with_status: bool) -> Desk {
+pub fn wrote(
+    rt: &impl Print,
+    d: Desk,
+    name: &[u8],
+    buf: &[u8],
+    count: usize,
+    with_status: bool,
+) -> io::Result<Desk> {
     let n = text_fill::bounded(count, buf);
-    text_print::say_bytes(name, &buf[..n]);
+    text_print::say_bytes(rt, name, &buf[..n])?;
     if with_status {
-        soft_names::say_status(&buf[..n]);
+        soft_names::say_status(rt, &buf[..n])?;
     }
-    soft_state::with_last(d, &buf[..n])
+    Ok(soft_state::with_last(d, &buf[..n]))
 }
 
-fn answer_in(d: Desk, cmd: &[u8], supply: &[u8], buf: &mut [u8]) -> Step {
+fn answer_in(
+    rt: &impl Print,
+    d: Desk,
+    cmd: &[u8],
+    supply: &[u8],
+    buf: &mut [u8],
+) -> io::Result<Step> {
     let found = d.card;
     let r = soft_byte_calls::answer(found, cmd, supply, buf);
     if r.refusal != 0 {
-        say_refused(b"answer:", r.refusal, refusals::ANSWER_ROOM_BYTES);
-        return without_fault(false, d);
+        say_refused(rt, b"answer:", r.refusal, refusals::ANSWER_ROOM_BYTES)?;
+        return Ok(without_fault(false, d));
     }
-    let next = wrote(d, b"answer:", buf, r.count, true);
+    let next = wrote(rt, d, b"answer:", buf, r.count, true)?;
     let card = r.card;
-    Step {
+    Ok(Step {
         done: true,
         fault_offset: r.fault_offset,
         desk: soft_state::with_card(next, card),
-    }
+    })
 }
 
 // ANSWER.
-pub fn answer(d: Desk, cmd: &[u8], supply: &[u8], room_bytes: usize) -> Step {
+pub fn answer(
+    rt: &impl Print,
+    d: Desk,
+    cmd: &[u8],
+    supply: &[u8],
+    room_bytes: usize,
+) -> io::Result<Step> {
     let mut buf = [0u8; VALUE_MAX_BYTES];
     let n = text_fill::bounded(room_bytes, &buf);
-    answer_in(d, cmd, supply, &mut buf[..n])
+    answer_in(rt, d, cmd, supply, &mut buf[..n])
 }
 
-fn seal_in(d: Desk, header: [u8; 4], plain: &[u8], buf: &mut [u8]) -> Step {
+fn seal_in(
+    rt: &impl Print,
+    d: Desk,
+    header: [u8; 4],
+    plain: &[u8],
+    buf: &mut [u8],
+) -> io::Result<Step> {
     let found = d.session;
     let r = soft_byte_calls::seal(found, header, plain, buf);
     if r.refusal != 0 {
-        say_refused(b"seal:", r.refusal, refusals::SEAL_ROOM_BYTES);
-        return without_fault(false, d);
+        say_refused(rt, b"seal:", r.refusal, refusals::SEAL_ROOM_BYTES)?;
+        return Ok(without_fault(false, d));
     }
-    let next = wrote(d, b"seal:", buf, r.count, false);
+    let next = wrote(rt, d, b"seal:", buf, r.count, false)?;
     let session = r.session;
-    without_fault(true, soft_state::with_session(next, session))
+    Ok(without_fault(true, soft_state::with_session(next, session)))
 }
 
 // SEAL. The header is CLA INS P1 P2.
-pub fn seal(d: Desk, header: [u8; 4], plain: &[u8], room_bytes: usize) -> Step {
+pub fn seal(
+    rt: &impl Print,
+    d: Desk,
+    header: [u8; 4],
+    plain: &[u8],
+    room_bytes: usize,
+) -> io::Result<Step> {
     let mut buf = [0u8; VALUE_MAX_BYTES];
     let n = text_fill::bounded(room_bytes, &buf);
-    seal_in(d, header, plain, &mut buf[..n])
+    seal_in(rt, d, header, plain, &mut buf[..n])
 }
 
-fn unseal_in(d: Desk, response: &[u8], buf: &mut [u8]) -> Step {
+fn unseal_in(rt: &impl Print, d: Desk, response: &[u8], buf: &mut [u8]) -> io::Result<Step> {
     let found = d.session;
     let r = soft_byte_calls::unseal(found, response, buf);
     if r.refusal != 0 {
-        say_refused(b"unseal:", r.refusal, refusals::UNSEAL_ROOM_BYTES);
-        return without_fault(false, d);
+        say_refused(rt, b"unseal:", r.refusal, refusals::UNSEAL_ROOM_BYTES)?;
+        return Ok(without_fault(false, d));
     }
-    let next = wrote(d, b"unseal:", buf, r.count, true);
+    let next = wrote(rt, d, b"unseal:", buf, r.count, true)?;
     let session = r.session;
-    without_fault(true, soft_state::with_session(next, session))
+    Ok(without_fault(true, soft_state::with_session(next, session)))
 }
 
 // UNSEAL.
-pub fn unseal(d: Desk, response: &[u8], room_bytes: usize) -> Step {
+pub fn unseal(rt: &impl Print, d: Desk, response: &[u8], room_bytes: usize) -> io::Result<Step> {
     let mut buf = [0u8; VALUE_MAX_BYTES];
     let n = text_fill::bounded(room_bytes, &buf);
-    unseal_in(d, response, &mut buf[..n])
+    unseal_in(rt, d, response, &mut buf[..n])
 }
 
-fn write_in(d: Desk, buf: &mut [u8]) -> Desk {
+fn write_in(rt: &impl Print, d: Desk, buf: &mut [u8]) -> io::Result<Desk> {
     let found = d.card;
     let r = soft_byte_calls::write(found, buf);
     if r.refusal != 0 {
-        say_refused(b"write:", r.refusal, record_rules::WRITE_ROOM_BYTES);
-        return d;
+        say_refused(rt, b"write:", r.refusal, record_rules::WRITE_ROOM_BYTES)?;
+        return Ok(d);
     }
-    wrote(d, b"write:", buf, r.count, false)
+    wrote(rt, d, b"write:", buf, r.count, false)
 }
 
 // WRITE.
-pub fn write(d: Desk, room_bytes: usize) -> Desk {
+pub fn write(rt: &impl Print, d: Desk, room_bytes: usize) -> io::Result<Desk> {
     let mut buf = [0u8; VALUE_MAX_BYTES];
     let n = text_fill::bounded(room_bytes, &buf);
-    write_in(d, &mut buf[..n])
+    write_in(rt, d, &mut buf[..n])
 }
 
-fn entropy_in(d: Desk, words: &[u8], buf: &mut [u8]) -> Desk {
+fn entropy_in(rt: &impl Print, d: Desk, words: &[u8], buf: &mut [u8]) -> io::Result<Desk> {
     let r = phrase_reverse::entropy_of(words, buf);
     if r.refusal != 0 {
-        say_refused(b"entropy:", r.refusal, refusals::ENTROPY_ROOM_BYTES);
-        return d;
+        say_refused(rt, b"entropy:", r.refusal, refusals::ENTROPY_ROOM_BYTES)?;
+        return Ok(d);
     }
-    wrote(d, b"entropy:", buf, r.count, false)
+    wrote(rt, d, b"entropy:", buf, r.count, false)
 }
 
 // ENTROPY.
-pub fn entropy(d: Desk, words: &[u8], room_bytes: usize) -> Desk {
+pub fn entropy(rt: &impl Print, d: Desk, words: &[u8], room_bytes: usize) -> io::Result<Desk> {
     let mut buf = [0u8; VALUE_MAX_BYTES];
     let n = text_fill::bounded(room_bytes, &buf);
-    entropy_in(d, words, &mut buf[..n])
+    entropy_in(rt, d, words, &mut buf[..n])
 }

@@ -3,6 +3,7 @@
 // Proved: a word is read as the bytes that it means, or refused for the fault that it has, as the definition says. What the buffer holds
 // after a fault is not said, but that its length is kept.
 #![tactic(auto)]
+
 ghost use Rattle.std.specs.Prelude.{◌≡◌, [], ◌-◌, ◌≤◌, length};
 ghost use Rattle.text_fill.specs.Steps.{stepped};
 ghost use Rattle.soft_word_bytes.specs.Meaning.{taken, within, all_hex, pairs, counted, piece_of, pieces_in, joined, meaning, Puts, Reads};

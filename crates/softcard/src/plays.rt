@@ -1,6 +1,7 @@
 // Which call a line is, whether it has the words that the call takes, and the call itself.
 use soft_state::args::is_word;
 use soft_state::{Desk, args};
+use std::io;
 use text_print::say;
 
 #[derive(Clone, Copy)]
@@ -116,93 +117,138 @@ fn takes(call: Call, n: usize) -> bool {
     }
 }
 
-fn help() {
-    say(b"fresh UID KEY                  a pre-initialised card; UID has ");
-    text_print::say_length(card::UID_BYTES);
-    say(b", KEY ");
-    text_print::say_length(card::PUBLIC_KEY_BYTES);
-    say(b"\n");
-    say(b"reset                          power-up\n");
-    say(b"ask COMMAND [room N]           which supply the card will read\n");
-    say(b"answer COMMAND SUPPLY [room N] the card's response\n");
-    more_help();
+fn help(rt: &impl Print) -> io::Result<()> {
+    say(
+        rt,
+        b"fresh UID KEY                  a pre-initialised card; UID has ",
+    )?;
+    text_print::say_length(rt, card::UID_BYTES)?;
+    say(rt, b", KEY ")?;
+    text_print::say_length(rt, card::PUBLIC_KEY_BYTES)?;
+    say(rt, b"\n")?;
+    say(rt, b"reset                          power-up\n")?;
+    say(
+        rt,
+        b"ask COMMAND [room N]           which supply the card will read\n",
+    )?;
+    say(rt, b"answer COMMAND SUPPLY [room N] the card's response\n")?;
+    more_help(rt)
 }
 
-fn more_help() {
+fn more_help(rt: &impl Print) -> io::Result<()> {
     say(
+        rt,
         b"seal HEADER DATA [room N]      a sealed command; HEADER has 4 bytes, DATA at most 223 bytes\n",
-    );
-    say(b"unseal RESPONSE [room N]       what a sealed response holds\n");
-    say(b"send HEADER DATA SUPPLY        seal, ask, answer and unseal\n");
+    )?;
     say(
+        rt,
+        b"unseal RESPONSE [room N]       what a sealed response holds\n",
+    )?;
+    say(
+        rt,
+        b"send HEADER DATA SUPPLY        seal, ask, answer and unseal\n",
+    )?;
+    say(
+        rt,
         b"walk BYTES                     how many fields that are no templates, or the faulty field\n",
-    );
-    say(b"entropy WORDS [room N]         the entropy of the word numbers of a recovery phrase\n");
-    card_help();
-}
-
-fn card_help() {
-    say(b"write [room N]                 the card's stored record\n");
-    say(b"read RECORD                    the card of a stored record\n");
+    )?;
     say(
+        rt,
+        b"entropy WORDS [room N]         the entropy of the word numbers of a recovery phrase\n",
+    )?;
+    card_help(rt)
+}
+
+fn card_help(rt: &impl Print) -> io::Result<()> {
+    say(
+        rt,
+        b"write [room N]                 the card's stored record\n",
+    )?;
+    say(
+        rt,
+        b"read RECORD                    the card of a stored record\n",
+    )?;
+    say(
+        rt,
         b"tap RECORD FACTORY             the tap record of a stored record, or the factory record\n",
-    );
-    say(b"sound                          whether the card is sound\n");
-    say(b"card                           every field of the card\n");
-    say(b"set FIELD BYTES                puts bytes into a field of the card\n");
-    last_help();
+    )?;
+    say(
+        rt,
+        b"sound                          whether the card is sound\n",
+    )?;
+    say(
+        rt,
+        b"card                           every field of the card\n",
+    )?;
+    say(
+        rt,
+        b"set FIELD BYTES                puts bytes into a field of the card\n",
+    )?;
+    last_help(rt)
 }
 
-fn last_help() {
-    say(b"session [ENC MAC IV]           the terminal's session, or a new one: ");
-    text_print::say_size(card::KEY_BYTES);
-    say(b", ");
-    text_print::say_size(card::KEY_BYTES);
-    say(b" and ");
-    text_print::say_length(card::IV_BYTES);
-    say(b"\n");
-    say(b"session card                   the session of the card's channel\n");
-    say(b"Bytes: 00A4, 00*32 (32 times), A0+16 (16 rising), last, - (none), 01.11*32 (joined).\n");
-    say(b"room N lends a buffer of N bytes, 0 to 1024. Every length is in bytes.\n");
+fn last_help(rt: &impl Print) -> io::Result<()> {
+    say(
+        rt,
+        b"session [ENC MAC IV]           the terminal's session, or a new one: ",
+    )?;
+    text_print::say_size(rt, card::KEY_BYTES)?;
+    say(rt, b", ")?;
+    text_print::say_size(rt, card::KEY_BYTES)?;
+    say(rt, b" and ")?;
+    text_print::say_length(rt, card::IV_BYTES)?;
+    say(rt, b"\n")?;
+    say(
+        rt,
+        b"session card                   the session of the card's channel\n",
+    )?;
+    say(
+        rt,
+        b"Bytes: 00A4, 00*32 (32 times), A0+16 (16 rising), last, - (none), 01.11*32 (joined).\n",
+    )?;
+    say(
+        rt,
+        b"room N lends a buffer of N bytes, 0 to 1024. Every length is in bytes.\n",
+    )
 }
 
-fn play_card(d: Desk, call: Call, line: &[u8]) -> Desk {
+fn play_card(rt: &impl Print, d: Desk, call: Call, line: &[u8]) -> io::Result<Desk> {
     match call {
-        Call::Fresh => soft_card_calls::fresh(d, line),
-        Call::Reset => soft_card_calls::reset(d),
-        Call::Read => soft_card_calls::read(d, line),
-        Call::Write => soft_card_calls::write(d, line),
-        Call::Set => soft_card_calls::set(d, line),
+        Call::Fresh => soft_card_calls::fresh(rt, d, line),
+        Call::Reset => soft_card_calls::reset(rt, d),
+        Call::Read => soft_card_calls::read(rt, d, line),
+        Call::Write => soft_card_calls::write(rt, d, line),
+        Call::Set => soft_card_calls::set(rt, d, line),
         Call::Tap => {
-            soft_card_calls::tap(d, line);
-            d
+            soft_card_calls::tap(rt, d, line)?;
+            Ok(d)
         }
         Call::Sound => {
-            soft_card_calls::sound(d);
-            d
+            soft_card_calls::sound(rt, d)?;
+            Ok(d)
         }
         _ => {
-            soft_card_calls::card(d);
-            d
+            soft_card_calls::card(rt, d)?;
+            Ok(d)
         }
     }
 }
 
-fn play_channel(d: Desk, call: Call, line: &[u8]) -> Desk {
+fn play_channel(rt: &impl Print, d: Desk, call: Call, line: &[u8]) -> io::Result<Desk> {
     match call {
-        Call::Answer => soft_channel_calls::answer(d, line),
-        Call::Seal => soft_channel_calls::seal(d, line),
-        Call::Unseal => soft_channel_calls::unseal(d, line),
-        Call::Send => soft_channel_calls::send(d, line),
-        Call::Entropy => soft_channel_calls::entropy(d, line),
-        Call::Session => soft_channel_calls::session(d, line),
+        Call::Answer => soft_channel_calls::answer(rt, d, line),
+        Call::Seal => soft_channel_calls::seal(rt, d, line),
+        Call::Unseal => soft_channel_calls::unseal(rt, d, line),
+        Call::Send => soft_channel_calls::send(rt, d, line),
+        Call::Entropy => soft_channel_calls::entropy(rt, d, line),
+        Call::Session => soft_channel_calls::session(rt, d, line),
         Call::Ask => {
-            soft_channel_calls::ask(d, line);
-            d
+            soft_channel_calls::ask(rt, d, line)?;
+            Ok(d)
         }
         _ => {
-            soft_channel_calls::walk(d, line);
-            d
+            soft_channel_calls::walk(rt, d, line)?;
+            Ok(d)
         }
     }
 }
@@ -237,23 +283,23 @@ fn is_unknown(call: Call) -> bool {
 }
 
 // A line with at least one word.
-pub fn play(d: Desk, line: &[u8]) -> Desk {
+pub fn play(rt: &impl Print, d: Desk, line: &[u8]) -> io::Result<Desk> {
     let call = call_of(line);
     if is_unknown(call) {
-        args::bad(b"no such call, help lists them");
-        return d;
+        args::bad(rt, b"no such call, help lists them")?;
+        return Ok(d);
     }
     if !takes(call, text_words::count(line)) {
-        args::bad_words(line);
-        return d;
+        args::bad_words(rt, line)?;
+        return Ok(d);
     }
     if is_help(call) {
-        help();
-        return d;
+        help(rt)?;
+        return Ok(d);
     }
     if is_card_call(call) {
-        play_card(d, call, line)
+        play_card(rt, d, call, line)
     } else {
-        play_channel(d, call, line)
+        play_channel(rt, d, call, line)
     }
 }

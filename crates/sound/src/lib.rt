@@ -1,6 +1,7 @@
 // Whether a card is sound, and RESET, which refuses a card that is not.
 // Proved: the answer is the definition of soundness for every card, whatever its bytes; RESET refuses with 1 or powers up.
 #![tactic(auto)]
+
 ghost use Rattle.std.specs.Prelude.{◌≡◌};
 ghost use Rattle.card.specs.Sound.{is_sound, parts_sound, parts_blank};
 ghost use Rattle.sound.specs.Reset.{reset_answer};

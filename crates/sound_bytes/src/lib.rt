@@ -2,6 +2,7 @@
 // Every length is in bytes.
 // Proved: each answer is the definition's, whatever the bytes.
 #![tactic(auto)]
+
 ghost use Rattle.std.specs.Prelude.{◌≡◌, drop};
 ghost use Rattle.card.specs.Slots.{all_of, all_zero};
 ghost use Rattle.card.specs.Sound.{is_digit};

@@ -2,6 +2,7 @@
 // Every length is in bytes.
 // Proved: each answer is this part's line in the definition of soundness, whatever the part's bytes.
 #![tactic(auto)]
+
 ghost use Rattle.std.specs.Prelude.{◌≡◌};
 ghost use Rattle.card.specs.Sound.{path_sound, keys_sound, path_blank, keys_blank};
 

@@ -3,6 +3,7 @@
 // Proved: each answer is what its definition gives, for every count, whatever its numbers: 1 for a count that is not sound, 13 where more than
 // 65,535 records would be fed, and then the first count is handed back.
 #![tactic(auto)]
+
 ghost use Rattle.std.specs.Prelude.{◌≡◌, [], ℕ, ◌+◌, ◌<◌, get_or};
 ghost use Rattle.stock_rules.specs.Rows.{count_of};
 ghost use Rattle.stock_rules.specs.Counts.{plus, not_counted, add_record, add_counts};

@@ -2,6 +2,7 @@
 // The numbers count records, cards and slots; a record's length is in bytes.
 // Proved: the count is what the table says of READ's answer, for any bytes.
 #![tactic(auto)]
+
 ghost use Rattle.std.specs.Prelude.{◌≡◌, ◌&&◌, cond, eqb};
 ghost use Rattle.record_rules.specs.Answers.{read_answer};
 ghost use Rattle.stock_rules.specs.Rows.{used_slots, one_if, one_of};

@@ -3,6 +3,7 @@
 // Proved: the bytes written are the report of the count, their number is given, and no other byte changes; a count that is not sound is
 // refused with 1, a buffer under 77 bytes with 2, and then nothing is written.
 #![tactic(auto)]
+
 ghost use Rattle.std.specs.Prelude.{◌≡◌, ◌≤◌, length};
 ghost use Rattle.record_fields.specs.Put.{Put};
 ghost use Rattle.stock_rules.specs.Report.{bytes_of, report_fields, report_room};

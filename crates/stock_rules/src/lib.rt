@@ -3,6 +3,7 @@
 // counted, the count of a list of records, which counts are sound, one record more, the sum of two counts, and the report.
 // Proved: feeding records one at a time gives the count of the list, and the sum of the counts of two batches is the count of both.
 #![tactic(auto)]
+
 use record_rules::HEAD_BYTES;
 
 // How many numbers a count has.

@@ -2,6 +2,7 @@
 // The numbers count records, cards and slots; sums of them are taken in 64 bits, where none wraps.
 // Proved: the answer is the definition of soundness for every count, whatever its numbers.
 #![tactic(auto)]
+
 ghost use Rattle.std.specs.Prelude.{◌≡◌, ◌<◌};
 ghost use Rattle.stock_rules.specs.Counts.{of_kinds, of_tries, fed, is_count};
 

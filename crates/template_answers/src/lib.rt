@@ -4,6 +4,7 @@
 // Proved: each writer leaves in the buffer exactly the bytes that the definition of its template gives, and touches no other; and WALK
 // accepts each template with the number of fields that it holds.
 #![tactic(auto)]
+
 ghost use Rattle.std.specs.Prelude.{◌≡◌, ◌+◌, ◌≤◌, length};
 ghost use Rattle.template_rules.specs.Writing.{Wrote};
 ghost use Rattle.template_answers.specs.Answers.{pre_initialised, key_byte, status};

@@ -2,6 +2,7 @@
 // Every length is in bytes.
 // Proved: the writer leaves in the buffer exactly the bytes that the definition of `template_answers` gives, and touches no other.
 #![tactic(auto)]
+
 ghost use Rattle.std.specs.Prelude.{◌≡◌, ◌+◌, ◌≤◌, length};
 ghost use Rattle.template_rules.specs.Writing.{Wrote};
 ghost use Rattle.template_answers.specs.Answers.{application_bytes, application_fields, application_info};

@@ -3,6 +3,7 @@
 // Proved: what is written is the shortest unsigned DER integer that the definitions of `template` give, and no other byte of the buffer is
 // touched.
 #![tactic(auto)]
+
 ghost use Rattle.std.specs.Prelude.{◌≡◌, ◌+◌, ◌≤◌, ◌<◌, length};
 ghost use Rattle.template_rules.specs.Template.{field};
 ghost use Rattle.template_rules.specs.Der.{with_sign, der_integer};

@@ -2,6 +2,7 @@
 // Every length is in bytes.
 // Proved: zeros, the zero in front and the length of the content are those that the definitions of `template` give.
 #![tactic(auto)]
+
 ghost use Rattle.std.specs.Prelude.{◌≡◌, length};
 ghost use Rattle.template_rules.specs.Der.{leading_zeros, needs_zero, der_content};
 

@@ -2,6 +2,7 @@
 // Every length is in bytes.
 // Proved: exactly the templates that the definition describes are accepted, and WALK accepts each of them.
 #![tactic(auto)]
+
 ghost use Rattle.std.specs.Prelude.{◌≡◌};
 ghost use Rattle.template_keypair.specs.Keypair.{private_fields, keypair, exactly};
 

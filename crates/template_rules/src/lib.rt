@@ -2,6 +2,7 @@
 // Every length is in bytes.
 // Proved: a head is read as the definitions of specs/ say, and by them what is written is read back and no other form is taken.
 #![tactic(auto)]
+
 ghost use Rattle.std.specs.Prelude.{◌≡◌};
 ghost use Rattle.template_rules.specs.Template.{read_head, begins_with, HeadSays};
 

@@ -2,6 +2,7 @@
 // Every length and place is in bytes; depth is counted in templates, a template at the top being at depth 1.
 // Proved: for any bytes the answer is what the definition of WALK gives. Calls nest only as deep as templates do.
 #![tactic(auto)]
+
 ghost use Rattle.std.specs.Prelude.{◌≡◌};
 ghost use Rattle.template_walk.specs.Walk.{read_field, template_of, sequence_of, walk_of, report, WALK};
 

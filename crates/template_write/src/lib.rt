@@ -3,6 +3,7 @@
 // Proved: what is written is the field that the definitions of `template` give, for every value length that has a form, and no other byte
 // of the buffer is touched.
 #![tactic(auto)]
+
 ghost use Rattle.std.specs.Prelude.{◌≡◌, ◌+◌, ◌≤◌, ◌<◌, length};
 ghost use Rattle.template_rules.specs.Template.{field_head, field_bytes, field};
 ghost use Rattle.template_rules.specs.Writing.{Wrote};

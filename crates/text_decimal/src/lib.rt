@@ -1,6 +1,7 @@
 // Decimal numbers as the soft card reads them: how many bytes a word means or a buffer has.
 // Proved: any bytes are read as the number that they spell, or as none, as the definition says.
 #![tactic(auto)]
+
 ghost use Rattle.std.specs.Prelude.{◌≡◌};
 ghost use Rattle.text_decimal.specs.Decimal.{digit_of, number_of};
 

@@ -2,6 +2,7 @@
 // Every length is in bytes.
 // Proved: `fill` and `fill_pattern` write the bytes that their rule says, and `bounded` is the lesser of a number and a length.
 #![tactic(auto)]
+
 ghost use Rattle.std.specs.Prelude.{◌≡◌, min, length};
 ghost use Rattle.io.specs.Counts.{IsPrefixLen};
 ghost use Rattle.text_fill.specs.Steps.{stepped};

@@ -2,5 +2,6 @@
 // Positions and lengths are in bytes.
 // Proved: every function is safe and ends; hexadecimal text is read as the definition says, and a byte is found at its first place.
 #![tactic(auto)]
+
 pub mod hex;
 pub mod text;

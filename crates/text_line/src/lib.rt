@@ -2,7 +2,9 @@
 // Every length is in bytes.
 // Proved: every function is safe and ends.
 #![tactic(auto)]
-use libc::STDIN_FILENO;
+
+use std::io;
+use std::io::Read;
 
 // What was read: whether there was a line at all, its length, and whether more of it was dropped.
 #[derive(Clone, Copy)]
@@ -19,13 +21,13 @@ struct Next {
     byte: u8,
 }
 
-fn next_byte() -> Next {
+fn next_byte(input: &mut impl Read) -> io::Result<Next> {
     let mut one = [0u8; 1];
-    let got = libc::read(STDIN_FILENO, &mut one);
-    Next {
+    let got = input.read(&mut one)?;
+    Ok(Next {
         found: got == 1,
         byte: one[0],
-    }
+    })
 }
 
 // Puts a byte into buf where there is room for it, and tells whether there was.
@@ -37,28 +39,29 @@ fn keep(buf: &mut [u8], at: usize, b: u8) -> bool {
     false
 }
 
-// Reads a line, up to its line feed, and drops what buf has no room for.
-pub fn read_line(buf: &mut [u8]) -> Line {
+// Reads a line of the input, up to its line feed, and drops what buf has no room for.
+// The input is read byte by byte, so nothing behind the line feed is taken from it.
+pub fn read_line(input: &mut impl Read, buf: &mut [u8]) -> io::Result<Line> {
     let mut len = 0;
     let mut found = false;
     let mut dropped = false;
     let mut left = usize::MAX;
     while left > 0 {
-        let next = next_byte();
+        let next = next_byte(input)?;
         if !next.found {
-            return Line {
+            return Ok(Line {
                 found,
                 len,
                 dropped,
-            };
+            });
         }
         found = true;
         if next.byte == b'\n' {
-            return Line {
+            return Ok(Line {
                 found,
                 len,
                 dropped,
-            };
+            });
         }
         if keep(buf, len, next.byte) {
             len = std::num::wrapping_add_usize(len, 1);
@@ -67,9 +70,9 @@ pub fn read_line(buf: &mut [u8]) -> Line {
         }
         left -= 1;
     }
-    Line {
+    Ok(Line {
         found,
         len,
         dropped,
-    }
+    })
 }

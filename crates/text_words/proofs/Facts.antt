@@ -1,14 +1,13 @@
 -- Blanks and words counted from a place on, and the words of a line.
 -- Assumes nothing.
-use mathlib.Core.Path.{◌≡◌, refl, sym, ap, ◌∙◌}
+use mathlib.Core.Path.{◌≡◌, sym, ap, ◌∙◌}
 use mathlib.Core.Bool.{Bool, true, false, cond, not, ◌&&◌}
-use mathlib.Core.List.{List, [], ◌∷◌}
+use mathlib.Core.List.{List}
 use Prim.Native.Nat.{ℕ, suc, ◌+◌, ◌-◌, ◌≤◌, ◌<◌}
 use native.Mathlib.Omega.{arith}
-use lib.Dec.{eqb}
-use lib.ListN.{length, take, drop, get_or, length-drop, drop_of_length-le}
+use lib.ListN.{length, take, drop, get_or, drop_of_length-le}
 use lib.Seq.{drop-cons, drop-drop, get_or-drop}
-use Rattle.text_words.specs.Words.{is_blank, blanks, letters, from_word, word_from, word_of, words_behind}
+use Rattle.text_words.specs.Words.{is_blank, blanks, letters, from_word, word_from, words_behind}
 
 module _ (s : List ℕ) (i : ℕ) where
   -- ---- at a character

@@ -1,13 +1,13 @@
 -- A line has exactly the words that are counted: the first `word_count` of them have characters, the others none.
 -- Assumes nothing.
 use mathlib.Core.Path.{◌≡◌, refl, sym, ap, subst, ◌∙◌}
-use mathlib.Core.Bool.{Bool, true, false, cond, not, ◌&&◌}
+use mathlib.Core.Bool.{Bool, true, false}
 use mathlib.Core.List.{List, [], ◌∷◌}
 use Prim.Native.Nat.{ℕ, zero, suc, ◌+◌, ◌≤◌, ◌<◌}
 use native.Mathlib.Nat.{zero-add}
 use native.Mathlib.Omega.{arith}
 use lib.ListN.{length, take, drop}
-use Rattle.text_words.specs.Words.{is_blank, blanks, letters, from_word, word_from, word_of, words_behind, word_count}
+use Rattle.text_words.specs.Words.{is_blank, letters, from_word, word_from, word_of, words_behind, word_count}
 
 -- ---- one character, a blank or not
 module _ (c : ℕ) (s : List ℕ) where

@@ -2,6 +2,7 @@
 // Every place and length is in bytes.
 // Proved: words, their number and whether a line is a comment are as defined, for any bytes.
 #![tactic(auto)]
+
 ghost use Rattle.std.specs.Prelude.{◌≡◌, cond, ◌+◌, ◌-◌, ◌≤◌, length, take, drop};
 ghost use Rattle.text_words.specs.Words.{is_blank, blanks, letters, word_of, word_count, is_comment, line_bytes};
 

@@ -1,28 +1,26 @@
 -- `put` overwrites: after turn i the first i bytes of src are in their place and nothing else has changed.
 -- Assumes nothing.
 use Rattle.std.proofs.Common.{rules}
-use mathlib.Core.Path.{◌≡◌, refl, sym, ap, ◌∙◌}
-use mathlib.Core.List.{List}
-use Prim.Native.Nat.{ℕ, ◌+◌, ◌-◌, ◌≤◌, ◌<◌}
+use mathlib.Core.Path.{◌≡◌, ◌∙◌}
 use native.Mathlib.Numerals.{add-one}
 use native.Mathlib.Omega.{arith}
 use lib.ListN.{length}
-use lib.Seq.{paste, paste-zero, paste-suc, length-paste, take-length}
+use lib.Seq.{paste-zero, paste-suc, length-paste, take-length}
 use Rattle.octets.proofs.put.Goals as goal
 
 pub loop-i-init : goal.loop-i-init
 loop-i-init c = (omega arith, paste-zero c.args.buf.now c.args.at c.args.src.now)
 
 pub bounds-buf-at : goal.bounds-buf-at
-bounds-buf-at c = let l = c.loop-i in let g = c.args in 
+bounds-buf-at c = let l = c.loop-i in let g = c.args in
     rw (l.invariant.1, length-paste g.buf.now g.at g.src.now l.i (omega arith) (omega arith)) (omega arith)
 
 pub loop-i-preserved : goal.loop-i-preserved
-loop-i-preserved c = let l = c.loop-i in let g = c.args in 
+loop-i-preserved c = let l = c.loop-i in let g = c.args in
     (search rules, rw (l.invariant.1, add-one) (paste-suc g.buf.now g.at g.src.now l.i 0 (omega arith) (omega arith)))
 
 pub shape_of-buf : goal.shape_of-buf
-shape_of-buf c = let l = c.loop-i in let g = c.args in 
+shape_of-buf c = let l = c.loop-i in let g = c.args in
     rw l.invariant.1 (length-paste g.buf.now g.at g.src.now l.i (omega arith) (omega arith))
 
 pub returns : goal.returns

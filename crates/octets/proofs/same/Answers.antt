@@ -1,10 +1,9 @@
 -- `same` compares: after turn i the slices are the same exactly if the first i bytes agree and the rest does.
 -- Assumes nothing.
-use Rattle.std.proofs.Common.{rules}
 use mathlib.Core.Path.{◌≡◌, refl, sym, ap, ap₂, ◌∙◌}
 use mathlib.Core.Bool.{Bool, true, false, ◌&&◌}
 use mathlib.Core.List.{List}
-use Prim.Native.Nat.{ℕ, suc, ◌+◌, ◌-◌, ◌≤◌, ◌<◌}
+use Prim.Native.Nat.{ℕ, suc, ◌+◌, ◌<◌}
 use native.Mathlib.Numerals.{add-one}
 use native.Mathlib.Omega.{arith}
 use lib.Dec.{eqb}
@@ -35,13 +34,13 @@ returns-then-a-b c = sym (same-lengths c.args.a.now c.args.b.now c.if-a-b.true)
 pub loop-i-preserved : goal.loop-i-preserved
 loop-i-preserved c = let a : List ℕ = c.args.a.now in
     let b : List ℕ = c.args.b.now in
-    let l = c.loop-i in 
+    let l = c.loop-i in
     (step a b l.i l.equal (omega arith) (omega arith) l.invariant.0, omega arith, omega arith)
 
 pub returns : goal.returns
 returns c = let a : List ℕ = c.args.a.now in
     let b : List ℕ = c.args.b.now in
-    let l = c.loop-i in 
+    let l = c.loop-i in
     sym (l.invariant.0
     ∙ ap (λ (x : Bool). l.equal && x) (ap₂ same_bytes (drop_of_length-le a {i = l.i} (omega arith)) (drop_of_length-le b {i = l.i} (omega arith)))
     ∙ and-true l.equal)

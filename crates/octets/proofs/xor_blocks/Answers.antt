@@ -3,12 +3,11 @@
 use Rattle.std.proofs.Common.{rules}
 use mathlib.Core.Path.{◌≡◌, sym, ◌∙◌}
 use mathlib.Core.List.{List}
-use Prim.Native.Nat.{ℕ, ◌-◌}
+use Prim.Native.Nat.{ℕ}
 use native.Mathlib.Omega.{arith}
 use lib.ListN.{length}
-use Rattle.octets.specs.Bytes.{xor_bytes}
 use Rattle.octets.proofs.Lists.{get_d-xor-bytes, length-xor-bytes}
-use Rattle.octets.proofs.Filling.{Filled, filled_none, filled-one, filled-all}
+use Rattle.octets.proofs.Filling.{filled_none, filled-one, filled-all}
 use Rattle.octets.proofs.xor_blocks.Goals as goal
 
 pub loop-i-init : goal.loop-i-init

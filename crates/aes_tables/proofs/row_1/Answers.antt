@@ -1,0 +1,13 @@
+-- The constant table is the rule's, by one test over its 256 entries.
+-- Assumes nothing.
+use mathlib.Core.Path.{refl}
+use Rattle.aes_field.specs.Field.{x_times, ◌•◌}
+use Rattle.aes_field.specs.Tables.{sbox}
+use Rattle.aes_words.specs.Words.{word}
+use Rattle.aes_tables.specs.Tables.{from_row1, table1}
+use Rattle.aes_tables.proofs.Entries.{by-test}
+use Rattle.aes_tables.proofs.row_1.Goals as goal
+
+pub returns : goal.returns
+unfolding table1 sbox word ◌•◌ x_times
+returns c = by-test from_row1 _ refl tt

@@ -1,0 +1,13 @@
+-- `behind_word` meets its contract. Invariant: the place and the characters of the word after it make up the place that is given.
+-- Assumes nothing.
+use Rattle.text_words.proofs.behind_word.Given as goal
+use mathlib.Core.Path.{◌≡◌}
+use Prim.Native.Nat.{◌+◌, ◌-◌, ◌≤◌}
+use lib.ListN.{length, drop}
+use Rattle.text_words.specs.Words.{letters}
+
+abbrev pub invariant-loop-i : goal.invariant-loop-i
+invariant-loop-i l = (l.at + letters (drop l.at l.s) ≡ l.i + letters (drop l.i l.s)) × (l.i ≤ length l.s)
+
+abbrev pub decreases-loop-i : goal.decreases-loop-i
+decreases-loop-i l = length l.s - l.i
