@@ -3,6 +3,9 @@ ghost use Rattle.std.specs.Prelude.{◌≡◌, ◌≤◌, length};
 
 use crate::trial::Entry;
 use crate::{report, trial};
+use std::io::Read;
+use std::rt::Files;
+use std::{fs, io, str};
 use text_hex::text;
 use text_hex::text::TextSpan;
 
@@ -67,22 +70,29 @@ fn with_entry(t: Tally, section: u8, passed: bool) -> Tally {
 }
 
 // Tries the entry that has been read, if there is one, and begins the next, in the section named.
-fn finish(name: &[u8], s: &[u8], mode: u8, st: State, section: u8) -> State {
+fn finish(
+    rt: &impl Print,
+    name: &[u8],
+    s: &[u8],
+    mode: u8,
+    st: State,
+    section: u8,
+) -> io::Result<State> {
     let e = st.entry;
     let t = st.tally;
     let fresh = trial::no_entry(section);
     if trial::is_empty(e) {
-        return State {
+        return Ok(State {
             entry: fresh,
             tally: t,
-        };
+        });
     }
-    let passed = trial::try_entry(name, s, mode, e);
+    let passed = trial::try_entry(rt, name, s, mode, e)?;
     let counted = with_entry(t, e.section, passed);
-    State {
+    Ok(State {
         entry: fresh,
         tally: counted,
-    }
+    })
 }
 
 fn has_value(e: Entry, kind: u8) -> bool {
@@ -119,42 +129,58 @@ fn with_value(e: Entry, kind: u8, x: TextSpan) -> Entry {
 }
 
 // A line that holds a value, which is at x; a line of an unknown name, or of a value that the entry has already, is a fault.
-fn take_value(name: &[u8], st: State, kind: u8, x: TextSpan, at: usize) -> State {
+fn take_value(
+    rt: &impl Print,
+    name: &[u8],
+    st: State,
+    kind: u8,
+    x: TextSpan,
+    at: usize,
+) -> io::Result<State> {
     let e = st.entry;
     let t = st.tally;
     if kind == text::UNKNOWN || has_value(e, kind) {
-        report::say_bad_line(name, at);
+        report::say_bad_line(rt, name, at)?;
         let faulty = with_fault(t);
-        return State {
+        return Ok(State {
             entry: e,
             tally: faulty,
-        };
+        });
     }
     let more = with_value(e, kind, x);
-    State {
+    Ok(State {
         entry: more,
         tally: t,
-    }
+    })
 }
 
 // The line from byte `at` up to byte `end`. A blank line ends an entry.
-fn take_line(name: &[u8], s: &[u8], mode: u8, st: State, at: usize, end: usize) -> State
+fn take_line(
+    rt: &impl Print,
+    name: &[u8],
+    s: &[u8],
+    mode: u8,
+    st: State,
+    at: usize,
+    end: usize,
+) -> io::Result<State>
     requires { (at ≤ end) × (end ≤ length s.now) }
 {
     let stop = text::trimmed(s, at, end);
     let kind = text::line_kind(&s[at..stop]);
     if kind == text::COMMENT {
-        return st;
+        return Ok(st);
     }
     if kind == text::BLANK {
         let section = st.entry.section;
-        return finish(name, s, mode, st, section);
+        return finish(rt, name, s, mode, st, section);
     }
     if kind == text::ENCRYPT || kind == text::DECRYPT {
-        return finish(name, s, mode, st, kind);
+        return finish(rt, name, s, mode, st, kind);
     }
     let start = text::value_start(s, at, stop);
     take_value(
+        rt,
         name,
         st,
         kind,
@@ -167,7 +193,7 @@ fn take_line(name: &[u8], s: &[u8], mode: u8, st: State, at: usize, end: usize) 
 }
 
 // Tries every entry of a file's text.
-fn run_text(name: &[u8], s: &[u8], mode: u8) -> Tally {
+fn run_text(rt: &impl Print, name: &[u8], s: &[u8], mode: u8) -> io::Result<Tally> {
     let mut st = State {
         entry: trial::no_entry(text::UNKNOWN),
         tally: no_tally(),
@@ -175,12 +201,12 @@ fn run_text(name: &[u8], s: &[u8], mode: u8) -> Tally {
     let mut at = 0;
     while at < s.len() {
         let end = text::place_of(s, at, b'\n');
-        let next = take_line(name, s, mode, st, at, end);
+        let next = take_line(rt, name, s, mode, st, at, end)?;
         st = next;
         at = text::line_behind(s, at, end);
     }
-    let last = finish(name, s, mode, st, text::UNKNOWN);
-    last.tally
+    let last = finish(rt, name, s, mode, st, text::UNKNOWN)?;
+    Ok(last.tally)
 }
 
 // Room for a file.
@@ -190,34 +216,57 @@ fn file_buffer() -> [u8; FILE_MAX_BYTES]
     [0; FILE_MAX_BYTES]
 }
 
+// Reads until `buf` is full, the file ends or a read fails, and answers how many bytes it put at the start of `buf`.
+fn read_full(file: &mut impl Read, buf: &mut [u8]) -> usize
+    ensures { result ≤ length buf.new }
+{
+    let mut done = 0;
+    while done < buf.len() {
+        let n = match file.read(&mut buf[done..]) {
+            Ok(n) => n,
+            Err(_) => 0,
+        };
+        if n == 0 {
+            return done;
+        }
+        done += n;
+    }
+    done
+}
+
 // Whether a file has been read to its end.
-fn is_at_end(fd: i32) -> bool {
+fn is_at_end(file: &mut impl Read) -> bool {
     let mut one = [0u8; 1];
-    libc::read(fd, &mut one) == 0
+    match file.read(&mut one) {
+        Ok(n) => n == 0,
+        Err(_) => false,
+    }
 }
 
-fn one_fault(name: &[u8], words: &[u8]) -> Tally {
-    report::say_fault(name, words);
-    with_fault(no_tally())
+fn one_fault(rt: &impl Print, name: &[u8], words: &[u8]) -> io::Result<Tally> {
+    report::say_fault(rt, name, words)?;
+    Ok(with_fault(no_tally()))
 }
 
-fn run_open(name: &[u8], mode: u8, fd: i32) -> Tally {
+fn run_open(rt: &impl Print, name: &[u8], mode: u8, file: &mut impl Read) -> io::Result<Tally> {
     let mut buf = file_buffer();
-    let n = io::read_full(fd, &mut buf);
-    if is_at_end(fd) {
-        run_text(name, &buf[..n], mode)
+    let n = read_full(file, &mut buf);
+    if is_at_end(file) {
+        run_text(rt, name, &buf[..n], mode)
     } else {
-        one_fault(name, b"cannot be read, or is longer than 262144 bytes")
+        one_fault(rt, name, b"cannot be read, or is longer than 262144 bytes")
     }
 }
 
 // Tries every entry of the file of that name.
-pub fn run_file(name: &[u8], mode: u8) -> Tally {
-    let fd = os::open_read(name);
-    if fd < 0 {
-        return one_fault(name, b"cannot be opened");
-    }
-    let t = run_open(name, mode, fd);
-    libc::close(fd);
-    t
+pub fn run_file(rt: &(impl Print + Files), name: &[u8], mode: u8) -> io::Result<Tally> {
+    let path = match str::from_utf8(name) {
+        Ok(path) => path,
+        Err(_) => return one_fault(rt, name, b"cannot be opened"),
+    };
+    let mut file = match fs::open(rt, path) {
+        Ok(file) => file,
+        Err(_) => return one_fault(rt, name, b"cannot be opened"),
+    };
+    run_open(rt, name, mode, &mut file)
 }

@@ -4,6 +4,7 @@ ghost use Rattle.std.specs.Prelude.{◌≡◌, ◌≤◌, length};
 
 use crate::report;
 use octets::BLOCK_BYTES;
+use std::io;
 use text_hex::text;
 use text_hex::text::{DECRYPT, ENCRYPT, TextSpan};
 
@@ -143,6 +144,7 @@ fn run(way: u8, mode: u8, key: &[u8; 32], iv: [u8; 16], given: &[u8], got: &mut 
 
 // Whether one direction gave what was expected; where not, that is reported.
 fn judge(
+    rt: &impl Print,
     name: &[u8],
     s: &[u8],
     section: u8,
@@ -150,24 +152,25 @@ fn judge(
     way: u8,
     expected: &[u8],
     got: &[u8],
-) -> bool {
+) -> io::Result<bool> {
     if octets::same(expected, got) {
-        return true;
+        return Ok(true);
     }
-    report::say_entry(name, section, s, count);
+    report::say_entry(rt, name, section, s, count)?;
     if way == ENCRYPT {
-        text_print::say(b"encrypting gives a wrong answer\n");
+        text_print::say(rt, b"encrypting gives a wrong answer\n")?;
     } else if way == ENCRYPT_BY_TABLES {
-        text_print::say(b"encrypting by tables gives a wrong answer\n");
+        text_print::say(rt, b"encrypting by tables gives a wrong answer\n")?;
     } else {
-        text_print::say(b"decrypting gives a wrong answer\n");
+        text_print::say(rt, b"decrypting gives a wrong answer\n")?;
     }
-    report::say_difference(expected, got);
-    false
+    report::say_difference(rt, expected, got)?;
+    Ok(false)
 }
 
 // Tries both directions, and encryption by the tables, each with its answer in `got`.
 fn try_ways(
+    rt: &impl Print,
     name: &[u8],
     s: &[u8],
     mode: u8,
@@ -177,21 +180,31 @@ fn try_ways(
     plain: &[u8],
     cipher: &[u8],
     got: &mut [u8],
-) -> bool
+) -> io::Result<bool>
     requires plain_len { length plain.now ≡ length got.old }
     requires cipher_len { length cipher.now ≡ length got.old }
 {
     run(ENCRYPT, mode, key, iv, plain, got);
-    let encrypts = judge(name, s, e.section, e.count, ENCRYPT, cipher, got);
+    let encrypts = judge(rt, name, s, e.section, e.count, ENCRYPT, cipher, got)?;
     run(ENCRYPT_BY_TABLES, mode, key, iv, plain, got);
-    let encrypts_by_tables = judge(name, s, e.section, e.count, ENCRYPT_BY_TABLES, cipher, got);
+    let encrypts_by_tables = judge(
+        rt,
+        name,
+        s,
+        e.section,
+        e.count,
+        ENCRYPT_BY_TABLES,
+        cipher,
+        got,
+    )?;
     run(DECRYPT, mode, key, iv, cipher, got);
-    let decrypts = judge(name, s, e.section, e.count, DECRYPT, plain, got);
-    encrypts & encrypts_by_tables & decrypts
+    let decrypts = judge(rt, name, s, e.section, e.count, DECRYPT, plain, got)?;
+    Ok(encrypts & encrypts_by_tables & decrypts)
 }
 
 // Tries an entry whose texts have the length of the three slices.
 fn try_texts(
+    rt: &impl Print,
     name: &[u8],
     s: &[u8],
     mode: u8,
@@ -199,7 +212,7 @@ fn try_texts(
     plain: &mut [u8],
     cipher: &mut [u8],
     got: &mut [u8],
-) -> bool
+) -> io::Result<bool>
     requires plain_len { length plain.old ≡ length got.old }
     requires cipher_len { length cipher.old ≡ length got.old }
 {
@@ -212,27 +225,29 @@ fn try_texts(
     let is_counted = !text::is_none(e.count);
     let is_read = is_counted & key_read & iv_read & plain_read & cipher_read;
     if !is_read {
-        report::say_entry(name, e.section, s, e.count);
-        text_print::say(b"the entry is malformed\n");
-        return false;
+        report::say_entry(rt, name, e.section, s, e.count)?;
+        text_print::say(rt, b"the entry is malformed\n")?;
+        return Ok(false);
     }
-    try_ways(name, s, mode, e, &key, iv, plain, cipher, got)
+    try_ways(rt, name, s, mode, e, &key, iv, plain, cipher, got)
 }
 
 // Whether an entry is well formed and right in both directions and by both engines; where not, that is reported.
-pub fn try_entry(name: &[u8], s: &[u8], mode: u8, e: Entry) -> bool {
+pub fn try_entry(rt: &impl Print, name: &[u8], s: &[u8], mode: u8, e: Entry) -> io::Result<bool> {
     let n = text_bytes(mode, e.plain);
     if n == 0 {
-        report::say_entry(name, e.section, s, e.count);
+        report::say_entry(rt, name, e.section, s, e.count)?;
         text_print::say(
+            rt,
             b"the plaintext is missing or has another length than whole blocks of 16 bytes\n",
-        );
-        return false;
+        )?;
+        return Ok(false);
     }
     let mut plain = [0u8; TEXT_MAX_BYTES];
     let mut cipher = [0u8; TEXT_MAX_BYTES];
     let mut got = [0u8; TEXT_MAX_BYTES];
     try_texts(
+        rt,
         name,
         s,
         mode,

@@ -26,10 +26,10 @@ pub extern "C" fn tw_fresh(card: &mut Card, uid: &[u8; 16], public_key: &[u8; 65
     *card = new;
 }
 
-// Soundness of a card.
+// Soundness of a card, which is only read.
 #[unsafe(no_mangle)]
 pub extern "C" fn tw_sound(card: &Card) -> u8
-    ensures { (result ≡ cond (is_sound card.now) 1 0) × (card.now ≡ card.now) }
+    ensures { result ≡ cond (is_sound card.now) 1 0 }
 {
     let found = *card;
     library_fresh::sound_number(found)
@@ -49,7 +49,7 @@ pub extern "C" fn tw_reset(card: &mut Card) -> u8
 // WRITE: the card is only read.
 #[unsafe(no_mangle)]
 pub extern "C" fn tw_write(card: &Card, buf: &mut [u8]) -> Counted
-    ensures { WroteRecord card.now (written_of result) buf.old buf.new × (card.now ≡ card.now) }
+    ensures { WroteRecord card.now (written_of result) buf.old buf.new }
 {
     let found = *card;
     library_calls::written(found, buf)

@@ -15,8 +15,7 @@ use rules::Asked;
 // ASK: the card is only read.
 #[unsafe(no_mangle)]
 pub extern "C" fn tw_ask(card: &Card, cmd: &[u8], buf: &mut [u8]) -> Asked
-    ensures { AskDid (ask_out card.now cmd.now (length buf.old)) result buf.old buf.new
-        × (card.now ≡ card.now) }
+    ensures { AskDid (ask_out card.now cmd.now (length buf.old)) result buf.old buf.new }
 {
     let found = *card;
     engine::ask(found, cmd, buf)

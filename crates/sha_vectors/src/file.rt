@@ -3,6 +3,9 @@ ghost use Rattle.std.specs.Prelude.{◌≡◌, ◌≤◌, length};
 
 use crate::trial;
 use crate::trial::Entry;
+use std::io::Read;
+use std::rt::Files;
+use std::{fs, io, str};
 use text_hex::text;
 use text_hex::text::TextSpan;
 
@@ -81,25 +84,25 @@ fn line_kind(line: &[u8]) -> u8 {
 }
 
 // Tries the entry that has been read, if there is one, and begins the next.
-fn finish(name: &[u8], s: &[u8], st: State) -> State {
+fn finish(rt: &impl Print, name: &[u8], s: &[u8], st: State) -> io::Result<State> {
     let e = st.entry;
     let t = st.tally;
     let fresh = trial::no_entry();
     if trial::is_empty(e) {
-        return State {
+        return Ok(State {
             entry: fresh,
             tally: t,
-        };
+        });
     }
-    let passed = trial::try_entry(name, s, e);
-    State {
+    let passed = trial::try_entry(rt, name, s, e)?;
+    Ok(State {
         entry: fresh,
         tally: Tally {
             found: more(t.found, true),
             passed: more(t.passed, passed),
             faults: t.faults,
         },
-    }
+    })
 }
 
 fn has_value(e: Entry, kind: u8) -> bool {
@@ -126,41 +129,56 @@ fn with_value(e: Entry, kind: u8, x: TextSpan) -> Entry {
 }
 
 // A line that holds a value, which is at x; a line of an unknown name, or of a value that the entry has already, is a fault.
-fn take_value(name: &[u8], st: State, kind: u8, x: TextSpan, at: usize) -> State {
+fn take_value(
+    rt: &impl Print,
+    name: &[u8],
+    st: State,
+    kind: u8,
+    x: TextSpan,
+    at: usize,
+) -> io::Result<State> {
     let e = st.entry;
     let t = st.tally;
     if kind == UNKNOWN || has_value(e, kind) {
-        text_print::say(name);
-        text_print::say(b": not understood, the line at byte ");
-        text_print::say_size(at);
-        text_print::say(b"\n");
+        text_print::say(rt, name)?;
+        text_print::say(rt, b": not understood, the line at byte ")?;
+        text_print::say_size(rt, at)?;
+        text_print::say(rt, b"\n")?;
         let faulty = with_fault(t);
-        return State {
+        return Ok(State {
             entry: e,
             tally: faulty,
-        };
+        });
     }
     let more = with_value(e, kind, x);
-    State {
+    Ok(State {
         entry: more,
         tally: t,
-    }
+    })
 }
 
 // The line from byte `at` up to byte `end`. A blank line ends an entry.
-fn take_line(name: &[u8], s: &[u8], st: State, at: usize, end: usize) -> State
+fn take_line(
+    rt: &impl Print,
+    name: &[u8],
+    s: &[u8],
+    st: State,
+    at: usize,
+    end: usize,
+) -> io::Result<State>
     requires { (at ≤ end) × (end ≤ length s.now) }
 {
     let stop = text::trimmed(s, at, end);
     let kind = line_kind(&s[at..stop]);
     if kind == COMMENT {
-        return st;
+        return Ok(st);
     }
     if kind == BLANK {
-        return finish(name, s, st);
+        return finish(rt, name, s, st);
     }
     let start = text::value_start(s, at, stop);
     take_value(
+        rt,
         name,
         st,
         kind,
@@ -173,7 +191,7 @@ fn take_line(name: &[u8], s: &[u8], st: State, at: usize, end: usize) -> State
 }
 
 // Tries every entry of a file's text.
-fn run_text(name: &[u8], s: &[u8]) -> Tally {
+fn run_text(rt: &impl Print, name: &[u8], s: &[u8]) -> io::Result<Tally> {
     let mut st = State {
         entry: trial::no_entry(),
         tally: no_tally(),
@@ -181,12 +199,12 @@ fn run_text(name: &[u8], s: &[u8]) -> Tally {
     let mut at = 0;
     while at < s.len() {
         let end = text::place_of(s, at, b'\n');
-        let next = take_line(name, s, st, at, end);
+        let next = take_line(rt, name, s, st, at, end)?;
         st = next;
         at = text::line_behind(s, at, end);
     }
-    let last = finish(name, s, st);
-    last.tally
+    let last = finish(rt, name, s, st)?;
+    Ok(last.tally)
 }
 
 // Room for a file.
@@ -196,35 +214,62 @@ fn file_buffer() -> [u8; FILE_MAX_BYTES]
     [0; FILE_MAX_BYTES]
 }
 
+// Reads until `buf` is full, the file ends or a read fails, and answers how many bytes it put at the start of `buf`.
+fn read_full(file: &mut impl Read, buf: &mut [u8]) -> usize
+    ensures { result ≤ length buf.new }
+{
+    let mut done = 0;
+    while done < buf.len() {
+        let n = match file.read(&mut buf[done..]) {
+            Ok(n) => n,
+            Err(_) => 0,
+        };
+        if n == 0 {
+            return done;
+        }
+        done += n;
+    }
+    done
+}
+
 // Whether a file has been read to its end.
-fn is_at_end(fd: i32) -> bool {
+fn is_at_end(file: &mut impl Read) -> bool {
     let mut one = [0u8; 1];
-    libc::read(fd, &mut one) == 0
+    match file.read(&mut one) {
+        Ok(n) => n == 0,
+        Err(_) => false,
+    }
 }
 
-fn one_fault(name: &[u8], words: &[u8]) -> Tally {
-    text_print::say(name);
-    text_print::say(words);
-    with_fault(no_tally())
+fn one_fault(rt: &impl Print, name: &[u8], words: &[u8]) -> io::Result<Tally> {
+    text_print::say(rt, name)?;
+    text_print::say(rt, words)?;
+    Ok(with_fault(no_tally()))
 }
 
-fn run_open(name: &[u8], fd: i32) -> Tally {
+fn run_open(rt: &impl Print, name: &[u8], file: &mut impl Read) -> io::Result<Tally> {
     let mut buf = file_buffer();
-    let n = io::read_full(fd, &mut buf);
-    if is_at_end(fd) {
-        run_text(name, &buf[..n])
+    let n = read_full(file, &mut buf);
+    if is_at_end(file) {
+        run_text(rt, name, &buf[..n])
     } else {
-        one_fault(name, b": cannot be read, or is longer than 16384 bytes\n")
+        one_fault(
+            rt,
+            name,
+            b": cannot be read, or is longer than 16384 bytes\n",
+        )
     }
 }
 
 // Tries every entry of the file of that name.
-pub fn run_file(name: &[u8]) -> Tally {
-    let fd = os::open_read(name);
-    if fd < 0 {
-        return one_fault(name, b": cannot be opened\n");
-    }
-    let t = run_open(name, fd);
-    libc::close(fd);
-    t
+pub fn run_file(rt: &(impl Print + Files), name: &[u8]) -> io::Result<Tally> {
+    let path = match str::from_utf8(name) {
+        Ok(path) => path,
+        Err(_) => return one_fault(rt, name, b": cannot be opened\n"),
+    };
+    let mut file = match fs::open(rt, path) {
+        Ok(file) => file,
+        Err(_) => return one_fault(rt, name, b": cannot be opened\n"),
+    };
+    run_open(rt, name, &mut file)
 }

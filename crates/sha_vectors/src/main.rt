@@ -11,6 +11,8 @@ mod file;
 mod trial;
 
 use file::Tally;
+use std::io;
+use std::rt::Files;
 
 // The digest of a million bytes 61, the third example of the standard's publisher.
 const MILLION_DIGEST: [u8; 32] = [
@@ -26,58 +28,59 @@ fn million_bytes() -> [u8; MILLION]
     [b'a'; MILLION]
 }
 
-fn million_passes() -> bool {
+fn million_passes(rt: &impl Print) -> io::Result<bool> {
     let message = million_bytes();
     let expected = MILLION_DIGEST;
     let got = sha_hash::sha256(&message);
-    trial::judge(b"a million bytes 61", &expected, &got)
+    trial::judge(rt, b"a million bytes 61", &expected, &got)
 }
 
 // The entries that passed, out of those that should be there.
-fn say_passed(name: &[u8], passed: u64, wanted: u64) {
-    text_print::say(name);
-    text_print::say(b": ");
-    text_print::say_number(passed);
-    text_print::say(b" of ");
-    text_print::say_number(wanted);
-    text_print::say(b"\n");
+fn say_passed(rt: &impl Print, name: &[u8], passed: u64, wanted: u64) -> io::Result<()> {
+    text_print::say(rt, name)?;
+    text_print::say(rt, b": ")?;
+    text_print::say_number(rt, passed)?;
+    text_print::say(rt, b" of ")?;
+    text_print::say_number(rt, wanted)?;
+    text_print::say(rt, b"\n")
 }
 
 // One file and the entries that it should have. A file with another number of entries has a fault.
-fn run(name: &[u8], wanted: u64) -> Tally {
-    let t = file::run_file(name);
-    say_passed(name, t.passed, wanted);
+fn run(rt: &(impl Print + Files), name: &[u8], wanted: u64) -> io::Result<Tally> {
+    let t = file::run_file(rt, name)?;
+    say_passed(rt, name, t.passed, wanted)?;
     if t.found == wanted {
-        return t;
+        return Ok(t);
     }
-    text_print::say(name);
-    text_print::say(b" has ");
-    text_print::say_number(t.found);
-    text_print::say(b" entries\n");
-    file::with_fault(t)
+    text_print::say(rt, name)?;
+    text_print::say(rt, b" has ")?;
+    text_print::say_number(rt, t.found)?;
+    text_print::say(rt, b" entries\n")?;
+    Ok(file::with_fault(t))
 }
 
-fn say_total(passed: u64, wanted: u64, faults: u64) {
-    say_passed(b"total", passed, wanted);
-    text_print::say(b"faults in the files: ");
-    text_print::say_number(faults);
-    text_print::say(b"\n");
+fn say_total(rt: &impl Print, passed: u64, wanted: u64, faults: u64) -> io::Result<()> {
+    say_passed(rt, b"total", passed, wanted)?;
+    text_print::say(rt, b"faults in the files: ")?;
+    text_print::say_number(rt, faults)?;
+    text_print::say(rt, b"\n")?;
     if passed == wanted && faults == 0 {
-        text_print::say(b"Every vector passed.\n");
+        text_print::say(rt, b"Every vector passed.\n")
     } else {
-        text_print::say(b"FAILED: not every vector passed.\n");
+        text_print::say(rt, b"FAILED: not every vector passed.\n")
     }
 }
 
-fn main() {
+fn main(rt: HostRuntime) -> io::Result<()> {
     text_print::say(
+        &rt,
         b"SHA-256, messages of whole bytes, digests of 32 bytes. An entry passes where the digest is its own.\n",
-    );
-    let a = run(b"FIPS180.rsp", 2);
-    let b = run(b"SHA256ShortMsg.rsp", 65);
-    let m = file::more(0, million_passes());
-    say_passed(b"a million bytes 61", m, 1);
+    )?;
+    let a = run(&rt, b"FIPS180.rsp", 2)?;
+    let b = run(&rt, b"SHA256ShortMsg.rsp", 65)?;
+    let m = file::more(0, million_passes(&rt)?);
+    say_passed(&rt, b"a million bytes 61", m, 1)?;
     let files = std::num::wrapping_add_u64(a.passed, b.passed);
     let faults = std::num::wrapping_add_u64(a.faults, b.faults);
-    say_total(std::num::wrapping_add_u64(files, m), 68, faults);
+    say_total(&rt, std::num::wrapping_add_u64(files, m), 68, faults)
 }

@@ -3,6 +3,7 @@
 ghost use Rattle.std.specs.Prelude.{◌≤◌};
 
 use sha_hash::DIGEST_BYTES;
+use std::io;
 use text_hex::text;
 use text_hex::text::TextSpan;
 
@@ -59,21 +60,21 @@ fn message_bytes(bits: usize) -> usize
 }
 
 // Whether the digest is the one that was expected; where not, both are reported.
-pub fn judge(name: &[u8], expected: &[u8], got: &[u8]) -> bool {
+pub fn judge(rt: &impl Print, name: &[u8], expected: &[u8], got: &[u8]) -> io::Result<bool> {
     if octets::same(expected, got) {
-        return true;
+        return Ok(true);
     }
-    text_print::say(name);
-    text_print::say(b": a wrong digest\n");
-    text_print::say_bytes(b"  expected", expected);
-    text_print::say_bytes(b"  got", got);
-    false
+    text_print::say(rt, name)?;
+    text_print::say(rt, b": a wrong digest\n")?;
+    text_print::say_bytes(rt, b"  expected", expected)?;
+    text_print::say_bytes(rt, b"  got", got)?;
+    Ok(false)
 }
 
-fn malformed(name: &[u8]) -> bool {
-    text_print::say(name);
-    text_print::say(b": an entry is malformed\n");
-    false
+fn malformed(rt: &impl Print, name: &[u8]) -> io::Result<bool> {
+    text_print::say(rt, name)?;
+    text_print::say(rt, b": an entry is malformed\n")?;
+    Ok(false)
 }
 
 // The message's bytes into all of `message`. A message of no bytes has the text 00.
@@ -87,24 +88,30 @@ fn read_message(s: &[u8], x: TextSpan, message: &mut [u8]) -> bool {
 }
 
 // Tries an entry whose message has the length of `message`.
-fn try_message(name: &[u8], s: &[u8], e: Entry, message: &mut [u8]) -> bool {
+fn try_message(
+    rt: &impl Print,
+    name: &[u8],
+    s: &[u8],
+    e: Entry,
+    message: &mut [u8],
+) -> io::Result<bool> {
     let mut expected = [0u8; DIGEST_BYTES];
     let message_read = read_message(s, e.message, message);
     let digest_read = text::read_hex(s, e.digest, &mut expected);
     let is_read = message_read & digest_read;
     if !is_read {
-        return malformed(name);
+        return malformed(rt, name);
     }
     let got = sha_hash::sha256(message);
-    judge(name, &expected, &got)
+    judge(rt, name, &expected, &got)
 }
 
 // Whether an entry is well formed and its digest right; where not, that is reported.
-pub fn try_entry(name: &[u8], s: &[u8], e: Entry) -> bool {
+pub fn try_entry(rt: &impl Print, name: &[u8], s: &[u8], e: Entry) -> io::Result<bool> {
     let n = message_bytes(bits_of(s, e.bits));
     if n > MESSAGE_MAX_BYTES {
-        return malformed(name);
+        return malformed(rt, name);
     }
     let mut message = [0u8; MESSAGE_MAX_BYTES];
-    try_message(name, s, e, &mut message[..n])
+    try_message(rt, name, s, e, &mut message[..n])
 }

@@ -41,6 +41,7 @@ fn keep(buf: &mut [u8], at: usize, b: u8) -> bool {
 
 // Reads a line of the input, up to its line feed, and drops what buf has no room for.
 // The input is read byte by byte, so nothing behind the line feed is taken from it.
+// After a read that failed, buf holds what was read of the line before it.
 pub fn read_line(input: &mut impl Read, buf: &mut [u8]) -> io::Result<Line> {
     let mut len = 0;
     let mut found = false;

@@ -15,7 +15,8 @@ slice_bounds-bytes-end c =
     omega (arith, l, c.wide-end.ensures, c.requires)
 
 pub slice_bounds-in_eip_1581-end : goal.slice_bounds-in_eip_1581-end
-slice_bounds-in_eip_1581-end c = sym (length-take-le c.wide-end.result c.args.path.bytes (array-share-prefix-bytes c))
+slice_bounds-in_eip_1581-end c = sym (length-take-le c.wide-end.result c.args.path.bytes ((let l : length c.args.path.bytes ≡ 40 = search rules in
+    omega (arith, l, c.wide-end.ensures, c.requires))))
 
 pub returns : goal.returns
 returns c = c.in_eip_1581.ensures ∙ ap (λ (n : ℕ). in_eip1581 (take n c.args.path.bytes)) c.wide-end.ensures

@@ -6,11 +6,11 @@ use Rattle.command_load_checks.proofs.load_place.Goals as goal
 
 pub returns-in-Keypair : goal.returns-in-Keypair
 unfolding load_place
-returns-in-Keypair c = rw c.in-Keypair.is (c.IsPlace-in.ensures ∙ ap place_in c.walk.ensures.0)
+returns-in-Keypair c = rw c.in-Keypair.is (c.place_in-place.ensures ∙ ap place_in c.walk.ensures.0)
 
 pub returns-in-Extended : goal.returns-in-Extended
 unfolding load_place
-returns-in-Extended c = rw c.in-Extended.is (c.IsPlace-in.ensures ∙ ap place_in c.walk.ensures.0)
+returns-in-Extended c = rw c.in-Extended.is (c.place_in-place.ensures ∙ ap place_in c.walk.ensures.0)
 
 pub returns-in-Seed : goal.returns-in-Seed
 unfolding load_place

@@ -10,4 +10,4 @@ returns-then-data-lt-LENGTH_BYTES c = ndef-short c.args.«data».now (omega arit
 
 pub returns : goal.returns
 returns c =
-    ndef-told c.args.«data».now c.number_of_lem.result _ c.if-data-lt-LENGTH_BYTES.false c.number_of_lem.ensures refl
+    ndef-told c.args.«data».now c.number_of-told.result _ c.if-data-lt-LENGTH_BYTES.false c.number_of-told.ensures refl

@@ -16,7 +16,8 @@ slice_bounds-bytes-end c = let l : length c.args.t.bytes ≡ 223 = search rules 
     omega (arith, l)
 
 pub slice_bounds-is_ndef-end : goal.slice_bounds-is_ndef-end
-slice_bounds-is_ndef-end c = sym (length-take-le _ _ (array-share-prefix-bytes c))
+slice_bounds-is_ndef-end c = sym (length-take-le _ _ ((let l : length c.args.t.bytes ≡ 223 = search rules in
+    omega (arith, l))))
 
 pub returns : goal.returns
 returns c =

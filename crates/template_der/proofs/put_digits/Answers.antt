@@ -1,6 +1,5 @@
 -- `put_digits` writes the digits as they are, or head, zero and digits one after the other.
 use mathlib.Core.Path.{sym, ap, ◌∙◌}
-use mathlib.Core.List.{[]}
 use Prim.Native.Nat.{◌+◌}
 use native.Mathlib.Omega.{arith}
 use lib.ListN.{length}
@@ -45,5 +44,7 @@ pub returns : goal.returns
 returns c =
     let d = c.args.digits.now in
     wrote-same (zero_field d (sym c.needs_zero.ensures ∙ c.if-not-needs_zero.false))
-    (wrote-both (wrote-both c.put_head-behind.ensures (wrote_one (put-requires (c) ([], ([], tt))) c.put.ensures))
-    (wrote_one (put-requires-2 (c) ([], ([], tt))) c.put-2.ensures))
+    (wrote-both (wrote-both c.put_head-behind.ensures (wrote_one ((let h = c.put_head-behind in let d = c.args.digits.now in
+    omega (arith, h.ensures.place, h.auto.buf, c.requires, head-length-le 0x02 (length d + 1)))) c.put.ensures))
+    (wrote_one ((let h = c.put_head-behind in let d = c.args.digits.now in
+    omega (arith, h.ensures.place, h.auto.buf, c.put.auto.buf, c.requires, head-length-le 0x02 (length d + 1)))) c.put-2.ensures))

@@ -1,0 +1,7 @@
+-- The test is the definition, line by line: the answers of the tests that it calls are put in their places.
+-- Assumes nothing.
+
+use Rattle.sound_pairing.proofs.slot_within.Goals as goal
+
+pub returns : goal.returns
+returns c = rw c.zero_from-clear.ensures

@@ -1,0 +1,7 @@
+-- The test is the definition, line by line: the answers of the tests that it calls are put in their places.
+-- Assumes nothing.
+
+use Rattle.sound_pins.proofs.pins_sound.Goals as goal
+
+pub returns : goal.returns
+returns c = rw (c.digits-pin_digits.ensures, c.digits-puk_digits.ensures)
