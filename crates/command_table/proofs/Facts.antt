@@ -2,13 +2,12 @@
 -- Assumes nothing.
 use mathlib.Core.Path.{◌≡◌, sym, subst}
 use mathlib.Core.Bool.{true}
-use mathlib.Core.List.{List, [], ◌∷◌}
+use mathlib.Core.List.{List}
 use mathlib.Core.Logic.{⊎_elim}
 use Prim.Native.Nat.{ℕ}
-use types.Run.{OneOf, miss}
-use denote.Enum.Declared.{tag_of}
 use Rattle.card.specs.declared.Card.{Card}
-use Rattle.rules.specs.contracts.Command.{the_type}
+use Rattle.rules.specs.declared.KeyForm.{KeyForm}
+use Rattle.rules.specs.declared.Command.TheVariants as command
 use Rattle.rules.proofs.Places.{unless-load}
 use Rattle.rules.specs.declared.Command.{Command}
 use Rattle.rules.specs.Words.{Hold}
@@ -24,10 +23,7 @@ module _ (k known : Command) (e : k ≡ known) where
   pub suited : (s : List ℕ) → suits (supply_of k) s ≡ true → suits (supply_of known) s ≡ true
   suited s h = subst (λ (x : Command). suits (supply_of x) s ≡ true) e h
 
--- ---- place: the commands by their numbers in the enum, all but LOAD, which is 11
-abbrev others : List ℕ
-others = 0 ∷ 1 ∷ 2 ∷ 3 ∷ 4 ∷ 5 ∷ 6 ∷ 7 ∷ 8 ∷ 9 ∷ 10 ∷ 12 ∷ 13 ∷ 14 ∷ 15 ∷ 16 ∷ 17 ∷ 18 ∷ []
-
-pub no_place : (k : Command) (d : List ℕ) → OneOf others (tag_of the_type k) → no_fault ≡ (rule_of k).place d
+-- ---- place: every command but LOAD
+pub no_place : (k : Command) (d : List ℕ) → ((x : KeyForm) → k ≡ command.Load x → ⊥) → no_fault ≡ (rule_of k).place d
 no_place k d h =
-    ⊎_elim (λ x. absurd (miss others 11 tt (subst (λ (y : Command). OneOf others (tag_of the_type y)) x.1 h))) (λ e. sym (e d)) (unless-load k)
+    ⊎_elim (λ x. absurd (h x.0 x.1)) (λ e. sym (e d)) (unless-load k)

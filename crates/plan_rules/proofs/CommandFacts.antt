@@ -65,6 +65,18 @@ module _ (i : Bool) (cla p1 p2 : ℕ) where
   unknown : (i : Bool) → at i named.WrongClass ≡ none
   unknown i = refl
 
+  verify-known : (j : Bool) → at j (named.Known ins.Verify) ≡ cond j (cond (is_zero p2) (cond (is_zero p1) (some command.Verify) none) none) none
+  verify-known true = refl
+  verify-known false = refl
+
+  set_pinless-known : (j : Bool) → at j (named.Known ins.SetPinless) ≡ cond j (cond (is_zero p2) (cond (is_zero p1) (some command.SetPinless) none) none) none
+  set_pinless-known true = refl
+  set_pinless-known false = refl
+
+  derive-known : (j : Bool) → at j (named.Known ins.Derive) ≡ cond j (cond (is_zero p2) (cond (is_zero p1) (some command.Derive) none) none) none
+  derive-known true = refl
+  derive-known false = refl
+
   unplanned : (a h : Bool) (x y : Option Command) → a ≡ false → cond a x none ≡ cond h (cond a y none) none
   unplanned true h x y e = absurd (false≢true (sym e))
   unplanned false true x y e = refl
@@ -75,9 +87,9 @@ module _ (i : Bool) (cla p1 p2 : ℕ) where
   command-at b = by_kind (kind b)
     where
       by_kind : {b : ℕ} → Kind b → command_at i cla b p1 p2 ≡ cond (is_head i cla p1 p2) (command_of b) none
-      by_kind verify = by-head ins.Verify command.Verify at (is_zero p1) (is_zero p2) (λ (i : Bool). elim i [ true ↦ refl | false ↦ refl ]) unknown i (eqb cla 0x80) (eqb cla 0)
-      by_kind set_pinless = by-head ins.SetPinless command.SetPinless at (is_zero p1) (is_zero p2) (λ (i : Bool). elim i [ true ↦ refl | false ↦ refl ]) unknown i (eqb cla 0x80) (eqb cla 0)
-      by_kind derive = by-head ins.Derive command.Derive at (is_zero p1) (is_zero p2) (λ (i : Bool). elim i [ true ↦ refl | false ↦ refl ]) unknown i (eqb cla 0x80) (eqb cla 0)
+      by_kind verify = by-head ins.Verify command.Verify at (is_zero p1) (is_zero p2) verify-known unknown i (eqb cla 0x80) (eqb cla 0)
+      by_kind set_pinless = by-head ins.SetPinless command.SetPinless at (is_zero p1) (is_zero p2) set_pinless-known unknown i (eqb cla 0x80) (eqb cla 0)
+      by_kind derive = by-head ins.Derive command.Derive at (is_zero p1) (is_zero p2) derive-known unknown i (eqb cla 0x80) (eqb cla 0)
       by_kind {b} (other e) = unplanned (is_planned b) (is_head i cla p1 p2) _ _ e
 
 -- ---- command_of: one of three commands, or none

@@ -5,7 +5,7 @@ use Rattle.command_table.proofs.Facts.{no_place}
 use Rattle.command_table.proofs.place_of.Goals as goal
 
 pub returns-in_default : goal.returns-in_default
-returns-in_default c = no_place c.args.k c.args.«data».now c.in_default.in_default-own.keys2
+returns-in_default c = no_place c.args.k c.args.«data».now c.in_default.not-Load
 
 pub returns : goal.returns
 unfolding rule_of
