@@ -2,11 +2,12 @@ use Rattle.std.proofs.Common.{rules}
 use mathlib.Core.Path.{ap, ◌∙◌}
 use Prim.Native.Nat.{ℕ, ◌<◌}
 use native.Mathlib.Omega.{arith}
+use borrow.Author.Tests.{not-true, not-false}
 use Rattle.plan_rules.specs.Plan.{run_plan}
 use Rattle.plan_rules.specs.Known.{bare}
 use Rattle.plan_rules.proofs.RunFacts.{run-ended, run-spent}
 use Rattle.plan_check.proofs.Running.{halted, whole, gone}
-use Rattle.plan_check.proofs.run.Goals as goal
+use Rattle.plan_check.proofs.+run.Goals as goal
 
 pub returns-then-plan-eq0 : goal.returns-then-plan-eq0
 returns-then-plan-eq0 t c = let a = c.args in run-ended (bare a.flag a.pins a.keys) a.plan.now a.left c.if-plan-eq0.true
@@ -20,7 +21,7 @@ returns-then-left-eq0 t c = let a = c.args in
 
 pub returns-then-not-step : goal.returns-then-not-step
 returns-then-not-step t c = let a = c.args in
-    halted a.flag a.left a.pins a.keys a.plan.now c.after_first-step.result c.after_first-step.ensures c.if-not-step.true
+    halted a.flag a.left a.pins a.keys a.plan.now c.after_first-step.result c.after_first-step.ensures (not-true _ c.if-not-step.true)
     c.if-left-eq0.false c.if-plan-eq0.false
 
 pub slice_bounds-run-count : goal.slice_bounds-run-count
@@ -28,21 +29,21 @@ slice_bounds-run-count t c = let a = c.args in
     omega (
       arith,
       c.first_bytes-end.ensures,
-      whole a.flag a.left a.pins a.keys a.plan.now c.after_first-step.result c.after_first-step.ensures c.if-not-step.false,
+      whole a.flag a.left a.pins a.keys a.plan.now c.after_first-step.result c.after_first-step.ensures (not-false _ c.if-not-step.false),
     )
 
 pub slice_bounds-run-start : goal.slice_bounds-run-start
-slice_bounds-run-start t c = let a = c.args in omega (arith, c.first_bytes-end.ensures, whole a.flag a.left a.pins a.keys a.plan.now c.after_first-step.result c.after_first-step.ensures c.if-not-step.false)
+slice_bounds-run-start t c = let a = c.args in omega (arith, c.first_bytes-end.ensures, whole a.flag a.left a.pins a.keys a.plan.now c.after_first-step.result c.after_first-step.ensures (not-false _ c.if-not-step.false))
 
 pub slice_bounds-run-end : goal.slice_bounds-run-end
-slice_bounds-run-end t c = let a = c.args in omega (arith, c.first_bytes-end.ensures, whole a.flag a.left a.pins a.keys a.plan.now c.after_first-step.result c.after_first-step.ensures c.if-not-step.false)
+slice_bounds-run-end t c = let a = c.args in omega (arith, c.first_bytes-end.ensures, whole a.flag a.left a.pins a.keys a.plan.now c.after_first-step.result c.after_first-step.ensures (not-false _ c.if-not-step.false))
 
 pub run-requires : goal.run-requires
 run-requires t c = (omega (arith, c.decreases, c.if-left-eq0.false), tt)
 
 pub returns : goal.returns
 returns t c = let a = c.args in
-    gone a.flag a.left a.pins a.keys a.plan.now c.after_first-step.result c.after_first-step.ensures c.if-not-step.false
+    gone a.flag a.left a.pins a.keys a.plan.now c.after_first-step.result c.after_first-step.ensures (not-false _ c.if-not-step.false)
     c.if-left-eq0.false c.if-plan-eq0.false c.first_bytes-end.result
     c.first_bytes-end.ensures
     ∙ c.run.ensures
