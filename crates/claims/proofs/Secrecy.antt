@@ -19,7 +19,7 @@ use Rattle.rules.specs.Commands.{verify_reply, unblock_reply, key_with}
 use Rattle.rules.specs.Rules.{Secret, pin, puk}
 use Rattle.rules.specs.Comparison.{Comparison}
 use Rattle.laws_two_runs.specs.Compared.{reply_by}
-use Rattle.laws_two_runs.specs.Runs.{Call, Agree}
+use Rattle.laws_two_runs.specs.Runs.{Call, Agree, next_at}
 use Rattle.laws_two_runs.proofs.Erasure.{erase-agree, agree-swap}
 use Rattle.laws_two_runs.proofs.Shown.{shows}
 use Rattle.laws_two_runs.proofs.Comparisons.{comparisons}
@@ -68,7 +68,7 @@ one-call s c d k x m n = record {
 all-compared : (c : Card) (calls : List Call) → AllCompare c calls → comparisons_of c calls ≡ replicate (length calls) (some (by pin false))
 unfolding AllCompare comparisons_of
 all-compared c [] h = refl
-all-compared c (k ∷ more) h = ap₂ (λ (o : Option Comparison) (l : List (Option Comparison)). o ∷ l) h.0 (all-compared _ more h.1)
+all-compared c (k ∷ more) h = ap₂ (λ (o : Option Comparison) (l : List (Option Comparison)). o ∷ l) h.0 (all-compared (next_at c k) more h.1)
 
 three-calls : Meets pin (some (by pin false) ∷ some (by pin false) ∷ some (by pin false) ∷ [])
 unfolding verify_calls
