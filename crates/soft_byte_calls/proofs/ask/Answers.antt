@@ -1,0 +1,7 @@
+-- ASK of the card whose bytes are given.
+-- Assumes nothing.
+
+use Rattle.soft_byte_calls.proofs.ask.Goals as goal
+
+pub returns : goal.returns
+returns c = rw (← c.card_of-found.ensures.1) c.ask.ensures
