@@ -169,7 +169,7 @@ fn judge(
 }
 
 // Tries both directions, and encryption by the tables, each with its answer in `got`.
-fn try_ways(
+fn try_both(
     rt: &impl Print,
     name: &[u8],
     s: &[u8],
@@ -229,7 +229,7 @@ fn try_texts(
         text_print::say(rt, b"the entry is malformed\n")?;
         return Ok(false);
     }
-    try_ways(rt, name, s, mode, e, &key, iv, plain, cipher, got)
+    try_both(rt, name, s, mode, e, &key, iv, plain, cipher, got)
 }
 
 // Whether an entry is well formed and right in both directions and by both engines; where not, that is reported.
