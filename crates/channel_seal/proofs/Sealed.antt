@@ -56,6 +56,11 @@ module _ (B : List ℕ) (n p : ℕ) (ep : p ≡ padded_bytes n) (room : 16 + pad
         ∙ ap (λ (r : List ℕ). y₂ ++ r)
         (ap₂ (λ (m : ℕ) (t : List ℕ). drop m t) count B₁-tail ∙ drop_at padded (drop (padded_bytes n) (drop 16 B)) (padded_bytes n) long)
 
+    -- the part that the MAC is taken over is the ciphertext
+    pub enciphered : take (16 + p - 16) (drop 16 B₂) ≡ y₂
+    enciphered =
+        ap₂ (λ (m : ℕ) (t : List ℕ). take m t) count B₂-tail ∙ take_at y₂ (drop (padded_bytes n) (drop 16 B)) (padded_bytes n) (l₂ ∙ lent-whole)
+
     -- and in the end there are the MAC, the ciphertext, and what was after them
     pub sealed : (mac : List ℕ) → length mac ≡ 16 → overwrite B₂ 0 mac ≡ written (mac ++ y₂) B
     sealed mac l =
