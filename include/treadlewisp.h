@@ -142,7 +142,7 @@ enum {
     /* A page of memory. */
     TW_PAGE_BYTES = 4096,
     /* How much of the stack tw_wipe_stack overwrites. Every function of the library uses less: outside/c/secrets.c measures. */
-    TW_STACK_WIPE_BYTES = 8 * TW_PAGE_BYTES
+    TW_STACK_WIPE_BYTES = 12 * TW_PAGE_BYTES
 };
 
 /* Refusals. A refused call reports count and kind 0, writes nothing to the buffer and leaves card and session as they were

@@ -73,7 +73,7 @@ pub const WRITE_ROOM_BYTES: usize = RECORD_MAX_BYTES;
 /// Length of a page of memory, in bytes.
 pub const PAGE_BYTES: usize = 4096;
 /// How much of the stack [`wipe_stack`](crate::wipe_stack) overwrites, in bytes. Every call of this crate uses less.
-pub const STACK_WIPE_BYTES: usize = 8 * PAGE_BYTES;
+pub const STACK_WIPE_BYTES: usize = 12 * PAGE_BYTES;
 
 /// Length of a hash to sign, in bytes.
 pub const HASH_BYTES: usize = 32;
