@@ -94,7 +94,5 @@ pub fn key_of(s: &[u8]) -> [u8; 32]
     requires { length s.now ≡ 32 }
     ensures { result ≡ s.now }
 {
-    let mut r = [0u8; KEY_BYTES];
-    octets::put(&mut r, 0, s);
-    r
+    *s.as_array().unwrap()
 }

@@ -17,11 +17,11 @@ first_block xs h l = record { long = length-take-le 16 xs l; bytes = bytes_take 
 module _ (out next : List ℕ → List ℕ → List ℕ) where
   -- ---- worked in place: r is written over the block at i, and what is left to do is the rest of the chain
 
-  pub turn : (prev p buf y : List ℕ) (i k L : ℕ) → k ≡ 16 → i + 16 ≤ length buf → length buf ≡ L → length y ≡ 16
+  turn-at : (prev p buf y : List ℕ) (i k L : ℕ) → k ≡ 16 → i + 16 ≤ length buf → length buf ≡ L → length y ≡ 16
       → y ≡ out prev (take k (drop i buf)) → p ≡ next prev (take k (drop i buf))
       → take (i + 16) (take i buf ++ (y ++ drop k (drop i buf))) ++ chain out next ((L - (i + 16)) / 16) p (drop (i + 16) (take i buf ++ (y ++ drop k (drop i buf))))
       ≡ take i buf ++ chain out next ((L - i) / 16) prev (drop i buf)
-  turn prev p buf y i k L hk fits hl ly ey ep =
+  turn-at prev p buf y i k L hk fits hl ly ey ep =
       ap₂ (λ (a b : List ℕ). a ++ chain out next n p b) (ap (take (i + 16)) group ∙ take_at front (drop k (drop i buf)) (i + 16) long)
       (ap (drop (i + 16)) group ∙ drop_at front (drop k (drop i buf)) (i + 16) long)
       ∙ append_assoc (take i buf) y (chain out next n p (drop k (drop i buf)))
@@ -47,6 +47,16 @@ module _ (out next : List ℕ → List ℕ → List ℕ) where
       step =
           ap₂ (λ (a b : List ℕ). a ++ chain out next n b (drop k (drop i buf))) ey ep
           ∙ ap (λ (m : ℕ). out prev (take m (drop i buf)) ++ chain out next n (next prev (take m (drop i buf))) (drop m (drop i buf))) hk
+
+  -- the block after it begins at j
+  pub turn : (prev p buf y : List ℕ) (i j k L : ℕ) → j ≡ i + 16 → k ≡ 16 → j ≤ length buf → length buf ≡ L → length y ≡ 16
+      → y ≡ out prev (take k (drop i buf)) → p ≡ next prev (take k (drop i buf))
+      → take j (take i buf ++ (y ++ drop k (drop i buf))) ++ chain out next ((L - j) / 16) p (drop j (take i buf ++ (y ++ drop k (drop i buf))))
+      ≡ take i buf ++ chain out next ((L - i) / 16) prev (drop i buf)
+  turn prev p buf y i j k L ej hk fits hl ly ey ep =
+      let b : List ℕ = take i buf ++ (y ++ drop k (drop i buf)) in
+      ap (λ (m : ℕ). take m b ++ chain out next ((L - m) / 16) p (drop m b)) ej
+      ∙ turn-at prev p buf y i k L hk (omega (arith, ej)) hl ly ey ep
 
   pub turned : (prev buf : List ℕ) (i n : ℕ) → length buf ≤ i → n ≡ 0 → take i buf ++ chain out next n prev (drop i buf) ≡ buf
   turned prev buf i n h e =

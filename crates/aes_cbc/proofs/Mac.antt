@@ -2,10 +2,12 @@
 -- Assumes nothing.
 use mathlib.Core.Path.{◌≡◌, refl, sym, ap, ap₂, ◌∙◌}
 use mathlib.Core.List.{List, [], ◌++◌, append-nil}
-use Prim.Native.Nat.{ℕ, suc, ◌+◌, ◌-◌, ◌/◌, ◌≤◌}
+use Prim.Native.Nat.{ℕ, zero, suc, ◌+◌, ◌-◌, ◌*◌, ◌/◌, ◌<◌}
+use native.Mathlib.Nat.{zero-mul, not-suc-le-zero, le_of_suc-le-suc}
 use native.Mathlib.Omega.{arith}
-use lib.ListN.{length, take, drop, length-append}
+use lib.ListN.{length, take, drop, get_or, length-append}
 use lib.Seq.{take_at, drop_at, drop-drop}
+use Rattle.std.specs.Simd.{first_chunks}
 use Rattle.octets.specs.Bytes.{xor_bytes}
 use Rattle.octets.proofs.Lists.{xor-zeros}
 use Rattle.aes_cbc.specs.Mode.{chain, encrypt_block, cbc_encrypt, last_block, zero_block, cbc_mac}
@@ -21,29 +23,43 @@ last-block-behind iv c ys hi hc =
     long : length (c ++ ys) ≡ length iv + length ys
     long = omega (arith, length-append c ys)
 
+-- block n of the first m blocks
+chunk-at : (m n : ℕ) (xs d : List ℕ) → n < m → get_or (first_chunks 16 m xs) n d ≡ take 16 (drop (n * 16) xs)
+chunk-at zero n xs d l = absurd (not-suc-le-zero l)
+chunk-at (suc m) zero xs d l = ap (λ (k : ℕ). take 16 (drop k xs)) (sym (zero-mul 16))
+chunk-at (suc m) (suc n) xs d l =
+    chunk-at m n (drop 16 xs) d (le_of_suc-le-suc l)
+    ∙ ap (take 16) (drop-drop (n * 16) 16 xs ∙ ap (λ (k : ℕ). drop k xs) further)
+  where
+    further : 16 + n * 16 ≡ suc n * 16
+    further = omega arith
+
 module _ (ciph : List ℕ → List ℕ) where
   abbrev encrypted : ℕ → List ℕ → List ℕ → List ℕ
   encrypted = chain (encrypt_block ciph) (encrypt_block ciph)
 
-  -- a turn of a loop that keeps only the last block: c is the block of ciphertext at i
-  pub mac-turn : (prev c xs : List ℕ) (i k L : ℕ) → k ≡ 16 → i + 16 ≤ L → length prev ≡ 16 → length c ≡ 16
-      → c ≡ encrypt_block ciph prev (take k (drop i xs))
-      → last_block c (encrypted ((L - (i + 16)) / 16) c (drop (i + 16) xs)) ≡ last_block prev (encrypted ((L - i) / 16) prev (drop i xs))
-  mac-turn prev c xs i k L hk fits hp hc ec =
+  -- a turn of a loop that keeps only the last block: c is the ciphertext of block n
+  pub mac-turn : (prev c xs : List ℕ) (blocks : List (List ℕ)) (n m : ℕ) → n < m → length prev ≡ 16 → length c ≡ 16
+      → blocks ≡ first_chunks 16 m xs → c ≡ encrypt_block ciph prev (get_or blocks n [])
+      → last_block c (encrypted (m - (n + 1)) c (drop ((n + 1) * 16) xs)) ≡ last_block prev (encrypted (m - n) prev (drop (n * 16) xs))
+  mac-turn prev c xs blocks n m l hp hc eb ec =
       sym
-      (ap (λ (m : ℕ). last_block prev (encrypted m prev (drop i xs))) (sym more)
-      ∙ ap (λ (b : List ℕ). last_block prev (b ++ encrypted n b (drop 16 (drop i xs)))) (sym here)
-      ∙ last-block-behind prev c (encrypted n c (drop 16 (drop i xs))) hp hc
-      ∙ ap (λ (b : List ℕ). last_block c (encrypted n c b)) (drop-drop 16 i xs))
+      (ap (λ (k : ℕ). last_block prev (encrypted k prev (drop (n * 16) xs))) (sym more)
+      ∙ ap (λ (y : List ℕ). last_block prev (y ++ encrypted left y (drop 16 (drop (n * 16) xs)))) (sym here)
+      ∙ last-block-behind prev c (encrypted left c (drop 16 (drop (n * 16) xs))) hp hc
+      ∙ ap (λ (y : List ℕ). last_block c (encrypted left c y)) (drop-drop 16 (n * 16) xs ∙ ap (λ (k : ℕ). drop k xs) next))
     where
-      n : ℕ
-      n = (L - (i + 16)) / 16
+      left : ℕ
+      left = m - (n + 1)
 
-      more : suc n ≡ (L - i) / 16
+      more : suc left ≡ m - n
       more = omega arith
 
-      here : c ≡ encrypt_block ciph prev (take 16 (drop i xs))
-      here = ec ∙ ap (λ (m : ℕ). encrypt_block ciph prev (take m (drop i xs))) hk
+      next : n * 16 + 16 ≡ (n + 1) * 16
+      next = omega arith
+
+      here : c ≡ encrypt_block ciph prev (take 16 (drop (n * 16) xs))
+      here = ec ∙ ap (encrypt_block ciph prev) (ap (λ (bs : List (List ℕ)). get_or bs n []) eb ∙ chunk-at m n xs [] l)
 
   pub mac-turned : (prev xs : List ℕ) (i n : ℕ) → length prev ≡ 16 → n ≡ 0 → last_block prev (encrypted n prev (drop i xs)) ≡ prev
   unfolding last_block

@@ -22,7 +22,7 @@ fn encrypt_part(table: &[u8; 256], w: &[u8], prev: [u8; 16], part: &mut [u8]) ->
 {
     let plain = octets::block(part);
     let ciphertext = aes_encrypt::encrypt_block(table, w, octets::xor_blocks(plain, prev));
-    octets::put(part, 0, &ciphertext);
+    part.copy_from_slice(&ciphertext);
     ciphertext
 }
 
@@ -33,12 +33,11 @@ fn encrypt_blocks(table: &[u8; 256], w: &[u8], iv: [u8; 16], buf: &mut [u8])
     ensures { buf.new ≡ cbc_encrypt (cipher w.now) iv buf.old }
 {
     let mut prev = iv;
-    let mut i = 0;
-    while i < buf.len() {
-        let end = i + BLOCK_BYTES;
-        let c = encrypt_part(table, w, prev, &mut buf[i..end]);
+    // By the block's number: after a for over `chunks_exact_mut` a proof knows no byte of the slice.
+    for n in 0..buf.len() / BLOCK_BYTES {
+        let at = n * BLOCK_BYTES;
+        let c = encrypt_part(table, w, prev, &mut buf[at..at + BLOCK_BYTES]);
         prev = c;
-        i = end;
     }
 }
 
@@ -62,7 +61,7 @@ fn decrypt_part(table: &[u8; 256], w: &[u8], prev: [u8; 16], part: &mut [u8]) ->
 {
     let taken = octets::block(part);
     let plain = octets::xor_blocks(aes_decrypt::decrypt_block(table, w, taken), prev);
-    octets::put(part, 0, &plain);
+    part.copy_from_slice(&plain);
     taken
 }
 
@@ -73,12 +72,11 @@ fn decrypt_blocks(table: &[u8; 256], w: &[u8], iv: [u8; 16], buf: &mut [u8])
     ensures { buf.new ≡ cbc_decrypt (inv_cipher w.now) iv buf.old }
 {
     let mut prev = iv;
-    let mut i = 0;
-    while i < buf.len() {
-        let end = i + BLOCK_BYTES;
-        let c = decrypt_part(table, w, prev, &mut buf[i..end]);
+    // By the block's number: after a for over `chunks_exact_mut` a proof knows no byte of the slice.
+    for n in 0..buf.len() / BLOCK_BYTES {
+        let at = n * BLOCK_BYTES;
+        let c = decrypt_part(table, w, prev, &mut buf[at..at + BLOCK_BYTES]);
         prev = c;
-        i = end;
     }
 }
 
@@ -100,15 +98,11 @@ fn last_block(table: &[u8; 256], w: &[u8], iv: [u8; 16], xs: &[u8]) -> [u8; 16]
     requires xs_len { length xs.now % 16 ≡ 0 }
     ensures { result ≡ last_block iv (cbc_encrypt (cipher w.now) iv xs.now) }
 {
-    let end = xs.len();
+    let (blocks, _) = xs.as_chunks::<16>();
     let mut prev = iv;
-    let mut i = 0;
-    while i < end {
-        let next = i + BLOCK_BYTES;
-        let plain = octets::block(&xs[i..next]);
-        let c = aes_encrypt::encrypt_block(table, w, octets::xor_blocks(plain, prev));
+    for plain in blocks {
+        let c = aes_encrypt::encrypt_block(table, w, octets::xor_blocks(*plain, prev));
         prev = c;
-        i = next;
     }
     prev
 }

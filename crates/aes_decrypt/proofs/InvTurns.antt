@@ -1,8 +1,8 @@
 -- A turn of the inverse cipher's loop is an inverse round, and the step after the loop is the last one.
 -- Assumes nothing.
-use mathlib.Core.Path.{◌≡◌, sym, ap, ap₂, ◌∙◌}
+use mathlib.Core.Path.{◌≡◌, sym, ap, ◌∙◌}
 use mathlib.Core.List.{List}
-use Prim.Native.Nat.{ℕ, suc, ◌+◌, ◌-◌, ◌≤◌, ◌<◌}
+use Prim.Native.Nat.{ℕ, suc, ◌-◌, ◌<◌}
 use native.Mathlib.Omega.{arith}
 use Rattle.octets.specs.Bytes.{xor_bytes}
 use Rattle.aes_rules.specs.Cipher.{add_round_key, round_key}

@@ -10,31 +10,20 @@ ghost use Rattle.aes_rules.specs.InvCipher.{inv_shift_rows, inv_sub_bytes, inv_m
 use aes_bytes::{inv_sub_byte, products_of};
 use aes_keys::{ROUNDS, round_key};
 use octets::xor_blocks;
+use std::array;
 
 // Byte i is in row i % 4; its row is shifted to the right by as many columns of 4 bytes, so to the left by 12 bytes for each.
 fn inv_shift_rows(s: [u8; 16]) -> [u8; 16]
     ensures { result ≡ inv_shift_rows s }
 {
-    let mut r = s;
-    let mut i = 0;
-    while i < 16 {
-        r[i] = s[(i + 12 * (i % 4)) % 16];
-        i += 1;
-    }
-    r
+    array::from_fn(|i| s[(i + 12 * (i % 4)) % 16])
 }
 
 fn inv_sub_bytes(table: &[u8; 256], s: [u8; 16]) -> [u8; 16]
     requires { table.now ≡ inv_sbox }
     ensures { result ≡ inv_sub_bytes s }
 {
-    let mut r = s;
-    let mut i = 0;
-    while i < 16 {
-        r[i] = inv_sub_byte(table, s[i]);
-        i += 1;
-    }
-    r
+    s.map(|b| inv_sub_byte(table, b))
 }
 
 // The product of InvMixColumns' matrix with one column. Each byte's products are made once; a row takes those of the four bytes in turn.
@@ -57,14 +46,13 @@ fn inv_mix_columns(s: [u8; 16]) -> [u8; 16]
     ensures { result ≡ inv_mix_columns s }
 {
     let mut r = s;
-    let mut i = 0;
-    while i < 16 {
-        let column = inv_mix_column(s[i], s[i + 1], s[i + 2], s[i + 3]);
-        r[i] = column[0];
-        r[i + 1] = column[1];
-        r[i + 2] = column[2];
-        r[i + 3] = column[3];
-        i += 4;
+    for c in 0..4 {
+        let i = 4 * c;
+        octets::put(
+            &mut r,
+            i,
+            &inv_mix_column(s[i], s[i + 1], s[i + 2], s[i + 3]),
+        );
     }
     r
 }
@@ -76,12 +64,9 @@ pub fn decrypt_block(table: &[u8; 256], w: &[u8], s: [u8; 16]) -> [u8; 16]
     ensures { result ≡ inv_cipher w.now s }
 {
     let mut t = xor_blocks(s, round_key(w, ROUNDS));
-    let mut r = ROUNDS;
-    while 1 < r {
-        r -= 1;
+    for r in (1..ROUNDS).rev() {
         let u = inv_sub_bytes(table, inv_shift_rows(t));
-        let v = inv_mix_columns(xor_blocks(u, round_key(w, r)));
-        t = v;
+        t = inv_mix_columns(xor_blocks(u, round_key(w, r)));
     }
     xor_blocks(inv_sub_bytes(table, inv_shift_rows(t)), round_key(w, 0))
 }

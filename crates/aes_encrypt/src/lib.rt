@@ -10,31 +10,20 @@ ghost use Rattle.aes_rules.specs.Cipher.{sub_bytes, shift_rows, mix_row, mix_col
 use aes_bytes::{sub_byte, x_times};
 use aes_keys::{ROUNDS, round_key};
 use octets::xor_blocks;
+use std::array;
 
 fn sub_bytes(table: &[u8; 256], s: [u8; 16]) -> [u8; 16]
     requires { table.now ≡ sbox }
     ensures { result ≡ sub_bytes s }
 {
-    let mut r = s;
-    let mut i = 0;
-    while i < 16 {
-        r[i] = sub_byte(table, s[i]);
-        i += 1;
-    }
-    r
+    s.map(|b| sub_byte(table, b))
 }
 
 // Byte i is in row i % 4; its row is shifted to the left by as many columns of 4 bytes.
 fn shift_rows(s: [u8; 16]) -> [u8; 16]
     ensures { result ≡ shift_rows s }
 {
-    let mut r = s;
-    let mut i = 0;
-    while i < 16 {
-        r[i] = s[(i + 4 * (i % 4)) % 16];
-        i += 1;
-    }
-    r
+    array::from_fn(|i| s[(i + 4 * (i % 4)) % 16])
 }
 
 // The product of MixColumns' matrix with one column. Each byte needs the column's sum and one double.
@@ -54,14 +43,9 @@ fn mix_columns(s: [u8; 16]) -> [u8; 16]
     ensures { result ≡ mix_columns s }
 {
     let mut r = s;
-    let mut i = 0;
-    while i < 16 {
-        let column = mix_column(s[i], s[i + 1], s[i + 2], s[i + 3]);
-        r[i] = column[0];
-        r[i + 1] = column[1];
-        r[i + 2] = column[2];
-        r[i + 3] = column[3];
-        i += 4;
+    for c in 0..4 {
+        let i = 4 * c;
+        octets::put(&mut r, i, &mix_column(s[i], s[i + 1], s[i + 2], s[i + 3]));
     }
     r
 }
@@ -73,12 +57,11 @@ pub fn encrypt_block(table: &[u8; 256], w: &[u8], s: [u8; 16]) -> [u8; 16]
     ensures { result ≡ cipher w.now s }
 {
     let mut t = xor_blocks(s, round_key(w, 0));
-    let mut r = 1;
-    while r < ROUNDS {
-        let u = mix_columns(shift_rows(sub_bytes(table, t)));
-        let v = xor_blocks(u, round_key(w, r));
-        t = v;
-        r += 1;
+    for r in 1..ROUNDS {
+        t = xor_blocks(
+            mix_columns(shift_rows(sub_bytes(table, t))),
+            round_key(w, r),
+        );
     }
     xor_blocks(shift_rows(sub_bytes(table, t)), round_key(w, ROUNDS))
 }

@@ -6,7 +6,7 @@ use Prim.Native.Nat.{ℕ, ◌+◌, ◌-◌, ◌/◌, ◌%◌, ◌≤◌, ◌<◌
 use native.Mathlib.Nat.{add-zero}
 use native.Mathlib.Omega.{arith}
 use borrow.Author.Tests.{eq-eqb, ne_eqb}
-use lib.ListN.{length, take, drop, get_or, length-take, length-drop}
+use lib.ListN.{length, drop, get_or, length-take, length-drop}
 use lib.Seq.{get_or-take, get_or-drop}
 use Rattle.octets.specs.Bytes.{xor_bytes}
 use Rattle.octets.proofs.Lists.{tabulated, ◌&◌}

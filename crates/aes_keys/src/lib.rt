@@ -10,11 +10,17 @@ ghost use Rattle.aes_rules.specs.Cipher.{round_key};
 ghost use Rattle.aes_rules.specs.Schedule.{rot_word, sub_word, rcon, word_at, next_word, key_expansion};
 
 use aes_bytes::sub_byte;
+use octets::{BLOCK_BYTES, xor_blocks};
 
 // A key of AES-256 and its schedule, in bytes.
 pub const KEY_BYTES: usize = 32;
 
 pub const SCHEDULE_BYTES: usize = 240;
+
+// The same in words.
+const KEY_WORDS: usize = 8;
+
+const SCHEDULE_WORDS: usize = 60;
 
 // Rounds of AES-256 (FIPS 197, table 3).
 pub const ROUNDS: usize = 14;
@@ -24,13 +30,7 @@ fn word_at(w: &[u8], at: usize) -> [u8; 4]
     requires { at + 4 ≤ length w.now }
     ensures { result ≡ word_at w.now at }
 {
-    [w[at], w[at + 1], w[at + 2], w[at + 3]]
-}
-
-fn xor_words(a: [u8; 4], b: [u8; 4]) -> [u8; 4]
-    ensures { result ≡ xor_bytes a b }
-{
-    [a[0] ^ b[0], a[1] ^ b[1], a[2] ^ b[2], a[3] ^ b[3]]
+    *w[at..at + 4].as_array().unwrap()
 }
 
 fn rot_word(t: [u8; 4]) -> [u8; 4]
@@ -43,12 +43,7 @@ fn sub_word(table: &[u8; 256], t: [u8; 4]) -> [u8; 4]
     requires { table.now ≡ sbox }
     ensures { result ≡ sub_word t }
 {
-    [
-        sub_byte(table, t[0]),
-        sub_byte(table, t[1]),
-        sub_byte(table, t[2]),
-        sub_byte(table, t[3]),
-    ]
+    t.map(|b| sub_byte(table, b))
 }
 
 // Rcon[j], for the j that AES-256 uses.
@@ -71,15 +66,15 @@ fn next_word(table: &[u8; 256], w: &[u8]) -> [u8; 4]
     let temp = word_at(w, n - 4);
     let k = i % 8;
     if k == 0 {
-        return xor_words(
+        return xor_blocks(
             old,
-            xor_words(sub_word(table, rot_word(temp)), round_constant(i / 8)),
+            xor_blocks(sub_word(table, rot_word(temp)), round_constant(i / 8)),
         );
     }
     if k == 4 {
-        return xor_words(old, sub_word(table, temp));
+        return xor_blocks(old, sub_word(table, temp));
     }
-    xor_words(old, temp)
+    xor_blocks(old, temp)
 }
 
 // KEYEXPANSION: from the key's 8 words to 60, word by word. The S-box's table is handed in.
@@ -89,11 +84,10 @@ pub fn key_expansion(table: &[u8; 256], key: &[u8; 32]) -> [u8; 240]
 {
     let mut w = [0u8; SCHEDULE_BYTES];
     octets::put(&mut w, 0, key);
-    let mut n = KEY_BYTES;
-    while n < SCHEDULE_BYTES {
-        let word = next_word(table, &w[0..n]);
+    for i in KEY_WORDS..SCHEDULE_WORDS {
+        let n = i * 4;
+        let word = next_word(table, &w[..n]);
         octets::put(&mut w, n, &word);
-        n += 4;
     }
     w
 }
@@ -104,6 +98,5 @@ pub fn round_key(w: &[u8], r: usize) -> [u8; 16]
     ensures { result ≡ round_key w.now r }
 {
     let at = r * 16;
-    let end = at + 16;
-    octets::block(&w[at..end])
+    octets::block(&w[at..at + BLOCK_BYTES])
 }

@@ -3,10 +3,13 @@
 use mathlib.Core.Path.{◌≡◌, refl, sym, ap, ap₂, ◌∙◌}
 use mathlib.Core.List.{List, [], ◌∷◌}
 use Prim.Native.Nat.{ℕ, ◌+◌, ◌-◌, ◌*◌, ◌/◌, ◌%◌, ◌<◌}
+use native.Mathlib.Nat.{add-zero}
 use native.Mathlib.Omega.{arith}
-use lib.ListN.{get_or, set}
-use Rattle.octets.proofs.Lists.{get_d_tabulate}
-use Rattle.octets.proofs.Filling.{Filled, filled-four}
+use lib.ListN.{length, take, drop, get_or, length-take, length-drop}
+use lib.Seq.{get_or-take, get_or-drop}
+use Rattle.octets.specs.Bytes.{overwrite, tabulate}
+use Rattle.octets.proofs.Lists.{◌&◌, tabulated, tabulate-ext, length-tabulate, get_d_tabulate}
+use Rattle.octets.proofs.Filling.{Filled, filled-part}
 use Rattle.aes_rules.specs.Cipher.{at, shift_rows, columns}
 use Rattle.aes_rules.specs.InvCipher.{inv_shift_rows}
 
@@ -14,17 +17,15 @@ place : (s : List ℕ) (i j : ℕ) → i ≡ j → get_or s i 0 ≡ get_or s j 0
 place s i j e = ap (λ (k : ℕ). get_or s k 0) e
 
 -- ---- ShiftRows and its inverse
-pub shift-rows-at : (s : List ℕ) (i : ℕ) → i < 16 → get_or s ((i + 4 * (i % 4)) % 16) 0 ≡ get_or (shift_rows s) i 0
+pub shift-rows-made : (s : List ℕ) → tabulate 16 (λ i. get_or s ((i + 4 * (i % 4)) % 16) 0) ≡ shift_rows s
 unfolding shift_rows
-shift-rows-at s i h =
-    place s ((i + 4 * (i % 4)) % 16) (i % 4 + 4 * ((i / 4 + i % 4) % 4)) (omega arith)
-    ∙ sym (get_d_tabulate 16 (λ i. at s (i % 4) ((i / 4 + i % 4) % 4)) i h)
+shift-rows-made s = tabulate-ext 16 (λ i. get_or s ((i + 4 * (i % 4)) % 16) 0) (λ i. at s (i % 4) ((i / 4 + i % 4) % 4))
+    (λ i h. place s ((i + 4 * (i % 4)) % 16) (i % 4 + 4 * ((i / 4 + i % 4) % 4)) (omega arith))
 
-pub inv-shift-rows-at : (s : List ℕ) (i : ℕ) → i < 16 → get_or s ((i + 12 * (i % 4)) % 16) 0 ≡ get_or (inv_shift_rows s) i 0
+pub inv-shift-rows-made : (s : List ℕ) → tabulate 16 (λ i. get_or s ((i + 12 * (i % 4)) % 16) 0) ≡ inv_shift_rows s
 unfolding inv_shift_rows
-inv-shift-rows-at s i h =
-    place s ((i + 12 * (i % 4)) % 16) (i % 4 + 4 * ((i / 4 + 4 - i % 4) % 4)) (omega arith)
-    ∙ sym (get_d_tabulate 16 (λ i. at s (i % 4) ((i / 4 + 4 - i % 4) % 4)) i h)
+inv-shift-rows-made s = tabulate-ext 16 (λ i. get_or s ((i + 12 * (i % 4)) % 16) 0) (λ i. at s (i % 4) ((i / 4 + 4 - i % 4) % 4))
+    (λ i h. place s ((i + 12 * (i % 4)) % 16) (i % 4 + 4 * ((i / 4 + 4 - i % 4) % 4)) (omega arith))
 
 -- ---- a column of MixColumns or of its inverse, which begins at byte i: the column turned k times gives the byte i + k
 module _ (m : ℕ → ℕ → ℕ → ℕ → ℕ) (s : List ℕ) where
@@ -51,12 +52,22 @@ module _ (m : ℕ → ℕ → ℕ → ℕ → ℕ) (s : List ℕ) where
     column-at-3 : turned (i + 3) i (i + 1) (i + 2) ≡ get_or (columns m s) (i + 3) 0
     column-at-3 = from_place (i + 3) (i + 3) i (i + 1) (i + 2) (omega arith) (omega arith) (omega arith) (omega arith) (omega arith)
 
+    part : (k : ℕ) → k < 4 → get_or (take 4 (drop i (columns m s))) k 0 ≡ get_or (columns m s) (i + k) 0
+    part k l = get_or-take 4 (drop i (columns m s)) k 0 l ∙ get_or-drop i (columns m s) k 0
+
+    column-of : take 4 (drop i (columns m s)) ≡ turned i (i + 1) (i + 2) (i + 3) ∷ turned (i + 1) (i + 2) (i + 3) i ∷ turned (i + 2) (i + 3) i (i + 1) ∷ turned (i + 3) i (i + 1) (i + 2) ∷ []
+    column-of =
+        tabulated 4 (take 4 (drop i (columns m s))) (simp (length-take, length-drop) (omega (arith, length-tabulate 16 (λ i. 0))))
+        ∙ ((part 0 (omega arith) ∙ place (columns m s) (i + 0) i (add-zero i) ∙ sym column-at-0)
+        & (part 1 (omega arith) ∙ sym column-at-1)
+        & (part 2 (omega arith) ∙ sym column-at-2)
+        & (part 3 (omega arith) ∙ sym column-at-3)
+        & refl)
+
   -- a turn of a loop that fills the result column by column
-  pub column-filled : (r column : List ℕ) (i : ℕ) → Filled 16 (columns m s) r i → i < 16 → i % 4 ≡ 0
+  pub column-filled : (r column : List ℕ) (i j : ℕ) → Filled 16 (columns m s) r i → i < 16 → i % 4 ≡ 0 → j ≡ i + 4
       → column ≡ turned i (i + 1) (i + 2) (i + 3) ∷ turned (i + 1) (i + 2) (i + 3) i ∷ turned (i + 2) (i + 3) i (i + 1) ∷ turned (i + 3) i (i + 1) (i + 2) ∷ []
-      → Filled 16 (columns m s)
-      (set (set (set (set r i (get_or column 0 0)) (i + 1) (get_or column 1 0)) (i + 2) (get_or column 2 0)) (i + 3) (get_or column 3 0)) (i + 4)
-  column-filled r column i f h e got =
-      filled-four (get_or column 0 0) (get_or column 1 0) (get_or column 2 0) (get_or column 3 0) f (omega arith)
-      (ap (λ (p : List ℕ). get_or p 0 0) got ∙ column-at-0 i h e) (ap (λ (p : List ℕ). get_or p 1 0) got ∙ column-at-1 i h e)
-      (ap (λ (p : List ℕ). get_or p 2 0) got ∙ column-at-2 i h e) (ap (λ (p : List ℕ). get_or p 3 0) got ∙ column-at-3 i h e)
+      → Filled 16 (columns m s) (overwrite r i column) j
+  column-filled r column i j f h e ej got =
+      let l : length column ≡ 4 = ap length got in
+      filled-part column j f (omega (arith, l, ej)) (omega arith) (got ∙ sym (column-of i h e) ∙ ap (λ (k : ℕ). take k (drop i (columns m s))) (sym l))

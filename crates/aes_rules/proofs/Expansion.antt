@@ -1,8 +1,8 @@
 -- The schedule of a key of 32 bytes has 240 bytes, and they are bytes.
 -- Assumes nothing.
-use mathlib.Core.Path.{◌≡◌, refl, sym, ap, ◌∙◌}
+use mathlib.Core.Path.{◌≡◌, ◌∙◌}
 use mathlib.Core.Bool.{Bool, true, false}
-use mathlib.Core.List.{List, [], ◌∷◌, ◌++◌, map}
+use mathlib.Core.List.{List}
 use Prim.Native.Nat.{ℕ, zero, suc, ◌+◌, ◌*◌, ◌-◌, ◌/◌, ◌%◌, ◌≤◌, ◌<◌}
 use native.Mathlib.Omega.{arith}
 use lib.Dec.{eqb}
@@ -10,7 +10,7 @@ use lib.ListN.{length, take, drop, length-append, length-drop}
 use lib.Seq.{length-take-le}
 use Rattle.octets.specs.Bytes.{Bytes, xor_bytes}
 use Rattle.octets.proofs.Lists.{bytes_take, bytes_drop, bytes-append, bytes-map, bytes-xor-bytes, length-xor-bytes}
-use Rattle.aes_field.specs.Field.{x_times, sub_byte}
+use Rattle.aes_field.specs.Field.{sub_byte}
 use Rattle.aes_field.proofs.Sbox.{sub-byte-byte}
 use Rattle.aes_field.proofs.Products.{x-times-byte}
 use Rattle.aes_rules.specs.Schedule.{rot_word, sub_word, x_power, rcon, choose, changed, word_at, next_word, expand, key_expansion}

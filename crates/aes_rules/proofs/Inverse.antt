@@ -1,10 +1,10 @@
 -- Under any schedule of bytes, CIPHER and INVCIPHER take blocks to blocks, and each undoes the other: an inverse round takes the state
 -- after ShiftRows of one round back to that of the round before.
 -- Assumes nothing.
-use mathlib.Core.Path.{◌≡◌, refl, sym, ap, ◌∙◌}
+use mathlib.Core.Path.{◌≡◌, refl, ap, ◌∙◌}
 use mathlib.Core.List.{List}
 use Prim.Native.Nat.{ℕ, zero, suc, ◌*◌}
-use lib.ListN.{take, drop}
+use lib.ListN.{drop}
 use Rattle.octets.specs.Bytes.{Bytes, Block}
 use Rattle.octets.proofs.Lists.{bytes_take, bytes_drop}
 use Rattle.aes_rules.specs.Cipher.{sub_bytes, shift_rows, mix_columns, add_round_key, round_key, round, rounds, cipher}

@@ -5,9 +5,9 @@ use mathlib.Core.Path.{◌≡◌, refl, sym, ap, ap₂, ◌∙◌}
 use mathlib.Core.List.{List, [], ◌∷◌, map}
 use Prim.Native.Nat.{ℕ, ◌+◌, ◌-◌, ◌*◌, ◌/◌, ◌%◌, ◌<◌}
 use native.Mathlib.Omega.{arith}
-use lib.ListN.{length, get_or, length-map}
-use Rattle.octets.specs.Bytes.{Bytes, Block, tabulate}
-use Rattle.octets.proofs.Lists.{◌&◌, length-tabulate, get_d_tabulate, tabulate-ext, tabulated, bytes-at, bytes-tabulate, bytes-map, xor_block, xor-bytes-undo}
+use lib.ListN.{get_or, length-map}
+use Rattle.octets.specs.Bytes.{Bytes, Block}
+use Rattle.octets.proofs.Lists.{◌&◌, get_d_tabulate, tabulate-ext, tabulated, bytes-at, bytes-tabulate, bytes-map, xor_block, xor-bytes-undo}
 use Rattle.aes_field.specs.Field.{sub_byte, inv_sub_byte}
 use Rattle.aes_field.proofs.Sbox.{sub-byte-byte, inv-sub-byte-byte, inv-sub-byte-sub-byte, sub-byte-inv-sub-byte}
 use Rattle.aes_rules.specs.Cipher.{at, state, sub_bytes, shift_rows, columns, mix_row, mix_columns, add_round_key}

@@ -6,7 +6,7 @@ ghost use Rattle.std.specs.Prelude.{◌≡◌, length};
 ghost use Rattle.octets.specs.Bytes.{xor_bytes};
 ghost use Rattle.aes_words.specs.Words.{bytes_of};
 
-use aes_words::low;
+use aes_words::block_bytes;
 
 // The exclusive-or of two blocks of words.
 pub fn xor_words(a: [u32; 4], b: [u32; 4]) -> [u32; 4]
@@ -20,24 +20,5 @@ pub fn put_words(part: &mut [u8], s: [u32; 4])
     requires { length part.old ≡ 16 }
     ensures { part.new ≡ bytes_of s }
 {
-    let a = s[0];
-    let b = s[1];
-    let c = s[2];
-    let d = s[3];
-    part[0] = low(a);
-    part[1] = low(a / 256);
-    part[2] = low(a / 65536);
-    part[3] = low(a / 16777216);
-    part[4] = low(b);
-    part[5] = low(b / 256);
-    part[6] = low(b / 65536);
-    part[7] = low(b / 16777216);
-    part[8] = low(c);
-    part[9] = low(c / 256);
-    part[10] = low(c / 65536);
-    part[11] = low(c / 16777216);
-    part[12] = low(d);
-    part[13] = low(d / 256);
-    part[14] = low(d / 65536);
-    part[15] = low(d / 16777216);
+    part.copy_from_slice(&block_bytes(s));
 }

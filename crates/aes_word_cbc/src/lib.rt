@@ -56,12 +56,11 @@ fn encrypt_blocks(
     ensures { buf.new ≡ cbc_encrypt (cipher (bytes_of w.now)) iv buf.old }
 {
     let mut prev = aes_words::block_words(iv);
-    let mut i = 0;
-    while i < buf.len() {
-        let end = i + BLOCK_BYTES;
-        let c = encrypt_part(t0, t1, t2, t3, w, prev, &mut buf[i..end]);
+    // By the block's number: after a for over `chunks_exact_mut` a proof knows no byte of the slice.
+    for n in 0..buf.len() / BLOCK_BYTES {
+        let at = n * BLOCK_BYTES;
+        let c = encrypt_part(t0, t1, t2, t3, w, prev, &mut buf[at..at + BLOCK_BYTES]);
         prev = c;
-        i = end;
     }
 }
 

@@ -24,11 +24,9 @@ pub fn encrypt_words(
     ensures { bytes_of result ≡ cipher (bytes_of w.now) (bytes_of s) }
 {
     let mut t = aes_word_rounds::add_first_key(w, s);
-    let mut r = 1;
-    while r < ROUNDS {
+    for r in 1..ROUNDS {
         let u = aes_word_rounds::round_of(t0, t1, t2, t3, w, r, t);
         t = u;
-        r += 1;
     }
     aes_word_rounds::last_round(t2, w, t)
 }

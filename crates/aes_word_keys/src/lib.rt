@@ -18,7 +18,7 @@ fn word_at(b: &[u8], at: usize) -> u32
     requires { at + 4 ≤ length b.now }
     ensures { word_bytes result ≡ word_at b.now at }
 {
-    aes_words::word_of(b[at], b[at + 1], b[at + 2], b[at + 3])
+    u32::from_le_bytes(*b[at..at + 4].as_array().unwrap())
 }
 
 // Rcon[j], for the j that AES-256 uses.
@@ -48,12 +48,11 @@ pub fn key_schedule(t2: &[u32; 256], key: &[u8]) -> [u32; 60]
     ensures { bytes_of result ≡ key_expansion key.now }
 {
     let mut w = [0u32; SCHEDULE_WORDS];
-    let mut n = 0;
-    while n < KEY_WORDS {
+    for n in 0..KEY_WORDS {
         w[n] = word_at(key, n * 4);
-        n += 1;
     }
-    while n < SCHEDULE_WORDS {
+    for k in KEY_WORDS / 4..SCHEDULE_WORDS / 4 {
+        let n = k * 4;
         let g = changed_word(t2, w[n - 1], n);
         let a = w[n - 8] ^ g;
         let b = w[n - 7] ^ a;
@@ -63,7 +62,6 @@ pub fn key_schedule(t2: &[u32; 256], key: &[u8]) -> [u32; 60]
         w[n + 1] = b;
         w[n + 2] = c;
         w[n + 3] = d;
-        n += 4;
     }
     w
 }

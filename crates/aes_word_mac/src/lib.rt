@@ -10,8 +10,6 @@ ghost use Rattle.aes_words.specs.Words.{bytes_of};
 ghost use Rattle.aes_tables.specs.Tables.{FourTables};
 ghost use Rattle.aes_cbc.specs.Mode.{cbc_encrypt, last_block, cbc_mac};
 
-use octets::BLOCK_BYTES;
-
 // The last block of the encryption of xs, which is not written anywhere; the IV where xs is empty.
 fn last_block(
     t0: &[u32; 256],
@@ -27,22 +25,18 @@ fn last_block(
     requires xs_len { length xs.now % 16 ≡ 0 }
     ensures { result ≡ last_block iv (cbc_encrypt (cipher (bytes_of w.now)) iv xs.now) }
 {
-    let end = xs.len();
+    let (blocks, _) = xs.as_chunks::<16>();
     let mut prev = aes_words::block_words(iv);
-    let mut i = 0;
-    while i < end {
-        let next = i + BLOCK_BYTES;
-        let plain = aes_words::slice_words(&xs[i..next]);
+    for plain in blocks {
         let c = aes_word_encrypt::encrypt_words(
             t0,
             t1,
             t2,
             t3,
             w,
-            aes_word_blocks::xor_words(plain, prev),
+            aes_word_blocks::xor_words(aes_words::block_words(*plain), prev),
         );
         prev = c;
-        i = next;
     }
     aes_words::block_bytes(prev)
 }

@@ -36,13 +36,11 @@ pub fn encrypt_pair(
 {
     let mut a = aes_word_rounds::add_first_key(w, s);
     let mut b = aes_word_rounds::add_first_key(v, z);
-    let mut r = 1;
-    while r < ROUNDS {
+    for r in 1..ROUNDS {
         let x = aes_word_rounds::round_of(t0, t1, t2, t3, w, r, a);
         let y = aes_word_rounds::round_of(t0, t1, t2, t3, v, r, b);
         a = x;
         b = y;
-        r += 1;
     }
     let first = aes_word_rounds::last_round(t2, w, a);
     let second = aes_word_rounds::last_round(t2, v, b);

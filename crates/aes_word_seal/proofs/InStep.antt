@@ -1,7 +1,7 @@
 -- Two chains in step: what is left of the MAC over the ciphertext that is still to be made, block by block; and the length of a cipher's block.
 -- Assumes nothing.
 use mathlib.Core.Path.{◌≡◌, refl, sym, ap, ap₂, ◌∙◌}
-use mathlib.Core.List.{List, [], ◌++◌, append_assoc}
+use mathlib.Core.List.{List, ◌++◌, append_assoc}
 use Prim.Native.Nat.{ℕ, suc, ◌+◌, ◌-◌, ◌/◌, ◌≤◌}
 use native.Mathlib.Omega.{arith}
 use lib.ListN.{length, take, drop, length-append}
@@ -45,12 +45,11 @@ module _ (enc mac : List ℕ → List ℕ) where
       tail : List ℕ
       tail = encrypted enc n c (drop 16 xs)
 
-  -- a turn of the loop, which writes y, the ciphertext, over the block at i
-  pub in_step : (prev c waiting m next buf y : List ℕ) (i k L : ℕ) → k ≡ 16 → i + 16 ≤ length buf → length buf ≡ L
+  in-step-at : (prev c waiting m next buf y : List ℕ) (i k L : ℕ) → k ≡ 16 → i + 16 ≤ length buf → length buf ≡ L
       → length c ≡ 16 → length m ≡ 16 → length (mac next) ≡ 16
       → c ≡ encrypt_block enc prev (take k (drop i buf)) → m ≡ mac waiting → next ≡ xor_bytes c m → y ≡ c
       → rest ((L - (i + 16)) / 16) c next (drop (i + 16) (take i buf ++ (y ++ drop k (drop i buf)))) ≡ rest ((L - i) / 16) prev waiting (drop i buf)
-  in_step prev c waiting m next buf y i k L hk fits hl lc lm ld ec em en ey =
+  in-step-at prev c waiting m next buf y i k L hk fits hl lc lm ld ec em en ey =
       ap (rest n c next) behind
       ∙ block n prev c waiting m next (drop i buf) lc lm ld (ec ∙ ap (λ (j : ℕ). encrypt_block enc prev (take j (drop i buf))) hk) em en
       ∙ ap (λ (j : ℕ). rest j prev waiting (drop i buf)) more
@@ -69,6 +68,15 @@ module _ (enc mac : List ℕ → List ℕ) where
           ap (drop (i + 16)) (sym (append_assoc (take i buf) y (drop k (drop i buf))))
           ∙ drop_at (take i buf ++ y) (drop k (drop i buf)) (i + 16) long
           ∙ ap (λ (j : ℕ). drop j (drop i buf)) hk
+
+  -- a turn of the loop, which writes y, the ciphertext, over the block at i; the block after it begins at j
+  pub in_step : (prev c waiting m next buf y : List ℕ) (i j k L : ℕ) → j ≡ i + 16 → k ≡ 16 → j ≤ length buf → length buf ≡ L
+      → length c ≡ 16 → length m ≡ 16 → length (mac next) ≡ 16
+      → c ≡ encrypt_block enc prev (take k (drop i buf)) → m ≡ mac waiting → next ≡ xor_bytes c m → y ≡ c
+      → rest ((L - j) / 16) c next (drop j (take i buf ++ (y ++ drop k (drop i buf)))) ≡ rest ((L - i) / 16) prev waiting (drop i buf)
+  in_step prev c waiting m next buf y i j k L ej hk fits hl lc lm ld ec em en ey =
+      ap (λ (n : ℕ). rest ((L - n) / 16) c next (drop n (take i buf ++ (y ++ drop k (drop i buf))))) ej
+      ∙ in-step-at prev c waiting m next buf y i k L hk (omega (arith, ej)) hl lc lm ld ec em en ey
 
   -- in the end the MAC is what the block that waits becomes
   pub in-step-end : (n : ℕ) (prev waiting xs : List ℕ) → length (mac waiting) ≡ 16 → n ≡ 0 → rest n prev waiting xs ≡ mac waiting

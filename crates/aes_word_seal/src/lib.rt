@@ -64,16 +64,16 @@ fn seal_blocks(
 {
     let mut prev = aes_words::block_words(iv);
     let mut waiting = aes_words::block_words(head);
-    let mut i = 0;
-    while i < buf.len() {
-        let end = i + BLOCK_BYTES;
-        let pair = seal_part(t0, t1, t2, t3, w, v, prev, waiting, &mut buf[i..end]);
+    // By the block's number: after a for over `chunks_exact_mut` a proof knows no byte of the slice.
+    for n in 0..buf.len() / BLOCK_BYTES {
+        let at = n * BLOCK_BYTES;
+        let part = &mut buf[at..at + BLOCK_BYTES];
+        let pair = seal_part(t0, t1, t2, t3, w, v, prev, waiting, part);
         let c = pair.first;
         let m = pair.second;
         let next = aes_word_blocks::xor_words(c, m);
         prev = c;
         waiting = next;
-        i = end;
     }
     let mac = aes_word_encrypt::encrypt_words(t0, t1, t2, t3, v, waiting);
     aes_words::block_bytes(mac)

@@ -1,7 +1,8 @@
 -- The bytes of a word: those that it was made of; the exclusive-or of two words goes byte by byte; the words of a list and their bytes.
 -- Assumes nothing.
 use mathlib.Core.Path.{◌≡◌, refl, ap, ◌∙◌}
-use mathlib.Core.List.{List, [], ◌∷◌, ◌++◌}
+use mathlib.Core.List.{List, [], ◌∷◌, ◌++◌, map}
+use Rattle.std.specs.List.{flat_map}
 use Prim.Native.Nat.{ℕ, zero, suc, ◌+◌, ◌*◌, ◌/◌, ◌%◌, ◌^◌, ◌<◌}
 use native.Mathlib.Omega.{arith}
 use lib.Bits.{bit_xor, xor_shr, xor_mod}
@@ -58,3 +59,8 @@ append-words (x ∷ v) w = ap (λ (t : List ℕ). word_bytes x ++ t) (append-wor
 pub length-words : (w : List ℕ) → length (bytes_of w) ≡ length w * 4
 length-words [] = refl
 length-words (x ∷ w) = omega (arith, length-words w)
+
+-- the bytes of each word, one after the other
+pub flat_words : (w : List ℕ) → flat_map (λ x. x) (map word_bytes w) ≡ bytes_of w
+flat_words [] = refl
+flat_words (x ∷ w) = ap (λ (t : List ℕ). word_bytes x ++ t) (flat_words w)

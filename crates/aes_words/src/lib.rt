@@ -2,14 +2,14 @@
 // Proved: a word, and a block of words, has the bytes that it was made of, and gives them back.
 #![tactic(auto)]
 
-ghost use Rattle.std.specs.Prelude.{◌≡◌, [], ◌∷◌, ◌%◌, length};
+ghost use Rattle.std.specs.Prelude.{◌≡◌, [], ◌∷◌, length};
 ghost use Rattle.aes_words.specs.Words.{word_bytes, bytes_of};
 
 // The word of four bytes.
 pub fn word_of(a: u8, b: u8, c: u8, d: u8) -> u32
     ensures { word_bytes result ≡ a ∷ b ∷ c ∷ d ∷ [] }
 {
-    a as u32 + 256 * (b as u32 + 256 * (c as u32 + 256 * (d as u32)))
+    u32::from_le_bytes([a, b, c, d])
 }
 
 // The four words of the block that a slice of 16 bytes holds.
@@ -32,30 +32,17 @@ pub fn block_words(s: [u8; 16]) -> [u32; 4]
     slice_words(&s)
 }
 
-// The lowest byte of a number.
-pub fn low(x: u32) -> u8
-    ensures { result ≡ x % 256 }
-{
-    (x % 256) as u8
-}
-
 // The four bytes of a word.
 fn word_bytes(x: u32) -> [u8; 4]
     ensures { result ≡ word_bytes x }
 {
-    [low(x), low(x / 256), low(x / 65536), low(x / 16777216)]
+    x.to_le_bytes()
 }
 
 // The bytes of four words.
 pub fn block_bytes(s: [u32; 4]) -> [u8; 16]
     ensures { result ≡ bytes_of s }
 {
-    let a = word_bytes(s[0]);
-    let b = word_bytes(s[1]);
-    let c = word_bytes(s[2]);
-    let d = word_bytes(s[3]);
-    [
-        a[0], a[1], a[2], a[3], b[0], b[1], b[2], b[3], c[0], c[1], c[2], c[3], d[0], d[1], d[2],
-        d[3],
-    ]
+    let words = s.map(word_bytes);
+    *words.as_flattened().as_array().unwrap()
 }

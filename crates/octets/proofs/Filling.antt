@@ -6,8 +6,10 @@ use mathlib.Core.List.{List, [], ◌∷◌, ◌++◌}
 use Prim.Native.Nat.{ℕ, ◌+◌, ◌≤◌, ◌<◌}
 use native.Mathlib.Numerals.{add-one}
 use native.Mathlib.Omega.{arith}
-use lib.ListN.{length, take, get_or, set, length-set}
-use lib.Seq.{take-suc, take-suc-set, take_all}
+use lib.ListN.{length, take, drop, get_or, set, length-set}
+use lib.Seq.{take-add, take-suc, take-suc-set, take_all}
+use Rattle.octets.specs.Bytes.{overwrite}
+use Rattle.octets.proofs.Lists.{length-overwrite, take-overwrite}
 
 -- the loop's invariant: r holds the first i of the n elements of want
 pub record Filled (n : ℕ) (want r : List ℕ) (i : ℕ) : Type 0 where
@@ -51,6 +53,22 @@ module _ {n : ℕ} {want : List ℕ} where
     where
       next : {x : List ℕ} (k m v : ℕ) → m ≡ k + 1 → k < n → v ≡ get_or want k 0 → Filled n want x k → Filled n want (set x k v) m
       next {x} k m v em hk ev fx = subst (λ (j : ℕ). Filled n want (set x k v) j) (sym em) (filled-one v fx hk ev)
+
+  -- a part of the wanted list in one turn
+  pub filled-part : {r : List ℕ} {i : ℕ} (t : List ℕ) (j : ℕ) → Filled n want r i → j ≡ i + length t → j ≤ n → t ≡ take (length t) (drop i want)
+      → Filled n want (overwrite r i t) j
+  filled-part {r} {i} t j f e h et =
+      record {
+        front =
+            ap (λ (k : ℕ). take k (overwrite r i t)) e
+            ∙ take-overwrite r i t (omega (arith, e, f.long))
+            ∙ ap₂ (λ (p q : List ℕ). p ++ q) f.front et
+            ∙ sym (take-add i (length t) want)
+            ∙ ap (λ (k : ℕ). take k want) (sym e);
+        long = length-overwrite r i t (omega (arith, e, f.long)) ∙ f.long;
+        wanted = f.wanted;
+        within = h;
+      }
 
   pub filled-all : {r : List ℕ} {i : ℕ} → Filled n want r i → n ≤ i → r ≡ want
   filled-all {r} {i} f h = sym (take_all i r (omega (arith, f.long))) ∙ f.front ∙ take_all i want (omega (arith, f.wanted))

@@ -1,4 +1,5 @@
 pub mod Xor
 pub mod Table
 pub mod Lists
+pub mod Made
 pub mod Filling

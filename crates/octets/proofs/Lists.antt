@@ -9,8 +9,9 @@ use native.Mathlib.Omega.{arith}
 use lib.Bits.{bit_xor, xor_lt, xor_zero_r}
 use lib.Dec.{T, eqb, eqb→eq}
 use lib.ListN.{length, take, drop, get_or, replicate, length-append, length-drop, drop_of_length-le}
-use lib.Seq.{drop-cons, take_at, drop_at, drop-drop, length-take-le}
+use lib.Seq.{take_at, drop_at, drop-drop, length-take-le}
 use borrow.Author.Tests.{eq-eqb}
+use Rattle.std.specs.List.{fold, zip}
 use Rattle.octets.specs.Bytes.{Bytes, Block, tabulate, xor_bytes, overwrite, written, same_bytes}
 use Rattle.octets.proofs.Xor.{xor-cancel, xor-undo}
 use Rattle.octets.proofs.Table.{and_left, and_right}
@@ -117,6 +118,13 @@ get_d-xor-bytes (x ∷ s) [] i h g = absurd (not-suc-le-zero g)
 get_d-xor-bytes (x ∷ s) (y ∷ t) zero h g = refl
 get_d-xor-bytes (x ∷ s) (y ∷ t) (suc i) h g = get_d-xor-bytes s t i (le_of_suc-le-suc h) (le_of_suc-le-suc g)
 
+-- the exclusive-or of two lists of one length, place by place
+pub xored : (s t : List ℕ) (n : ℕ) → length s ≡ n → length t ≡ n → xor_bytes s t ≡ tabulate n (λ i. bit_xor (get_or s i 0) (get_or t i 0))
+xored s t n ls lt =
+    tabulated n (xor_bytes s t) (length-xor-bytes s t ∙ ls)
+    ∙ tabulate-ext n (λ k. get_or (xor_bytes s t) k 0) (λ k. bit_xor (get_or s k 0) (get_or t k 0))
+    (λ k h. get_d-xor-bytes s t k (omega (arith, ls)) (omega (arith, lt)))
+
 pub xor_block : (s t : List ℕ) → Block s → Bytes t → Block (xor_bytes s t)
 xor_block s t h g = record { long = length-xor-bytes s t ∙ h.long; bytes = bytes-xor-bytes s t h.bytes g }
 
@@ -216,7 +224,14 @@ same-lengths (x ∷ s) (y ∷ t) h = rw (same-lengths s t (λ e. h (ap suc e))) 
     and-false true = refl
     and-false false = refl
 
--- one byte of each is compared, and the rest is left
-pub same_step : (s t : List ℕ) (i : ℕ) → i < length s → i < length t
-    → same_bytes (drop i s) (drop i t) ≡ (eqb (get_or s i 0) (get_or t i 0) && same_bytes (drop (suc i) s) (drop (suc i) t))
-same_step s t i h g = ap₂ same_bytes (drop-cons s i 0 h) (drop-cons t i 0 g)
+-- the answer over the bytes in pairs, each pair after those before it
+pub same-fold : (s t : List ℕ) (b : Bool) → length s ≡ length t → fold (λ r p. r && eqb p.0 p.1) b (zip s t) ≡ (b && same_bytes s t)
+same-fold [] [] true l = refl
+same-fold [] [] false l = refl
+same-fold [] (y ∷ t) b l = absurd (omega (arith, l))
+same-fold (x ∷ s) [] b l = absurd (omega (arith, l))
+same-fold (x ∷ s) (y ∷ t) b l = same-fold s t (b && eqb x y) (omega (arith, l)) ∙ and-and b (eqb x y) (same_bytes s t)
+  where
+    and-and : (p q r : Bool) → ((p && q) && r) ≡ (p && (q && r))
+    and-and true q r = refl
+    and-and false q r = refl

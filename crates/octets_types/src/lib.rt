@@ -17,12 +17,10 @@ fn byte(b: u8) -> u8
 pub fn slice(s: &[u8]) -> usize
     ensures { Bytes s.now }
 {
-    let mut i = 0;
-    while i < s.len() {
-        byte(s[i]);
-        i += 1;
+    for b in s {
+        byte(*b);
     }
-    i
+    s.len()
 }
 
 // The header of a command, CLA INS P1 P2, which SEAL takes.

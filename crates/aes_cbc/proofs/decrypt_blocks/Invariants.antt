@@ -3,14 +3,12 @@
 use Rattle.aes_cbc.proofs.decrypt_blocks.Given as goal
 use mathlib.Core.Path.{◌≡◌}
 use mathlib.Core.List.{◌++◌}
-use Prim.Native.Nat.{◌-◌, ◌≤◌, ◌%◌, ◌/◌}
+use Prim.Native.Nat.{◌-◌, ◌*◌, ◌/◌}
 use lib.ListN.{length, take, drop}
 use Rattle.aes_rules.specs.InvCipher.{inv_cipher}
 use Rattle.aes_cbc.specs.Mode.{chain, decrypt_block, itself}
 
-abbrev pub invariant-loop-i : goal.invariant-loop-i
-invariant-loop-i l = (take l.i l.buf ++ chain (decrypt_block (inv_cipher l.w)) itself ((length l.initial.buf - l.i) / 16) l.prev (drop l.i l.buf) ≡ chain (decrypt_block (inv_cipher l.w)) itself (length l.initial.buf / 16) l.initial.prev l.initial.buf)
-    × (l.i % 16 ≡ 0) × (l.i ≤ length l.initial.buf) × (length l.buf ≡ length l.initial.buf)
-
-abbrev pub decreases-loop-i : goal.decreases-loop-i
-decreases-loop-i l = length l.initial.buf - l.i
+abbrev pub invariant-loop-n : goal.invariant-loop-n
+invariant-loop-n l =
+    take (l.n * 16) l.buf ++ chain (decrypt_block (inv_cipher l.w)) itself ((length l.initial.buf - l.n * 16) / 16) l.prev (drop (l.n * 16) l.buf)
+    ≡ chain (decrypt_block (inv_cipher l.w)) itself (length l.initial.buf / 16) l.initial.prev l.initial.buf

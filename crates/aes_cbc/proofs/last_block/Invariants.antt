@@ -2,15 +2,13 @@
 -- Assumes nothing.
 use Rattle.aes_cbc.proofs.last_block.Given as goal
 use mathlib.Core.Path.{◌≡◌}
-use Prim.Native.Nat.{◌-◌, ◌≤◌, ◌%◌, ◌/◌}
+use Prim.Native.Nat.{◌-◌, ◌*◌, ◌/◌}
 use lib.ListN.{length, drop}
 use Rattle.aes_rules.specs.Cipher.{cipher}
 use Rattle.aes_cbc.specs.Mode.{chain, encrypt_block, last_block}
 
-abbrev pub invariant-loop-i : goal.invariant-loop-i
-invariant-loop-i l = (last_block l.prev (chain (encrypt_block (cipher l.w)) (encrypt_block (cipher l.w)) ((length l.xs - l.i) / 16) l.prev (drop l.i l.xs))
-    ≡ last_block l.initial.prev (chain (encrypt_block (cipher l.w)) (encrypt_block (cipher l.w)) (length l.xs / 16) l.initial.prev l.xs))
-    × (l.i % 16 ≡ 0) × (l.i ≤ length l.xs) × (length l.prev ≡ 16)
-
-abbrev pub decreases-loop-i : goal.decreases-loop-i
-decreases-loop-i l = length l.xs - l.i
+abbrev pub invariant-loop-plain : goal.invariant-loop-plain
+invariant-loop-plain l =
+    (last_block l.prev (chain (encrypt_block (cipher l.w)) (encrypt_block (cipher l.w)) (length l.fn.xs / 16 - l.plain-index) l.prev (drop (l.plain-index * 16) l.fn.xs))
+    ≡ last_block l.initial.prev (chain (encrypt_block (cipher l.w)) (encrypt_block (cipher l.w)) (length l.fn.xs / 16) l.initial.prev l.fn.xs))
+    × (length l.prev ≡ 16)

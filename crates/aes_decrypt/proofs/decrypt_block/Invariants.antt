@@ -6,7 +6,4 @@ use Prim.Native.Nat.{◌-◌, ◌≤◌}
 use Rattle.aes_rules.specs.InvCipher.{inv_rounds}
 
 abbrev pub invariant-loop-r : goal.invariant-loop-r
-invariant-loop-r l = (inv_rounds l.w (l.r - 1) l.t ≡ inv_rounds l.w 13 l.initial.t) × (1 ≤ l.r) × (l.r ≤ 14)
-
-abbrev pub decreases-loop-r : goal.decreases-loop-r
-decreases-loop-r l = l.r
+invariant-loop-r l = (inv_rounds l.w (l.r - 1) l.t ≡ inv_rounds l.w 13 l.initial.t) × (1 ≤ l.r)

@@ -2,11 +2,8 @@
 -- Assumes nothing.
 use Rattle.aes_encrypt.proofs.encrypt_block.Given as goal
 use mathlib.Core.Path.{◌≡◌}
-use Prim.Native.Nat.{◌-◌, ◌≤◌}
+use Prim.Native.Nat.{◌-◌}
 use Rattle.aes_rules.specs.Cipher.{rounds}
 
 abbrev pub invariant-loop-r : goal.invariant-loop-r
-invariant-loop-r l = (l.t ≡ rounds l.w (l.r - 1) l.initial.t) × (1 ≤ l.r) × (l.r ≤ 14)
-
-abbrev pub decreases-loop-r : goal.decreases-loop-r
-decreases-loop-r l = 14 - l.r
+invariant-loop-r l = l.t ≡ rounds l.w (l.r - 1) l.initial.t

@@ -1,20 +1,15 @@
--- `shift_rows` fills its result from the front with ShiftRows' bytes.
+-- Each byte is that of ShiftRows.
 -- Assumes nothing.
-use Rattle.std.proofs.Common.{rules}
-use mathlib.Core.Path.{refl}
-use Prim.Native.Nat.{◌-◌}
-use native.Mathlib.Omega.{arith}
-use Rattle.octets.proofs.Filling.{filled_none, filled-one, filled-all}
-use Rattle.aes_rules.specs.Cipher.{shift_rows}
-use Rattle.aes_rules.proofs.Elements.{shift-rows-at}
+use Rattle.std.proofs.Common.{rules, tests}
+use mathlib.Core.Path.{◌∙◌}
+use mathlib.Core.List.{List}
+use Prim.Native.Nat.{ℕ, ◌+◌, ◌*◌, ◌%◌}
+use lib.ListN.{get_or}
+use Rattle.octets.proofs.Made.{made_by}
+use Rattle.aes_rules.proofs.Elements.{shift-rows-made}
 use Rattle.aes_encrypt.proofs.shift_rows.Goals as goal
 
-pub loop-i-init : goal.loop-i-init
-unfolding shift_rows
-loop-i-init c = filled_none (search rules) refl
-
-pub loop-i-preserved : goal.loop-i-preserved
-loop-i-preserved c = filled-one _ c.loop-i.invariant (omega arith) (shift-rows-at c.args.s c.loop-i.i (omega arith))
-
 pub returns : goal.returns
-returns c = filled-all c.loop-i.invariant (omega arith)
+returns c = let s : List ℕ = c.args.s in
+    made_by _ (λ i. get_or s ((i + 4 * (i % 4)) % 16) 0) _ c.from_fn.result _ c.from_fn.ensures.items (λ m r q l e. search (rules, tests))
+    ∙ shift-rows-made s

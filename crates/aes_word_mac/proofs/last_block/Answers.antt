@@ -1,12 +1,12 @@
 -- After each turn the last block of the chain over the rest is that of the chain over the whole.
 -- Assumes nothing.
 use Rattle.std.proofs.Common.{rules}
-use mathlib.Core.Path.{◌≡◌, sym, ap, ◌∙◌}
+use mathlib.Core.Path.{◌≡◌, refl, sym, ap, ◌∙◌}
 use mathlib.Core.List.{List}
-use Prim.Native.Nat.{ℕ, ◌-◌, ◌+◌, ◌*◌, ◌/◌}
+use Prim.Native.Nat.{ℕ, ◌-◌, ◌*◌, ◌/◌}
 use native.Mathlib.Nat.{sub-zero}
 use native.Mathlib.Omega.{arith}
-use lib.ListN.{length, length-take, length-drop}
+use lib.ListN.{length}
 use Rattle.octets.specs.Bytes.{xor_bytes}
 use Rattle.aes_rules.specs.Cipher.{cipher}
 use Rattle.aes_words.specs.Words.{bytes_of}
@@ -18,28 +18,26 @@ use Rattle.aes_word_mac.proofs.last_block.Goals as goal
 long : (s : List ℕ) → length s ≡ 4 → length (bytes_of s) ≡ 16
 long s h = length-words s ∙ ap (λ (n : ℕ). n * 4) h
 
-pub loop-i-init : goal.loop-i-init
-loop-i-init c = (rw sub-zero, omega arith, omega arith, search rules)
+pub loop-plain-init : goal.loop-plain-init
+loop-plain-init c = (rw sub-zero refl, search rules)
 
-pub slice_words-plain-requires : goal.slice_words-plain-requires
-slice_words-plain-requires c = simp (length-take, length-drop) (omega arith)
-
-pub loop-i-preserved : goal.loop-i-preserved
-loop-i-preserved c =
-    let l = c.loop-i in
+pub loop-plain-preserved : goal.loop-plain-preserved
+loop-plain-preserved c =
+    let l = c.loop-plain in
     let w : List ℕ = bytes_of c.args.w.now in (
-      mac-turn (cipher w) (bytes_of l.prev) (bytes_of c.encrypt_words-c.result) c.args.xs.now l.i (l.i + 16 - l.i) (length c.args.xs.now)
-          (omega arith) (omega arith) (long l.prev l.invariant.3) (long c.encrypt_words-c.result (search rules))
-          (c.encrypt_words-c.ensures ∙ ap (cipher w) (c.xor_words.ensures ∙ ap (λ (x : List ℕ). xor_bytes x (bytes_of l.prev)) c.slice_words-plain.ensures))
+      mac-turn (cipher w) (bytes_of l.prev) (bytes_of c.encrypt_words-c.result) c.args.xs.now c.as_chunks.result.0.now l.plain-index (length c.args.xs.now / 16)
+          (omega (arith, c.as_chunks.ensures.front_len)) (long l.prev l.invariant.1) (long c.encrypt_words-c.result (search rules)) c.as_chunks.ensures.front
+          (c.encrypt_words-c.ensures ∙ ap (cipher w) (c.xor_words.ensures ∙ ap (λ (x : List ℕ). xor_bytes x (bytes_of l.prev)) c.block_words.ensures))
           ∙ l.invariant.0,
-      omega arith,
-      omega arith,
       search rules,
     )
 
 pub returns : goal.returns
 unfolding cbc_encrypt
 returns c =
-    let l = c.loop-i in
+    let l = c.loop-plain in
     let xs : List ℕ = c.args.xs.now in
-    c.block_bytes.ensures ∙ sym (mac-turned (cipher (bytes_of c.args.w.now)) (bytes_of l.prev) xs l.i ((length xs - l.i) / 16) (long l.prev l.invariant.3) (omega arith)) ∙ l.invariant.0 ∙ ap (λ (p : List ℕ). last_block p (cbc_encrypt (cipher (bytes_of c.args.w.now)) p xs)) c.block_words-prev.ensures
+    c.block_bytes.ensures
+    ∙ sym (mac-turned (cipher (bytes_of c.args.w.now)) (bytes_of l.prev) xs (l.plain-index * 16) (length xs / 16 - l.plain-index) (long l.prev l.invariant.1) (omega (arith, c.as_chunks.ensures.front_len)))
+    ∙ l.invariant.0
+    ∙ ap (λ (p : List ℕ). last_block p (cbc_encrypt (cipher (bytes_of c.args.w.now)) p xs)) c.block_words-prev.ensures
