@@ -9,23 +9,20 @@ ghost use Rattle.card.specs.Shape.{KeysLong, Shaped};
 
 use card::{Card, Identity, Keys, Pairing, Path, Pins, Slot, Tap};
 
-// Each function gives its argument back, or counts the slots. Its contract is what the type says of it.
+// Each function gives its argument back. Its contract is what the type says of it.
 fn slot_shaped(s: Slot) -> Slot
     ensures { length s.key ≡ key_bytes }
 {
     s
 }
 
-fn slots_shaped(slots: [Slot; Card::SLOTS]) -> usize
+fn slots_shaped(slots: [Slot; Card::SLOTS]) -> [Slot; Card::SLOTS]
     ensures { (length slots ≡ slot_count) × KeysLong slots }
 {
-    let mut i = 0;
-    while i < Card::SLOTS {
-        let slot = slots[i];
-        slot_shaped(slot);
-        i += 1;
+    for slot in slots.iter() {
+        slot_shaped(*slot);
     }
-    i
+    slots
 }
 
 fn path_shaped(p: Path) -> Path

@@ -43,14 +43,14 @@ pub fn first_bits(x: u8, width_bits: usize) -> u32
 fn three_bytes(a: u8, b: u8, c: u8) -> u32
     ensures { (result ≡ a * 65536 + b * 256 + c) × ((a < 256) × ((b < 256) × (c < 256))) }
 {
-    a as u32 * 65536 + b as u32 * 256 + c as u32
+    u32::from_be_bytes([0, a, b, c])
 }
 
 // Two bytes as one number, the high byte first.
 fn two_bytes(a: u8, b: u8) -> u32
     ensures { result ≡ a * 256 + b }
 {
-    a as u32 * 256 + b as u32
+    u32::from(u16::from_be_bytes([a, b]))
 }
 
 // Number k of 11 bits, of the bits of s: it lies in three bytes.

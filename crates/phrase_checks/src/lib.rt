@@ -35,13 +35,10 @@ pub fn is_word_count(words: &[u8]) -> bool
 pub fn in_eleven_bits(words: &[u8]) -> bool
     ensures { result ≡ in_eleven_bits (from_two_bytes words.now) }
 {
-    let count = words.len() / 2;
-    let mut k = 0;
-    while k < count {
+    for k in 0..words.len() / 2 {
         if number_in(words, k) > NUMBER_MAX {
             return false;
         }
-        k += 1;
     }
     true
 }

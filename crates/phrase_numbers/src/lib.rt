@@ -42,7 +42,7 @@ fn two_bytes(x: u32) -> [u8; 2]
     requires { x < 2048 }
     ensures { result ≡ x / 256 ∷ x % 256 ∷ [] }
 {
-    [(x / 256) as u8, (x % 256) as u8]
+    (x as u16).to_be_bytes()
 }
 
 // Writes the word numbers of an entropy from the buffer's start, and gives their length in bytes.
@@ -54,12 +54,9 @@ pub fn put_numbers(entropy: &[u8], out: &mut [u8]) -> usize
 {
     let numbers = NUMBERS_PER_CHECKSUM_BIT * checksum_bits(entropy.len());
     let stream = joined(entropy);
-    let mut k = 0;
-    while k < numbers {
-        let at = 2 * k;
+    for k in 0..numbers {
         let x = phrase_bits::number_at(&stream, k);
-        octets::put(out, at, &two_bytes(x));
-        k += 1;
+        octets::put(out, 2 * k, &two_bytes(x));
     }
     2 * numbers
 }

@@ -16,6 +16,7 @@ use refusals::{
 };
 
 // What is answered: the refusal's number, or 0 for none, and how many bytes of entropy were written.
+// A number beside the count, and no Result: `Reversed` promises the count, 0, on a refusal too, and the library hands both on to C.
 #[derive(Clone, Copy)]
 pub struct Entropy {
     pub refusal: u8,
@@ -29,10 +30,8 @@ fn entropy_in(words: &[u8]) -> [u8; 32]
 {
     let end = ENTROPY_BYTES_PER_CHECKSUM_BIT * (words.len() / WORD_BYTES_PER_CHECKSUM_BIT);
     let mut entropy = [0u8; ENTROPY_ROOM_BYTES];
-    let mut k = 0;
-    while k < end {
+    for k in 0..end {
         entropy[k] = phrase_bits::byte_at(words, k) as u8;
-        k += 1;
     }
     entropy
 }

@@ -55,11 +55,9 @@ fn first_slots(slots: [Slot; Card::SLOTS], count: usize) -> [u8; SLOTS_BYTES]
     ensures { take (slot_bytes * count) result ≡ slots_bytes (take count slots) }
 {
     let mut out = [0u8; SLOTS_BYTES];
-    let mut i = 0;
-    while i < count {
+    for i in 0..count {
         let slot = slots[i];
         put_slot(&mut out, SLOT_BYTES * i, slot);
-        i += 1;
     }
     out
 }

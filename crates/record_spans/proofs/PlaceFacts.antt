@@ -1,13 +1,13 @@
 -- Facts about the places of fields, and about a list that is filled from another. Assumes nothing.
 use mathlib.Core.Path.{◌≡◌, refl, sym, ap, ap₂, ◌∙◌}
-use mathlib.Core.List.{List, [], ◌∷◌, ◌++◌}
-use Prim.Native.Nat.{ℕ, zero, suc, ◌+◌, ◌*◌, ◌-◌, ◌≤◌, ◌<◌}
+use mathlib.Core.List.{List, [], ◌∷◌, ◌++◌, append-nil}
+use Prim.Native.Nat.{ℕ, zero, suc, ◌+◌, ◌*◌, ◌-◌, ◌≤◌, ◌<◌, min}
 use native.Mathlib.Nat.{add-zero}
 use native.Mathlib.Numerals.{add-one}
 use native.Mathlib.Omega.{arith}
-use lib.ListN.{length, take, drop, get_or, set, drop_of_length-le, length-drop}
-use lib.Seq.{take-suc-set, drop-drop, get_or-drop, take_all, take-nil, drop-nil, drop-length, length-take-le}
-use Rattle.octets.specs.Bytes.{tabulate}
+use lib.ListN.{length, take, drop, get_or, set, replicate, drop_of_length-le, length-drop}
+use borrow.Rule.Slice.PartMut.{put_mid}
+use lib.Seq.{take-suc-set, drop-drop, get_or-drop, take_all, take-nil, drop-nil, drop-length, length-take-le, take-append_seam, drop-append_seam}
 use Rattle.card.specs.declared.Slot.{Slot}
 use Rattle.card.specs.Sizes.{key_bytes, slot_bytes}
 use Rattle.record_rules.specs.Lengths.{head_bytes}
@@ -23,19 +23,6 @@ get_d_past (x ∷ s) zero h = absurd (nothing-below h)
     nothing-below : {n : ℕ} → suc n ≤ 0 → ⊥
     nothing-below p = omega arith
 get_d_past (x ∷ s) (suc i) h = get_d_past s i (omega arith)
-
--- ---- fit: one byte more
-tabulate-suc : (n : ℕ) (f : ℕ → ℕ) → tabulate (suc n) f ≡ tabulate n f ++ (f n ∷ [])
-tabulate-suc zero f = refl
-tabulate-suc (suc n) f = ap {B = List ℕ} (λ r. f 0 ∷ r) (tabulate-suc n (λ k. f (suc k)))
-
-pub fit-suc : (x dst : List ℕ) (i : ℕ) → i < length dst → take i dst ≡ fit i x
-    → take (i + 1) (set dst i (get_or x i 0)) ≡ fit (i + 1) x
-fit-suc x dst i h e =
-    rw (add-one i)
-    (take-suc-set dst i (get_or x i 0) h
-    ∙ ap (λ (l : List ℕ). l ++ (get_or x i 0 ∷ [])) e
-    ∙ sym (tabulate-suc i (λ k. get_or x k 0)))
 
 -- ---- Spans: the three cases of a field's head, with n for the length that it gives
 module _ (s : List ℕ) (at : ℕ) where
@@ -131,3 +118,33 @@ slot_at x key at n l e =
     ap₂ {C = Slot} (λ (b : ℕ) (k : List ℕ). record { filled = b; key = k })
     (ap (λ (j : ℕ). get_or x j 0) (sym (add-zero at)) ∙ sym (get_or-drop at x 0 0))
     (e ∙ ap (fit key_bytes) (take_all (n - (at + 1)) (drop (at + 1) x) (omega (arith, length-drop (at + 1) x)) ∙ sym (drop-drop 1 at x)))
+
+-- ---- fit: what there is to copy, and zeros for the rest
+fit-parts : (n t : ℕ) (x : List ℕ) → t ≡ min n (length x) → fit n x ≡ take t x ++ replicate (n - t) 0
+fit-parts zero zero x e = refl
+fit-parts zero (suc t) x e = absurd (omega arith)
+fit-parts (suc n) zero [] e =
+    let less : n - 0 ≡ n = omega arith in
+    let more : suc n ≡ suc n - 0 = omega arith in
+    ap (λ (s : List ℕ). 0 ∷ s) (fit-parts n zero [] (omega arith) ∙ ap (λ (k : ℕ). replicate k 0) less) ∙ ap (λ (k : ℕ). replicate k 0) more
+fit-parts (suc n) (suc t) [] e = absurd (omega arith)
+fit-parts (suc n) zero (y ∷ x) e = absurd (omega arith)
+fit-parts (suc n) (suc t) (y ∷ x) e = let z : n - t ≡ suc n - suc t = omega arith in
+    ap (λ (s : List ℕ). y ∷ s) (fit-parts n t x (omega arith) ∙ ap (λ (k : ℕ). take t x ++ replicate k 0) z)
+
+pub filled_parts : (n t k : ℕ) (dst x a f : List ℕ) → length dst ≡ n → t ≡ min n (length x) → a ≡ take t x → f ≡ replicate (n - t) 0
+    → k ≡ n - t → put_mid t k (a ++ drop t dst) f ≡ fit n x
+filled_parts n t k dst x a f long least ea ef ek =
+    ap₂ (λ (front back : List ℕ). front ++ (f ++ drop k back)) front back
+    ∙ ap (λ (s : List ℕ). a ++ (f ++ s)) (drop_of_length-le (drop t dst) (omega (arith, length-drop t dst)))
+    ∙ ap₂ (λ (u v : List ℕ). u ++ v) ea (append-nil f ∙ ef)
+    ∙ sym (fit-parts n t x least)
+  where
+    whole : length a ≡ t
+    whole = ap length ea ∙ length-take-le t x (omega arith)
+
+    front : take t (a ++ drop t dst) ≡ a
+    front = ap (λ (i : ℕ). take i (a ++ drop t dst)) (sym whole) ∙ take-append_seam a (drop t dst)
+
+    back : drop t (a ++ drop t dst) ≡ drop t dst
+    back = ap (λ (i : ℕ). drop i (a ++ drop t dst)) (sym whole) ∙ drop-append_seam a (drop t dst)

@@ -57,26 +57,13 @@ pub fn content_span(s: &[u8], at: usize) -> FieldSpan
     }
 }
 
-// The byte at a place, or zero where the slice has ended.
-fn byte_or_zero(s: &[u8], i: usize) -> u8
-    ensures { result ≡ get_or s.now i 0 }
-{
-    if i < s.len() {
-        return s[i];
-    }
-    0
-}
-
 // Fills dst from src, with zeros where src has ended.
 fn fill(dst: &mut [u8], src: &[u8])
     ensures { dst.new ≡ fit (length dst.old) src.now }
 {
-    let mut i = 0;
-    while i < dst.len() {
-        let b = byte_or_zero(src, i);
-        dst[i] = b;
-        i += 1;
-    }
+    let taken = dst.len().min(src.len());
+    dst[..taken].copy_from_slice(&src[..taken]);
+    dst[taken..].fill(0);
 }
 
 // Fills dst from the content of the field at a place, and gives the place after the field.
@@ -150,15 +137,13 @@ pub fn slots_from(x: [u8; SLOTS_BYTES]) -> [Slot; Card::SLOTS]
         key: [0; card::KEY_BYTES],
     };
     let mut slots = [free; Card::SLOTS];
-    let mut i = 0;
-    while i < Card::SLOTS {
+    for i in 0..Card::SLOTS {
         let at = SLOT_BYTES * i;
         let mut key = [0u8; card::KEY_BYTES];
         fill(&mut key, &x[at + 1..]);
         let filled = x[at];
         let slot = Slot { filled, key };
         slots[i] = slot;
-        i += 1;
     }
     slots
 }

@@ -18,6 +18,7 @@ use record_rules::{Form, WRITE_ROOM_BYTES};
 use refusals::{REFUSAL_NONE, REFUSAL_ROOM, REFUSAL_UNSOUND};
 
 // What WRITE answers: the refusal's number, or 0 for none, and how many bytes it wrote.
+// A number beside the count, and no Result: `WroteRecord` promises the count, 0, on a refusal too, and the library hands both on to C.
 #[derive(Clone, Copy)]
 pub struct Written {
     pub refusal: u8,

@@ -22,16 +22,12 @@ pub fn compress_block(k: &[u32; 64], h: [u32; 8], m: &[u8]) -> [u32; 8]
 {
     let w = sha_schedule::schedule_of(m);
     let mut s = h;
-    let mut t = 0;
-    while t < ROUNDS {
-        let mut i = 0;
-        while i < STEP_ROUNDS {
-            let at = t + i;
+    for step in 0..ROUNDS / STEP_ROUNDS {
+        for i in 0..STEP_ROUNDS {
+            let at = STEP_ROUNDS * step + i;
             let next = round_of(k[at], w[at], s);
             s = next;
-            i += 1;
         }
-        t += STEP_ROUNDS;
     }
     sha_rounds::sums(s, h)
 }

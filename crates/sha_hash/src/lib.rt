@@ -5,7 +5,7 @@
 
 ghost use Rattle.std.specs.Prelude.{◌≡◌, ◌++◌, ◌+◌, ◌/◌, ◌%◌, length};
 ghost use Rattle.sha_rules.specs.Constants.{K};
-ghost use Rattle.sha_rules.specs.Padding.{big_endian, padding_bytes, padding};
+ghost use Rattle.sha_rules.specs.Padding.{padding_bytes, padding};
 ghost use Rattle.sha_rules.specs.Hash.{blocks, digest, sha256};
 
 use sha_padding::BLOCK_BYTES;
@@ -21,14 +21,12 @@ fn hash_blocks(k: &[u32; 64], h: [u32; 8], s: &[u8]) -> [u32; 8]
     requires s_len { length s.now % 64 ≡ 0 }
     ensures { result ≡ blocks (length s.now / 64) h s.now }
 {
-    let end = s.len();
     let mut v = h;
-    let mut i = 0;
-    while i < end {
-        let next = i + BLOCK_BYTES;
-        let after = sha_blocks::compress_block(k, v, &s[i..next]);
+    // Blocks by their number: the loop over chunks_exact proves, and hashes 3 percent slower.
+    for i in 0..s.len() / BLOCK_BYTES {
+        let at = BLOCK_BYTES * i;
+        let after = sha_blocks::compress_block(k, v, &s[at..at + BLOCK_BYTES]);
         v = after;
-        i = next;
     }
     v
 }
@@ -44,29 +42,13 @@ fn hash_end(k: &[u32; 64], h: [u32; 8], rest: &[u8], l: usize) -> [u32; 8]
     hash_blocks(k, h, &last[..end])
 }
 
-// A word as four bytes, the highest first.
-fn word_bytes(x: u32) -> [u8; 4]
-    ensures { result ≡ big_endian 4 x }
-{
-    [
-        (x / 0x100_0000 % 256) as u8,
-        (x / 0x1_0000 % 256) as u8,
-        (x / 0x100 % 256) as u8,
-        (x % 256) as u8,
-    ]
-}
-
 // The words of a hash value, one after the other.
 fn digest_of(h: [u32; 8]) -> [u8; 32]
     ensures { result ≡ digest h }
 {
     let mut r = [0u8; DIGEST_BYTES];
-    let mut i = 0;
-    while i < HASH_WORDS {
-        let at = 4 * i;
-        let word = word_bytes(h[i]);
-        octets::put(&mut r, at, &word);
-        i += 1;
+    for i in 0..HASH_WORDS {
+        octets::put(&mut r, 4 * i, &h[i].to_be_bytes());
     }
     r
 }

@@ -20,16 +20,7 @@ fn length_field(l: usize) -> [u8; 8]
     ensures { result ≡ big_endian 8 (length_in_bits l) }
 {
     let bits = l % 0x2000_0000_0000_0000 * 8;
-    [
-        (bits / 0x100_0000_0000_0000 % 256) as u8,
-        (bits / 0x1_0000_0000_0000 % 256) as u8,
-        (bits / 0x100_0000_0000 % 256) as u8,
-        (bits / 0x1_0000_0000 % 256) as u8,
-        (bits / 0x100_0000 % 256) as u8,
-        (bits / 0x1_0000 % 256) as u8,
-        (bits / 0x100 % 256) as u8,
-        (bits % 256) as u8,
-    ]
+    bits.to_be_bytes()
 }
 
 // How many bytes the end of a message of l bytes has with the padding behind it: those of one block, or of two.

@@ -67,10 +67,8 @@ pub fn sums(s: [u32; 8], h: [u32; 8]) -> [u32; 8]
     ensures { result ≡ added s h }
 {
     let mut r = s;
-    let mut i = 0;
-    while i < HASH_WORDS {
+    for i in 0..HASH_WORDS {
         r[i] = add(s[i], h[i]);
-        i += 1;
     }
     r
 }

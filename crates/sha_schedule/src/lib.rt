@@ -18,7 +18,7 @@ const STEP_WORDS: usize = 8;
 fn join(a: u8, b: u8, c: u8, d: u8) -> u32
     ensures { result ≡ a * 2 ^ 24 + b * 2 ^ 16 + c * 2 ^ 8 + d }
 {
-    a as u32 * 16777216 + b as u32 * 65536 + c as u32 * 256 + d as u32
+    u32::from_be_bytes([a, b, c, d])
 }
 
 // Word t of a block.
@@ -49,20 +49,15 @@ pub fn schedule_of(m: &[u8]) -> [u32; 64]
     ensures { result ≡ schedule m.now }
 {
     let mut w = [0u32; SCHEDULE_WORDS];
-    let mut t = 0;
-    while t < BLOCK_WORDS {
+    for t in 0..BLOCK_WORDS {
         w[t] = block_word(m, t);
-        t += 1;
     }
-    while t < SCHEDULE_WORDS {
-        let mut i = 0;
-        while i < STEP_WORDS {
-            let at = t + i;
+    for step in BLOCK_WORDS / STEP_WORDS..SCHEDULE_WORDS / STEP_WORDS {
+        for i in 0..STEP_WORDS {
+            let at = STEP_WORDS * step + i;
             let next = next_word(&w, at);
             w[at] = next;
-            i += 1;
         }
-        t += STEP_WORDS;
     }
     w
 }

@@ -10,7 +10,7 @@ ghost use Rattle.sha_rules.specs.Words.{◌⊞◌, rotr, Ch, Maj, Σ₀, Σ₁, 
 pub fn add(x: u32, y: u32) -> u32
     ensures { result ≡ x ⊞ y }
 {
-    ((x as u64 + y as u64) % 4294967296) as u32
+    x.wrapping_add(y)
 }
 
 // A word rotated to the right by n bits.
@@ -19,7 +19,7 @@ fn rotate(x: u32, n: u32) -> u32
     requires n_bound { n < 32 }
     ensures { result ≡ rotr n x }
 {
-    (x >> n) | (x << (32 - n))
+    x.rotate_right(n)
 }
 
 // Where a bit of x is set, the bit of y, and elsewhere that of z.

@@ -10,6 +10,7 @@ use card::{Card, STAGE_AUTHENTICATED, STAGE_CLOSED};
 use refusals::{REFUSAL_NONE, REFUSAL_UNSOUND};
 
 // What a call that gives a card answers: the refusal's number, or 0 for none, and the card.
+// A number beside the card, and no Result: `reset_answer` promises the card on a refusal too, as it was given, and the library hands both on to C.
 #[derive(Clone, Copy)]
 pub struct Answer {
     pub refusal: u8,

@@ -24,15 +24,7 @@ fn slot_within(s: Slot, most: u8) -> bool
 fn slots_within(slots: [Slot; Card::SLOTS], most: u8) -> bool
     ensures { result ≡ all_of (slot_within most) slots }
 {
-    let mut i = 0;
-    while i < Card::SLOTS {
-        let slot = slots[i];
-        if !slot_within(slot, most) {
-            return false;
-        }
-        i += 1;
-    }
-    true
+    slots.iter().all(|slot| slot_within(*slot, most))
 }
 
 pub fn pairing_sound(p: Pairing) -> bool

@@ -18,10 +18,8 @@ fn plus(c: [u32; NUMBERS], d: [u32; NUMBERS]) -> [u32; NUMBERS]
     ensures { result ≡ plus c d }
 {
     let mut sum = c;
-    let mut i = 0;
-    while i < NUMBERS {
+    for i in 0..NUMBERS {
         sum[i] = c[i] + d[i];
-        i += 1;
     }
     sum
 }

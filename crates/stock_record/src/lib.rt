@@ -34,19 +34,11 @@ fn one_at(flag: bool, byte: u8, value: u8) -> u32
 }
 
 // How many slots are used.
+#[tactic(auto, using(crate::proofs::UsedFacts::counted_used))]
 fn used_slots(slots: [Slot; Card::SLOTS]) -> u32
     ensures { result ≡ used_slots slots }
 {
-    let mut used: u32 = 0;
-    let mut i = 0;
-    while i < Card::SLOTS {
-        let slot = slots[i];
-        if slot.filled == FILLED {
-            used += 1;
-        }
-        i += 1;
-    }
-    used
+    slots.iter().filter(|slot| slot.filled == FILLED).count() as u32
 }
 
 // The count of the record for which READ gave this answer.

@@ -21,11 +21,7 @@ const FIRST_TAG: u8 = 0x40;
 fn bytes_of(n: u32) -> [u8; NUMBER_BYTES]
     ensures { result ≡ bytes_of n }
 {
-    let a = (n / 16777216 % 256) as u8;
-    let b = (n / 65536 % 256) as u8;
-    let c = (n / 256 % 256) as u8;
-    let d = (n % 256) as u8;
-    [a, b, c, d]
+    n.to_be_bytes()
 }
 
 // Writes the report of a count, and gives its length.
@@ -35,12 +31,10 @@ fn put_report(buf: &mut [u8], c: [u32; NUMBERS]) -> usize
 {
     let mut at = 0;
     let mut tag = FIRST_TAG;
-    let mut i = 0;
-    while i < NUMBERS {
-        let number = bytes_of(c[i]);
+    for n in c {
+        let number = bytes_of(n);
         at = put_field(buf, at, tag, &number);
         tag += 1;
-        i += 1;
     }
     at
 }

@@ -16,6 +16,7 @@ pub const NUMBER_BYTES: usize = 4;
 pub const REPORT_ROOM_BYTES: usize = NUMBERS * (HEAD_BYTES + NUMBER_BYTES);
 
 // What a call that gives a count answers: the refusal's number, or 0 for none, and the count.
+// A number beside the count, and no Result: `add_counts` promises the first count on a refusal too, and the library hands both on to C.
 #[derive(Clone, Copy)]
 pub struct Counted {
     pub refusal: u8,

@@ -1,7 +1,6 @@
 -- Number by number: what is said of all numbers is said of those from k on.
 -- Assumes nothing.
 use mathlib.Core.Path.{sym}
-use Prim.Native.Nat.{◌-◌}
 use native.Mathlib.Omega.{arith}
 use Rattle.phrase_rules.specs.Reverse.{from_two_bytes}
 use Rattle.phrase_rules.proofs.Numbers.{length-from_two_bytes}
@@ -15,8 +14,8 @@ returns-then-number_in-gt-NUMBER_MAX c = let words = c.args.words.now in
 
 pub loop-k-preserved : goal.loop-k-preserved
 loop-k-preserved c = let words = c.args.words.now in
-    (eleven-next (from_two_bytes words) c.loop-k.k (omega (arith, length-from_two_bytes words)) (omega (arith, c.number_in.ensures)) c.loop-k.invariant.0, omega arith)
+    eleven-next (from_two_bytes words) c.loop-k.k (omega (arith, length-from_two_bytes words)) (omega (arith, c.number_in.ensures)) c.loop-k.invariant
 
 pub returns : goal.returns
 returns c = let words = c.args.words.now in
-    sym (eleven-end (from_two_bytes words) c.loop-k.k (omega (arith, length-from_two_bytes words)) c.loop-k.invariant.0)
+    sym (eleven-end (from_two_bytes words) c.loop-k.k (omega (arith, length-from_two_bytes words)) c.loop-k.invariant)

@@ -2,12 +2,8 @@
 -- Assumes nothing.
 use Rattle.phrase_checks.proofs.in_eleven_bits.Given as goal
 use mathlib.Core.Path.{◌≡◌}
-use Prim.Native.Nat.{◌-◌, ◌≤◌}
 use lib.ListN.{drop}
 use Rattle.phrase_rules.specs.Reverse.{from_two_bytes, in_eleven_bits}
 
 abbrev pub invariant-loop-k : goal.invariant-loop-k
-invariant-loop-k l = (in_eleven_bits (from_two_bytes l.words) ≡ in_eleven_bits (drop l.k (from_two_bytes l.words))) × (l.k ≤ l.count)
-
-abbrev pub decreases-loop-k : goal.decreases-loop-k
-decreases-loop-k l = l.count - l.k
+invariant-loop-k l = in_eleven_bits (from_two_bytes l.words) ≡ in_eleven_bits (drop l.k (from_two_bytes l.words))

@@ -2,7 +2,7 @@
 -- Assumes nothing.
 use mathlib.Core.Path.{◌≡◌, refl, ap, ◌∙◌}
 use mathlib.Core.List.{[], ◌∷◌}
-use Prim.Native.Nat.{◌-◌, ◌*◌, ◌/◌, ◌%◌, ◌≤◌}
+use Prim.Native.Nat.{◌*◌, ◌/◌, ◌%◌, ◌≤◌}
 use native.Mathlib.Omega.{arith}
 use lib.ListN.{length}
 use Rattle.octets.specs.Bytes.{overwrite}
@@ -12,7 +12,7 @@ use Rattle.phrase_numbers.proofs.Streams.{stream-number, put-none, put_next, put
 use Rattle.phrase_numbers.proofs.put_numbers.Goals as goal
 
 pub loop-k-init : goal.loop-k-init
-loop-k-init c = (put-none c.args.out.now (word_numbers c.args.entropy.now), omega arith, refl)
+loop-k-init c = (put-none c.args.out.now (word_numbers c.args.entropy.now), refl)
 
 pub loop-k-preserved : goal.loop-k-preserved
 loop-k-preserved c = let e = c.args.entropy.now in
@@ -24,8 +24,7 @@ loop-k-preserved c = let e = c.args.entropy.now in
     let put : c.put.new.buf ≡ overwrite c.loop-k.out (2 * k) (c.number_at-x.result / 256 ∷ c.number_at-x.result % 256 ∷ []) = c.put.ensures ∙ ap (overwrite c.loop-k.out (2 * k)) c.two_bytes.ensures in (
       put_next c.args.out.now (word_numbers e) c.loop-k.out c.put.new.buf k c.number_at-x.result c.loop-k.invariant.0 (omega arith) (omega arith)
           (c.number_at-x.ensures.0 ∙ stream-number e c.joined-stream.result n l m c.joined-stream.ensures k (omega arith)) put,
-      omega arith,
-      put-long c.loop-k.out c.put.new.buf _ (2 * k) (omega arith) put ∙ c.loop-k.invariant.2,
+      put-long c.loop-k.out c.put.new.buf _ (2 * k) (omega arith) put ∙ c.loop-k.invariant.1,
     )
 
 pub returns : goal.returns

@@ -1,7 +1,7 @@
 -- Byte by byte: the array begins with the first k bytes of the entropy.
 -- Assumes nothing.
 use mathlib.Core.Path.{◌≡◌, ap, ◌∙◌}
-use Prim.Native.Nat.{ℕ, ◌-◌, ◌*◌, ◌/◌}
+use Prim.Native.Nat.{ℕ, ◌*◌, ◌/◌}
 use native.Mathlib.Omega.{arith}
 use lib.ListN.{length, take, length-set}
 use lib.Seq.{take_all}
@@ -19,8 +19,7 @@ loop-k-preserved c = let words = c.args.words.now in
     let long : length (entropy_in words) ≡ 4 * (length words / 6) = length-entropy_in words in (
       front-more c.loop-k.entropy (entropy_in words) k c.byte_at.result (omega arith) (omega arith) c.loop-k.invariant.0
           (c.byte_at.ensures.0 ∙ entropy-byte words k (omega arith)),
-      omega arith,
-      length-set c.loop-k.entropy k c.byte_at.result ∙ c.loop-k.invariant.2,
+      length-set c.loop-k.entropy k c.byte_at.result ∙ c.loop-k.invariant.1,
     )
 
 pub returns : goal.returns

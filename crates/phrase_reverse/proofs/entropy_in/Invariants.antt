@@ -2,12 +2,8 @@
 -- Assumes nothing.
 use Rattle.phrase_reverse.proofs.entropy_in.Given as goal
 use mathlib.Core.Path.{◌≡◌}
-use Prim.Native.Nat.{◌-◌, ◌≤◌}
 use lib.ListN.{length, take}
 use Rattle.phrase_rules.specs.Reverse.{entropy_in}
 
 abbrev pub invariant-loop-k : goal.invariant-loop-k
-invariant-loop-k l = (take l.k l.entropy ≡ take l.k (entropy_in l.words)) × (l.k ≤ l.end) × (length l.entropy ≡ 32)
-
-abbrev pub decreases-loop-k : goal.decreases-loop-k
-decreases-loop-k l = l.end - l.k
+invariant-loop-k l = (take l.k l.entropy ≡ take l.k (entropy_in l.words)) × (length l.entropy ≡ 32)

@@ -1,16 +1,22 @@
--- The bytes are filled one by one. Invariant: those passed are the first of `fit`.
+-- What there is is copied, and the rest is zero: these are the parts of `fit`.
 -- Assumes nothing.
-use mathlib.Core.Path.{◌≡◌, sym, ap, ◌∙◌}
-use Prim.Native.Nat.{ℕ, ◌-◌}
-use native.Mathlib.Omega.{arith}
-use lib.ListN.{length, length-set}
-use lib.Seq.{take_all}
-use Rattle.record_rules.specs.Parse.{fit}
-use Rattle.record_spans.proofs.PlaceFacts.{fit-suc}
+use Rattle.std.proofs.Common.{arith, ◌≡◌, refl, ap, ◌∙◌, length, ℕ, List, take, drop, replicate, ◌++◌, ◌-◌, length-append}
+use lib.ListN.{length-drop}
+use lib.Seq.{length-take-le}
+use Rattle.record_spans.proofs.PlaceFacts.{filled_parts}
 use Rattle.record_spans.proofs.fill.Goals as goal
 
-pub loop-i-preserved : goal.loop-i-preserved
-loop-i-preserved c = (simp length-set c.loop-i.invariant.0, (omega arith, rw c.byte_or_zero-b.ensures (fit-suc c.args.src.now c.loop-i.dst c.loop-i.i c.loop-i-test.true c.loop-i.invariant.1.1)))
-
 pub returns : goal.returns
-returns c = let e : c.loop-i.i ≡ length c.args.dst.now = omega arith in sym (take_all c.loop-i.i c.loop-i.dst (omega arith)) ∙ c.loop-i.invariant.1.1 ∙ ap (λ (n : ℕ). fit n c.args.src.now) e
+returns c =
+    let dst : List ℕ = c.args.dst.now in
+    let src : List ℕ = c.args.src.now in
+    let t : ℕ = c.min-taken.result in
+    let a : List ℕ = c.copy_from_slice.new.self in
+    let copied : a ≡ take t src = c.copy_from_slice.ensures.after in
+    let long : length a ≡ t = ap length copied ∙ length-take-le t src (omega (arith, c.min-taken.ensures)) in
+    let back : List ℕ = a ++ drop t dst in
+    let whole : length back ≡ length dst = length-append a (drop t dst) ∙ omega (arith, length-drop t dst, c.min-taken.ensures) in
+    let room : length (take (length back - t) (drop t back)) ≡ length dst - t =
+    length-take-le (length back - t) (drop t back) (omega (arith, length-drop t back)) ∙ ap (λ (n : ℕ). n - t) whole in
+    filled_parts (length dst) t _ dst src a c.fill.new.self refl c.min-taken.ensures copied
+    (c.fill.ensures.after (λ y e. e) ∙ ap (λ (k : ℕ). replicate k 0) room) (omega (arith, whole))

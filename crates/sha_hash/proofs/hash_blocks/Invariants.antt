@@ -2,12 +2,9 @@
 -- Assumes nothing.
 use Rattle.sha_hash.proofs.hash_blocks.Given as goal
 use mathlib.Core.Path.{◌≡◌}
-use Prim.Native.Nat.{◌-◌, ◌/◌, ◌%◌, ◌≤◌}
+use Prim.Native.Nat.{◌-◌, ◌*◌, ◌/◌}
 use lib.ListN.{length, drop}
 use Rattle.sha_rules.specs.Hash.{blocks}
 
 abbrev pub invariant-loop-i : goal.invariant-loop-i
-invariant-loop-i l = (blocks ((length l.s - l.i) / 64) l.v (drop l.i l.s) ≡ blocks (length l.s / 64) l.initial.v l.s) × (l.i % 64 ≡ 0) × (l.i ≤ length l.s)
-
-abbrev pub decreases-loop-i : goal.decreases-loop-i
-decreases-loop-i l = length l.s - l.i
+invariant-loop-i l = blocks ((length l.s - 64 * l.i) / 64) l.v (drop (64 * l.i) l.s) ≡ blocks (length l.s / 64) l.initial.v l.s

@@ -1,4 +1,4 @@
--- A sum in 64 bits, cut to its lowest 32, is the sum modulo 2^32.
+-- The library's sum that wraps is the sum modulo 2^32.
 -- Assumes nothing.
 use Rattle.std.proofs.Common.{rules}
 use Rattle.sha_rules.specs.Words.{◌⊞◌}

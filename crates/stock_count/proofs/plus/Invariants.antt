@@ -7,6 +7,3 @@ use Rattle.stock_rules.specs.Counts.{number_count, plus}
 
 abbrev pub invariant-loop-i : goal.invariant-loop-i
 invariant-loop-i l = Filled number_count (plus l.c l.d) l.sum l.i
-
-abbrev pub decreases-loop-i : goal.decreases-loop-i
-decreases-loop-i l = number_count - l.i
