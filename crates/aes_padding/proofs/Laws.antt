@@ -1,16 +1,16 @@
 -- The laws of padding, for every length: a padded length is the next multiple of 16 that is larger; no two lists are padded alike; unpadding
 -- gives back what was padded, and what unpads is the padding of what it unpads to.
 -- Assumes nothing.
-use mathlib.Core.Path.{◌≡◌, refl, sym, ap, ap₂, ◌∙◌, subst}
+use mathlib.Core.Path.{◌≡◌, refl, sym, ap, ap₂, ◌∙◌}
 use mathlib.Core.Bool.{Bool, true, false}
-use mathlib.Core.List.{List, [], ◌∷◌, ◌++◌}
+use mathlib.Core.List.{List, ◌∷◌}
 use mathlib.Core.Logic.{◌⊎◌, inl, inr}
 use mathlib.Core.Option.{Option, none, some}
-use Prim.Native.Nat.{ℕ, zero, suc, ◌+◌, ◌-◌, ◌*◌, ◌/◌, ◌%◌, ◌≤◌, ◌<◌}
+use Prim.Native.Nat.{ℕ, zero, suc, ◌+◌, ◌-◌, ◌%◌, ◌≤◌, ◌<◌}
 use native.Mathlib.Decide.{dec_lt}
 use native.Mathlib.Omega.{arith}
-use lib.ListN.{length, take, drop, get_or, replicate, length-append, length-replicate}
-use lib.Seq.{take_at, get_or_at, get_or-append-add, length-take-le}
+use lib.ListN.{length, take, get_or, replicate, length-append, length-replicate}
+use lib.Seq.{take_at, get_or_at, get_or-append-add}
 use Rattle.octets.specs.Bytes.{Bytes, same_bytes}
 use Rattle.octets.proofs.Lists.{bytes-append, bytes-replicate, same_refl, same-eq}
 use Rattle.aes_padding.specs.Padding.{padded_bytes, pad, pick, unpad_from, unpad}

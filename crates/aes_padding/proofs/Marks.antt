@@ -1,26 +1,20 @@
 -- What a search for the mark, from the end of a list, may conclude from what it saw.
 -- Assumes nothing.
-use mathlib.Core.Path.{◌≡◌, refl, sym, ap, ◌∙◌}
-use mathlib.Core.List.{List, ◌∷◌, ◌++◌}
-use Prim.Native.Nat.{ℕ, suc, ◌+◌, ◌-◌, ◌%◌, ◌≤◌, ◌<◌}
+use mathlib.Core.Path.{◌≡◌, sym, ap, ◌∙◌}
+use mathlib.Core.List.{List, ◌∷◌}
+use Prim.Native.Nat.{ℕ, ◌+◌, ◌-◌, ◌%◌, ◌≤◌, ◌<◌}
 use native.Mathlib.Decide.{dec_lt}
 use native.Mathlib.Omega.{arith}
-use lib.ListN.{length, take, get_or, replicate, get_or-append}
-use lib.Seq.{ext_get_or, get_or-take, length-take-le}
+use lib.ListN.{length, take, drop, get_or, replicate, get_or-append, get_or-eq_default, length-drop}
+use lib.Seq.{ext_get_or, get_or-take, length-take-le, take_all}
+use Rattle.std.proofs.lemmas.List.{get_or-drop}
 use Rattle.aes_padding.specs.Padding.{padded_bytes, pad, unpad, answer}
-use Rattle.aes_padding.specs.declared.Unpadded.TheVariants.{Bytes, Wrong}
+use Rattle.std.specs.Prelude.{Some, None}
 use Rattle.aes_padding.proofs.Laws.{length-pad, mark-at, zeros-behind, padded-whole, padded-larger, padded-within, padded-next, unpad-pad, unpad-none}
 
 -- only zeros from byte n on
 abbrev pub Zeros : List ℕ → ℕ → Type 0
 Zeros ys n = (k : ℕ) → n ≤ k → get_or ys k 0 ≡ 0
-
-pub zeros-more : (ys : List ℕ) (n : ℕ) → 0 < n → get_or ys (n - 1) 0 ≡ 0 → Zeros ys n → Zeros ys (n - 1)
-zeros-more ys n h e z k l =
-    elim (dec_lt (n - 1) k) [
-      | yes p ↦ z k (omega arith)
-      | no p ↦ let here : k ≡ n - 1 = omega arith in ap (λ (m : ℕ). get_or ys m 0) here ∙ e
-    ]
 
 front : (xs : List ℕ) (k : ℕ) → k < length xs → get_or (pad xs) k 0 ≡ get_or xs k 0
 unfolding pad
@@ -51,14 +45,14 @@ module _ (ys : List ℕ) (j : ℕ) (within : j < length ys) (whole : length ys %
         ]
       ]
 
-  pub marked : Bytes j ≡ answer (unpad ys)
+  pub marked : Some j ≡ answer (unpad ys)
   marked =
-      ap Bytes (sym long)
+      ap Some (sym long)
       ∙ ap answer (sym (unpad-pad xs))
       ∙ ap (λ (l : List ℕ). answer (unpad l)) (sym (ext_get_or 0 ys (pad xs) same-long each))
 
 -- ---- no padding
-pub refused : (ys : List ℕ) → ((xs : List ℕ) → ys ≡ pad xs → ⊥) → Wrong ≡ answer (unpad ys)
+pub refused : (ys : List ℕ) → ((xs : List ℕ) → ys ≡ pad xs → ⊥) → None ≡ answer (unpad ys)
 refused ys h = sym (ap answer (unpad-none ys h))
 
 pub not-whole : (ys : List ℕ) → (length ys % 16 ≡ 0 → ⊥) → (xs : List ℕ) → ys ≡ pad xs → ⊥
@@ -86,3 +80,26 @@ blank ys n h zeros xs e =
     let no-mark : ◌≡◌ {A = ℕ} 128 0 =
     sym (mark-at xs) ∙ ap (λ (m : List ℕ). get_or m (length xs) 0) (sym e) ∙ zeros (length xs) (omega (arith, padded-within (length xs))) in
     omega arith
+
+-- ---- the last byte that is not zero, of the part from byte a on
+tail : (ys : List ℕ) (a : ℕ) → take (length ys - a) (drop a ys) ≡ drop a ys
+tail ys a = take_all (length ys - a) (drop a ys) (omega (arith, length-drop a ys))
+
+pub tail-length : (ys : List ℕ) (a : ℕ) → length (take (length ys - a) (drop a ys)) ≡ length ys - a
+tail-length ys a = ap length (tail ys a) ∙ length-drop a ys
+
+pub tail-at : (ys : List ℕ) (a i : ℕ) → get_or ys (a + i) 0 ≡ get_or (take (length ys - a) (drop a ys)) i 0
+tail-at ys a i = sym (get_or-drop a ys i 0) ∙ ap (λ (t : List ℕ). get_or t i 0) (sym (tail ys a))
+
+pub tail-zeros : (ys : List ℕ) (a i : ℕ) → ((k : ℕ) → i ≤ k → k < length (take (length ys - a) (drop a ys)) → get_or (take (length ys - a) (drop a ys)) k 0 ≡ 0)
+    → (m : ℕ) → m ≡ a + i → Zeros ys m
+tail-zeros ys a i h m e k l =
+    elim (dec_lt k (length ys)) [
+      | yes p ↦
+          let j : a + (k - a) ≡ k = omega arith in
+          ap (λ (n : ℕ). get_or ys n 0) (sym j) ∙ tail-at ys a (k - a) ∙ h (k - a) (omega arith) (omega (arith, tail-length ys a))
+      | no p ↦ get_or-eq_default ys 0 (omega arith)
+    ]
+
+pub too-short : (ys : List ℕ) → length ys % 16 ≡ 0 → (16 ≤ length ys → ⊥) → (xs : List ℕ) → ys ≡ pad xs → ⊥
+too-short ys w h = not-empty ys (omega arith)

@@ -1,9 +1,9 @@
 -- Padding to whole blocks of 16 bytes: ISO/IEC 9797-1, padding method 2 (RULES 7.5). Lengths are in bytes.
-use Rattle.std.specs.Prelude.{ℕ, zero, suc, ◌+◌, ◌-◌, ◌%◌, Bool, true, false, List, ◌∷◌, ◌++◌, length, take, replicate}
+use Rattle.std.specs.Prelude.{ℕ, zero, suc, ◌+◌, ◌-◌, ◌%◌, ◌<◌, ◌≡◌, Bool, true, false, List, ◌∷◌, ◌++◌, length, take, replicate}
 use Rattle.std.proofs.Math.Option.{Option, none, some}
 use Rattle.octets.specs.Bytes.{same_bytes}
-use Rattle.aes_padding.specs.declared.Unpadded.{Unpadded}
-use Rattle.aes_padding.specs.declared.Unpadded.TheVariants.{Bytes, Wrong}
+use Rattle.std.specs.Prelude as rust
+use Rattle.std.specs.Prelude.{MatchOption, slice_index}
 
 -- the length of n bytes when they are padded
 unfoldable pub padded_bytes : ℕ → ℕ
@@ -28,6 +28,12 @@ unfoldable pub unpad : List ℕ → Option (List ℕ)
 unpad ys = unpad_from 16 ys
 
 -- what the code answers: how many bytes the data has, or that there is none
-abbrev pub answer : Option (List ℕ) → Unpadded
-answer (some xs) = Bytes (length xs)
-answer none = Wrong
+abbrev pub answer : Option (List ℕ) → rust.Option ℕ
+answer (some xs) = rust.Some (length xs)
+answer none = rust.None
+
+-- the place of the last byte that is not zero; where there is none, all are
+abbrev pub LastNonzero : List ℕ → rust.Option ℕ → Type 0
+LastNonzero s r =
+    MatchOption r ((k : ℕ) → k < length s → slice_index s k ≡ 0)
+    (λ i. (i < length s) × (slice_index s i ≡ 0 → ⊥) × ((k : ℕ) → i < k → k < length s → slice_index s k ≡ 0))

@@ -5,19 +5,12 @@
 
 ghost use Rattle.std.specs.Prelude.{◌≡◌, ◌≤◌, length, take};
 ghost use Rattle.octets.specs.Bytes.{written};
-ghost use Rattle.aes_padding.specs.Padding.{padded_bytes, pad, unpad, answer};
+ghost use Rattle.aes_padding.specs.Padding.{padded_bytes, pad, unpad, answer, LastNonzero};
 
 use octets::BLOCK_BYTES;
 
 // The byte that padding begins with.
 pub const PADDING_MARK: u8 = 0x80;
-
-// What unpadding finds: the data's length in bytes, or that the padding is wrong.
-#[derive(Clone, Copy)]
-pub enum Unpadded {
-    Bytes(usize),
-    Wrong,
-}
 
 // The length of data_bytes bytes of data when they are padded: the next multiple of 16 that is larger.
 pub fn padded_bytes(data_bytes: usize) -> usize
@@ -35,36 +28,30 @@ pub fn pad_in_place(buf: &mut [u8], data_bytes: usize) -> usize
 {
     let end = data_bytes + (BLOCK_BYTES - data_bytes % BLOCK_BYTES);
     buf[data_bytes] = PADDING_MARK;
-    let mut i = data_bytes + 1;
-    while i < end {
-        buf[i] = 0;
-        i += 1;
-    }
+    buf[data_bytes + 1..end].fill(0);
     end
 }
 
+// The place of the last byte that is not zero.
+fn last_nonzero(s: &[u8]) -> Option<usize>
+    ensures { LastNonzero s.now result }
+{
+    s.iter().rposition(|b| *b != 0)
+}
+
 // How many bytes of buf are data, the rest being padding. It looks from the end, at no more than the last block.
-pub fn find_data(buf: &[u8]) -> Unpadded
+pub fn find_data(buf: &[u8]) -> Option<usize>
     ensures { result ≡ answer (unpad buf.now) }
 {
     let end = buf.len();
     if end % BLOCK_BYTES != 0 {
-        return Unpadded::Wrong;
+        return None;
     }
-    if end == 0 {
-        return Unpadded::Wrong;
+    let start = end.checked_sub(BLOCK_BYTES)?;
+    let mark = start + last_nonzero(&buf[start..])?;
+    if buf[mark] == PADDING_MARK {
+        Some(mark)
+    } else {
+        None
     }
-    let start = end - BLOCK_BYTES;
-    let mut i = end;
-    while start < i {
-        i -= 1;
-        let b = buf[i];
-        if b == PADDING_MARK {
-            return Unpadded::Bytes(i);
-        }
-        if b != 0 {
-            return Unpadded::Wrong;
-        }
-    }
-    Unpadded::Wrong
 }

@@ -13,9 +13,13 @@ use channel_rules::Session;
 pub fn session_of(channel: Channel) -> Session
     ensures { result ≡ session_of channel }
 {
-    let enc_key = channel.enc_key;
-    let mac_key = channel.mac_key;
-    let iv = channel.iv;
+    // Written by hand: both types are of other crates, and an impl of From may stand only in one of theirs.
+    let Channel {
+        enc_key,
+        mac_key,
+        iv,
+        ..
+    } = channel;
     Session {
         enc_key,
         mac_key,
@@ -27,8 +31,6 @@ pub fn session_of(channel: Channel) -> Session
 pub fn with_mac(mut card: Card, mac: [u8; 16]) -> Card
     ensures { result ≡ with_mac card mac }
 {
-    let mut channel = card.channel;
-    channel.iv = mac;
-    card.channel = channel;
+    card.channel.iv = mac;
     card
 }

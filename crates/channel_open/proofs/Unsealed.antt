@@ -12,19 +12,24 @@ use Rattle.octets.specs.Bytes.{overwrite, same_bytes}
 use Rattle.aes_rules.specs.Aes.{aes256, inv_aes256}
 use Rattle.aes_cbc.specs.Mode.{cbc_decrypt, cbc_mac}
 use Rattle.aes_padding.specs.Padding.{unpad, answer}
-use Rattle.aes_padding.specs.declared.Unpadded.TheVariants as found
+use Rattle.std.specs.Prelude as rust
 use Rattle.aes_padding.proofs.Laws.{unpad-front, unpad-shorter, padded-larger}
 use Rattle.channel_rules.specs.declared.Session.{Session}
-use Rattle.channel_rules.specs.declared.Opening.TheVariants as opening
-use Rattle.channel_rules.specs.Message.{mac_of, field_form, provided, opened, open_field, opening_of, OpeningOut, opened_to, field_out, opening_out}
-use Rattle.channel_rules.specs.declared.Opening.{Opening}
+use Rattle.channel_rules.specs.Message.{mac_of, field_form, provided, opened, open_field, opened_to}
 use Rattle.channel_open.specs.Promise.{Opens}
 use Rattle.channel_heads.proofs.Tails.{tail-is}
 
+-- what was found in a plaintext is what the opening finds
+pub opens-found : (o : Option (List ℕ)) (r : rust.Option ℕ) (plain : List ℕ) → r ≡ answer o → ((x : List ℕ) → o ≡ some x → x ≡ take (length x) plain)
+    → ((x : List ℕ) → o ≡ some x → length x ≤ 223) → Opens o r plain
+opens-found none r plain e f g = rw e (record { told = refl; says = refl; left = f; short = g })
+opens-found (some x) r plain e f g = rw e (record { told = refl; says = ap opened_to (sym (f x refl)); left = f; short = g })
+
 -- nothing is opened
-pub opens-none : (o : Option (List ℕ)) (plain : List ℕ) → o ≡ none → Opens o opening.Refused plain
+pub opens-none : (o : Option (List ℕ)) (plain : List ℕ) → o ≡ none → Opens o rust.None plain
 opens-none o plain e =
-    record { told = sym (ap opening_of e); says = sym (ap field_out e); left = λ x f. let z : ◌≡◌ {A = ℕ} 0 1 = cc in absurd (omega arith); short = λ x f. let z : ◌≡◌ {A = ℕ} 0 1 = cc in absurd (omega arith) }
+    let no : (x : List ℕ) → o ≡ some x → ⊥ = λ x f. (let z : ◌≡◌ {A = ℕ} 0 1 = cc in omega arith) in
+    opens-found o rust.None plain (sym (ap answer e)) (λ x f. absurd (no x f)) (λ x f. absurd (no x f))
 
 module _ (s : Session) (head field : List ℕ) where
   abbrev test : Bool
@@ -33,48 +38,22 @@ module _ (s : Session) (head field : List ℕ) where
   abbrev plaintext : List ℕ
   plaintext = cbc_decrypt (inv_aes256 s.enc_key) s.iv (drop 16 field)
 
-  pub mac-differs : (plain : List ℕ) → test ≡ false → Opens (opened s head field) opening.Refused plain
+  pub mac-differs : (plain : List ℕ) → test ≡ false → Opens (opened s head field) rust.None plain
   mac-differs plain e = opens-none (opened s head field) plain (ap (λ (b : Bool). provided b (unpad plaintext)) e)
 
   opened-is : test ≡ true → opened s head field ≡ unpad plaintext
   opened-is e = ap (λ (b : Bool). provided b (unpad plaintext)) e
 
-  none_of : (o : Option (List ℕ)) → found.Wrong ≡ answer o → o ≡ none
-  none_of none e = refl
-  none_of (some x) e = let z : ◌≡◌ {A = ℕ} 0 1 = cc in absurd (omega arith)
-
-  pub padding-wrong : (plain : List ℕ) → test ≡ true → found.Wrong ≡ answer (unpad plaintext) → Opens (opened s head field) opening.Refused plain
-  padding-wrong plain e f = opens-none (opened s head field) plain (opened-is e ∙ none_of (unpad plaintext) f)
-
-  length-of : (o : Option (List ℕ)) (n : ℕ) → found.Bytes n ≡ answer o → opening.Bytes n ≡ opening_of o
-  length-of none n e = let z : ◌≡◌ {A = ℕ} 0 1 = cc in absurd (omega arith)
-  length-of (some x) n e = let l : n ≡ length x = cc in ap opening.Bytes l
-
-  says_of : (o : Option (List ℕ)) (n : ℕ) (plain : List ℕ) → found.Bytes n ≡ answer o → ((x : List ℕ) → o ≡ some x → x ≡ take (length x) plain)
-      → opening_out plain (opening.Bytes n) ≡ field_out o
-  says_of none n plain e f = let z : ◌≡◌ {A = ℕ} 0 1 = cc in absurd (omega arith)
-  says_of (some x) n plain e f =
-      let l : n ≡ length x = cc in
-      ap opened_to (ap (λ (k : ℕ). take k plain) l ∙ sym (f x refl))
-
-  pub padding-right : (y rest : List ℕ) (n : ℕ) → length y ≤ 224 → test ≡ true → y ≡ plaintext → found.Bytes n ≡ answer (unpad plaintext)
-      → Opens (opened s head field) (opening.Bytes n) (y ++ rest)
-  padding-right y rest n ly e ey f =
-      record {
-        told = length-of (unpad plaintext) n f ∙ ap opening_of (sym (opened-is e));
-        says = says_of (unpad plaintext) n (y ++ rest) f front ∙ ap field_out (sym (opened-is e));
-        left = λ x o. front x (sym (opened-is e) ∙ o);
-        short = λ x o. small x (sym (opened-is e) ∙ o);
-      }
-    where
-      small : (x : List ℕ) → unpad plaintext ≡ some x → length x ≤ 223
-      small x o = omega (arith, ap length ey, unpad-shorter x plaintext o, padded-larger (length x))
-
-      front : (x : List ℕ) → unpad plaintext ≡ some x → x ≡ take (length x) (y ++ rest)
-      front x o =
-          unpad-front x plaintext o
-          ∙ ap (take (length x)) (sym ey)
-          ∙ sym (take-append-le (length x) y rest (omega (arith, ap length ey, unpad-shorter x plaintext o, padded-larger (length x))))
+  pub padding-found : (y rest : List ℕ) (r : rust.Option ℕ) → length y ≤ 224 → test ≡ true → y ≡ plaintext → r ≡ answer (unpad plaintext)
+      → Opens (opened s head field) r (y ++ rest)
+  padding-found y rest r ly e ey f =
+      rw (opened-is e)
+      (opens-found (unpad plaintext) r (y ++ rest) f
+      (λ x o.
+      unpad-front x plaintext o
+      ∙ ap (take (length x)) (sym ey)
+      ∙ sym (take-append-le (length x) y rest (omega (arith, ap length ey, unpad-shorter x plaintext o, padded-larger (length x)))))
+      (λ x o. omega (arith, ap length ey, unpad-shorter x plaintext o, padded-larger (length x))))
 
   -- ---- what the code compared, deciphered and searched
   pub compared : (mac : List ℕ) (r : Bool) → mac ≡ cbc_mac (aes256 s.mac_key) (head ++ take (length field - 16) (drop 16 field))
@@ -104,14 +83,19 @@ module _ (s : Session) (head field : List ℕ) where
 
 -- ---- a field whose length was looked at first
 module _ (s : Session) (head : ℕ → List ℕ) (field : List ℕ) where
-  pub opens-formed : (h : List ℕ) (r : Opening) (plain : List ℕ) → field_form (length field) ≡ true → h ≡ head (length field - 16)
+  pub opens-formed : (h : List ℕ) (r : rust.Option ℕ) (plain : List ℕ) → field_form (length field) ≡ true → h ≡ head (length field - 16)
       → Opens (opened s h field) r plain → Opens (open_field s head field) r plain
   unfolding open_field
   opens-formed h r plain f e o =
       subst (λ (x : Option (List ℕ)). Opens x r plain)
       (ap (λ (y : List ℕ). opened s y field) e ∙ sym (ap (λ (b : Bool). provided b (opened s (head (length field - 16)) field)) f)) o
 
-  pub opens-unformed : (plain : List ℕ) → field_form (length field) ≡ false → Opens (open_field s head field) opening.Refused plain
+  pub opens-unformed : (plain : List ℕ) → (field_form (length field) ≡ true → ⊥) → Opens (open_field s head field) rust.None plain
   unfolding open_field
-  opens-unformed plain f =
-      opens-none (open_field s head field) plain (ap (λ (b : Bool). provided b (opened s (head (length field - 16)) field)) f)
+  opens-unformed plain h =
+      opens-none (open_field s head field) plain
+      (ap (λ (b : Bool). provided b (opened s (head (length field - 16)) field)) (unless-true (field_form (length field)) h))
+    where
+      unless-true : (b : Bool) → (b ≡ true → ⊥) → b ≡ false
+      unless-true true k = absurd (k refl)
+      unless-true false k = refl

@@ -2,9 +2,9 @@
 -- Assumes nothing.
 use mathlib.Core.Path.{◌≡◌, refl, sym, ap, ap₂, ◌∙◌}
 use mathlib.Core.Bool.{Bool, true, false, cond}
-use mathlib.Core.List.{List, [], ◌∷◌, ◌++◌}
+use mathlib.Core.List.{List, ◌++◌}
 use mathlib.Core.Option.{Option, none, some}
-use Prim.Native.Nat.{ℕ, ◌+◌, ◌-◌, ◌≤◌, ◌<◌}
+use Prim.Native.Nat.{ℕ, ◌-◌, ◌≤◌, ◌<◌}
 use native.Mathlib.Omega.{arith}
 use borrow.Author.Tests.{ltb-false}
 use lib.Dec.{ltb}
@@ -13,9 +13,9 @@ use Rattle.refusals.specs.Refusals.{no_refusal, no_room, not_genuine, unseal_roo
 use Rattle.octets.specs.Bytes.{Bytes, same_bytes}
 use Rattle.octets.proofs.Lists.{bytes_take, same-eq}
 use Rattle.channel_rules.specs.declared.Session.{Session}
-use Rattle.channel_rules.specs.Message.{Keyed, with_iv, response_head, field_mac, seal_field, open_field}
+use Rattle.channel_rules.specs.Message.{Keyed, with_iv, response_head, seal_field, open_field}
 use Rattle.channel_rules.specs.Terminal.{Out, refused, plain_success, sealed_response, sealed_field, unsealed, unseal_out}
-use Rattle.channel_rules.proofs.Fields.{seal-open, opened-short}
+use Rattle.channel_rules.proofs.Fields.{seal-open}
 
 -- ---- a choice that is not refused
 not-refused : (b : Bool) (s : Session) (n : ℕ) (y : Out) → 0 < n → (cond b (refused s n) y).refusal ≡ no_refusal → b ≡ false

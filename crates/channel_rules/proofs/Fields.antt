@@ -1,11 +1,10 @@
 -- A field that was sealed opens to its data, and a field that opens is the sealing of its data: for every data length that a field holds.
 -- Assumes nothing.
-use mathlib.Core.Path.{◌≡◌, refl, sym, ap, ap₂, ◌∙◌, subst}
+use mathlib.Core.Path.{◌≡◌, refl, sym, ap, ap₂, ◌∙◌}
 use mathlib.Core.Bool.{Bool, true, false, ◌&&◌}
-use mathlib.Core.List.{List, [], ◌∷◌, ◌++◌}
-use mathlib.Core.Logic.{◌⊎◌, inl, inr}
-use mathlib.Core.Option.{Option, none, some}
-use Prim.Native.Nat.{ℕ, ◌+◌, ◌-◌, ◌%◌, ◌≤◌, ◌<◌}
+use mathlib.Core.List.{List, ◌++◌}
+use mathlib.Core.Option.{Option, some}
+use Prim.Native.Nat.{ℕ, ◌+◌, ◌-◌, ◌%◌, ◌≤◌}
 use native.Mathlib.Omega.{arith}
 use borrow.Author.Tests.{le-leb, leb-true, eq-eqb, eqb-true}
 use lib.Dec.{leb, eqb}
@@ -19,7 +18,7 @@ use Rattle.aes_rules.proofs.Permutation.{aes-permutes}
 use Rattle.aes_cbc.specs.Mode.{cbc_encrypt, cbc_decrypt}
 use Rattle.aes_cbc.proofs.Laws.{length-cbc-encrypt, bytes-cbc-encrypt, length-cbc-decrypt, aes-cbc-decrypt-encrypt, aes-cbc-encrypt-decrypt, cbc-mac-block}
 use Rattle.aes_padding.specs.Padding.{padded_bytes, pad, unpad}
-use Rattle.aes_padding.proofs.Laws.{padded-whole, padded-larger, padded-within, padded-next, length-pad, bytes-pad, unpad-pad, pad-unpad}
+use Rattle.aes_padding.proofs.Laws.{padded-whole, padded-larger, padded-next, length-pad, bytes-pad, unpad-pad, pad-unpad}
 use Rattle.channel_rules.specs.declared.Session.{Session}
 use Rattle.channel_rules.specs.Message.{Keyed, ciphertext, mac_of, field_mac, seal_field, field_form, provided, opened, open_field}
 

@@ -1,14 +1,13 @@
 -- A field that was sealed under another head block, with the same session, does not open; UNSEAL refuses a response that was sealed so.
 -- Assumes nothing.
 use mathlib.Core.Path.{◌≡◌, refl, sym, ap, ap₂, ◌∙◌}
-use mathlib.Core.Bool.{Bool, true, false, cond}
-use mathlib.Core.List.{List, [], ◌∷◌, ◌++◌}
+use mathlib.Core.Bool.{Bool, cond}
+use mathlib.Core.List.{List, ◌++◌}
 use mathlib.Core.Option.{Option, none, some}
 use Prim.Native.Nat.{ℕ, ◌-◌, ◌%◌, ◌≤◌, ◌<◌}
 use native.Mathlib.Omega.{arith}
 use borrow.Author.Tests.{le-ltb, lt-ltb}
-use lib.Dec.{ltb}
-use lib.ListN.{length, take, drop}
+use lib.ListN.{length, drop}
 use Rattle.refusals.specs.Refusals.{no_room, not_genuine, unseal_room, data_most}
 use Rattle.octets.specs.Bytes.{Bytes, Block, same_bytes}
 use Rattle.octets.proofs.Lists.{same_refl}

@@ -2,25 +2,23 @@
 -- bytes; both ends then hold the same session; for every data length from 0 to 223 bytes (2 to 223 with a status word). Last, a whole
 -- exchange.
 -- Assumes nothing.
-use mathlib.Core.Path.{◌≡◌, refl, sym, ap, ap₂, ◌∙◌}
-use mathlib.Core.Bool.{Bool, true, false, cond}
+use mathlib.Core.Path.{◌≡◌, refl, sym, ap, ◌∙◌}
+use mathlib.Core.Bool.{Bool, cond}
 use mathlib.Core.List.{List, [], ◌∷◌, ◌++◌, append_assoc}
-use mathlib.Core.Option.{Option, none, some}
-use Prim.Native.Nat.{ℕ, ◌+◌, ◌-◌, ◌≤◌, ◌<◌}
+use mathlib.Core.Option.{some}
+use Prim.Native.Nat.{ℕ, ◌-◌, ◌≤◌}
 use native.Mathlib.Omega.{arith}
 use borrow.Author.Tests.{le-ltb}
-use lib.Dec.{ltb}
 use lib.ListN.{length, take, drop, replicate, length-append}
 use lib.Seq.{take_at, drop_at}
 use Rattle.refusals.specs.Refusals.{no_refusal, no_room, not_genuine, seal_room, unseal_room, data_most}
 use Rattle.octets.specs.Bytes.{Bytes, Block, same_bytes}
 use Rattle.octets.proofs.Lists.{bytes-append, bytes-replicate, same_refl}
-use Rattle.aes_padding.specs.Padding.{padded_bytes}
 use Rattle.aes_padding.proofs.Laws.{padded-next}
 use Rattle.channel_rules.specs.declared.Session.{Session}
 use Rattle.channel_rules.specs.Message.{Keyed, with_iv, lc, lr, command_head, response_head, ciphertext, field_mac, seal_field, open_field}
 use Rattle.channel_rules.specs.Terminal.{Out, refused, sealed_command, seal_out, plain_success, sealed_response, sealed_field, unsealed, unseal_out}
-use Rattle.channel_rules.proofs.Fields.{length-ciphertext, field-mac-block, length-field, bytes-field, take-field, drop-field, open-seal}
+use Rattle.channel_rules.proofs.Fields.{length-ciphertext, field-mac-block, length-field, take-field, open-seal}
 
 -- the header of a command: 4 bytes
 pub record Header (header : List ℕ) : Type 0 where

@@ -1,15 +1,14 @@
 -- The sealed message (RULES 8). A field is a MAC of 16 bytes and directly after it the ciphertext. Every length, Lc and Lr included, is a
 -- number of bytes.
 use Rattle.std.specs.Prelude.{ℕ, ◌+◌, ◌-◌, ◌%◌, Bool, true, false, ◌&&◌, List, [], ◌∷◌, ◌++◌, leb, eqb, length, take, drop, replicate}
+use Rattle.std.specs.Prelude as rust
 use Rattle.std.proofs.Math.Option.{Option, none, some}
 use Rattle.refusals.specs.Refusals.{no_refusal, not_genuine}
-use Rattle.octets.specs.Bytes.{Bytes, Block, same_bytes}
+use Rattle.octets.specs.Bytes.{Block, same_bytes}
 use Rattle.aes_rules.specs.Aes.{aes256, inv_aes256, Key}
 use Rattle.aes_cbc.specs.Mode.{cbc_encrypt, cbc_decrypt, cbc_mac}
 use Rattle.aes_padding.specs.Padding.{pad, unpad}
 use Rattle.channel_rules.specs.declared.Session.{Session}
-use Rattle.channel_rules.specs.declared.Opening.{Opening}
-use Rattle.channel_rules.specs.declared.Opening.TheVariants as opening
 
 -- a session as the code holds it (RULES 8.1): keys of 32 bytes and an IV of 16 bytes. Every value of the code's type is one (crate
 -- `channel_types`)
@@ -67,9 +66,9 @@ unfoldable pub open_field : Session → (ℕ → List ℕ) → List ℕ → Opti
 open_field s head field = provided (field_form (length field)) (opened s (head (length field - 16)) field)
 
 -- what the code answers: the opened data's length, or that the field does not open
-abbrev pub opening_of : Option (List ℕ) → Opening
-opening_of (some data') = opening.Bytes (length data')
-opening_of none = opening.Refused
+abbrev pub opening_of : Option (List ℕ) → rust.Option ℕ
+opening_of (some data') = rust.Some (length data')
+opening_of none = rust.None
 
 -- what an opening means at each end (RULES 8.4): the opened data; where there is none, the card gives the status word 6982 (RULES 5.4) and
 -- UNSEAL its refusal 7 (RULES 8.7)
@@ -89,6 +88,6 @@ field_out (some data') = opened_to data'
 field_out none = not_opened
 
 -- what each of the code's answers says in those terms, with the data at the start of the buffer `plain`
-abbrev pub opening_out : List ℕ → Opening → OpeningOut
-opening_out plain (opening.Bytes n) = opened_to (take n plain)
-opening_out plain opening.Refused = not_opened
+abbrev pub opening_out : List ℕ → rust.Option ℕ → OpeningOut
+opening_out plain (rust.Some n) = opened_to (take n plain)
+opening_out plain rust.None = not_opened

@@ -1,5 +1,5 @@
 -- What the terminal's two operations give (RULES 8.6, 8.7), and what a sealed response looks like (RULES 8.5).
-use Rattle.std.specs.Prelude.{ℕ, ◌+◌, ◌-◌, Bool, true, false, ◌&&◌, cond, List, [], ◌∷◌, ◌++◌, ◌≡◌, ltb, leb, eqb, length, take, drop}
+use Rattle.std.specs.Prelude.{ℕ, ◌-◌, cond, List, [], ◌∷◌, ◌++◌, ltb, length, take, drop}
 use Rattle.std.proofs.Math.Option.{Option, none, some}
 use Rattle.refusals.specs.Refusals.{no_refusal, no_room, data_long, not_genuine, seal_room, unseal_room, data_most}
 use Rattle.octets.specs.Bytes.{same_bytes}

@@ -27,20 +27,6 @@ impl Session {
     pub fn after(self, mac: [u8; 16]) -> Session
         ensures { result ≡ with_iv self mac }
     {
-        let enc_key = self.enc_key;
-        let mac_key = self.mac_key;
-        Session {
-            enc_key,
-            mac_key,
-            iv: mac,
-        }
+        Session { iv: mac, ..self }
     }
-}
-
-// What opening a field finds: how many bytes of data it holds, or that it does not open, which is 6982 at the card and refusal 7 at the
-// terminal. `opening_out` of specs/Message.antt states each case.
-#[derive(Clone, Copy)]
-pub enum Opening {
-    Bytes(usize),
-    Refused,
 }

@@ -1,19 +1,19 @@
 -- The buffer through SEAL: the data put after the places of the front and of the MAC, the field sealed in the part of the buffer after
 -- the front, and the front written.
 -- Assumes nothing.
-use mathlib.Core.Path.{◌≡◌, refl, sym, ap, ap₂, ◌∙◌}
+use mathlib.Core.Path.{◌≡◌, sym, ap, ap₂, ◌∙◌}
 use mathlib.Core.List.{List, [], ◌∷◌, ◌++◌, append_assoc}
-use Prim.Native.Nat.{ℕ, ◌+◌, ◌-◌, ◌≤◌, ◌<◌}
+use Prim.Native.Nat.{ℕ, ◌+◌, ◌-◌, ◌≤◌}
 use native.Mathlib.Omega.{arith}
-use lib.ListN.{length, take, drop, length-append, length-drop}
-use lib.Seq.{take_at, drop_at, drop-drop, length-take-le}
+use lib.ListN.{length, take, drop, length-append}
+use lib.Seq.{drop_at, drop-drop, length-take-le}
 use Rattle.refusals.specs.Refusals.{no_refusal, seal_room, data_most}
 use Rattle.octets.specs.Bytes.{overwrite, written}
 use Rattle.octets.proofs.Lists.{overwritten, length-overwrite, drop-overwrite-behind}
 use Rattle.aes_padding.specs.Padding.{padded_bytes}
 use Rattle.aes_padding.proofs.Laws.{padded-larger}
 use Rattle.channel_rules.specs.declared.Session.{Session}
-use Rattle.channel_rules.specs.Message.{with_iv, lc, command_head, ciphertext, mac_of, field_mac, seal_field}
+use Rattle.channel_rules.specs.Message.{with_iv, command_head, ciphertext, mac_of, field_mac, seal_field}
 use Rattle.channel_rules.specs.Terminal.{Out, sealed_command, seal_out}
 use Rattle.channel_seal.specs.Promise.{FieldSealed}
 use Rattle.channel_heads.proofs.Tails.{tail-is, tail-put}

@@ -1,12 +1,10 @@
 -- What SEAL gives in each case, and that a refusal with its number, no byte written and the session given is what a definition gives that
 -- refuses.
 -- Assumes nothing.
-use mathlib.Core.Path.{◌≡◌, refl, sym, ap, ◌∙◌}
-use mathlib.Core.Bool.{true, false, cond}
+use mathlib.Core.Path.{◌≡◌, sym, ap, ◌∙◌}
 use mathlib.Core.List.{List}
 use Prim.Native.Nat.{ℕ, ◌≤◌, ◌<◌}
 use borrow.Author.Tests.{lt-ltb, le-ltb}
-use lib.Dec.{ltb}
 use lib.ListN.{length}
 use Rattle.octets.specs.Bytes.{written}
 use Rattle.refusals.specs.Refusals.{no_refusal, no_room, data_long, seal_room, data_most}

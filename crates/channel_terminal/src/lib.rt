@@ -16,6 +16,7 @@ use refusals::{
 const FRONT_BYTES: usize = 5;
 
 // What an operation answers: the refusal's number or 0, how many bytes it wrote from the buffer's start, and the next session.
+// A struct and no Result: `Did` says count and session of a refusal too, and C takes the refusal as this number.
 #[repr(C)]
 #[derive(Clone, Copy)]
 pub struct Outcome {
@@ -24,24 +25,32 @@ pub struct Outcome {
     pub session: Session,
 }
 
+impl Outcome {
+    // What an operation that is refused answers: nothing was written, and the session is as it was.
+    pub fn refused(s: Session, refusal: u8) -> Outcome
+        ensures refusal { result.refusal ≡ refusal }
+        ensures count { result.count ≡ 0 }
+        ensures session { result.session ≡ s }
+    {
+        Outcome {
+            refusal,
+            count: 0,
+            session: s,
+        }
+    }
+}
+
 // SEAL: the header CLA INS P1 P2 and at most 223 bytes of data to the whole sealed command, without Le.
+#[tactic(auto, unfolding(channel_rules::specs::Terminal::seal_out))]
 pub fn seal(s: Session, cla: u8, ins: u8, p1: u8, p2: u8, plain: &[u8], buf: &mut [u8]) -> Outcome
     ensures { Did (seal_out s (cla ∷ ins ∷ p1 ∷ p2 ∷ []) plain.now (length buf.old)) result
         buf.old buf.new }
 {
     if buf.len() < SEAL_ROOM_BYTES {
-        return Outcome {
-            refusal: REFUSAL_ROOM,
-            count: 0,
-            session: s,
-        };
+        return Outcome::refused(s, REFUSAL_ROOM);
     }
     if SEAL_DATA_MAX_BYTES < plain.len() {
-        return Outcome {
-            refusal: REFUSAL_DATA_LONG,
-            count: 0,
-            session: s,
-        };
+        return Outcome::refused(s, REFUSAL_DATA_LONG);
     }
     octets::put(buf, FRONT_BYTES + MAC_BYTES, plain);
     let padded = aes_padding::padded_bytes(plain.len());

@@ -11,6 +11,7 @@ ghost use Rattle.channel_rules.specs.Message.{Keyed};
 use channel_rules::Session;
 
 // Each function gives its argument back, or counts its bytes. Its contract is what the type says of it.
+// Two functions and not one over a const parameter: docs/CLAIMS.md names each for what it says of a key and of a block.
 pub fn key(k: [u8; 32]) -> usize
     ensures { Key k }
 {

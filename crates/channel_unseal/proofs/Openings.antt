@@ -1,11 +1,11 @@
 -- What UNSEAL gives in each case: before the field is opened no room, another end, or what the field gives; after it nothing opened, too
 -- little opened, and the plaintext written.
 -- Assumes nothing.
-use mathlib.Core.Path.{◌≡◌, refl, sym, ap, ap₂, ◌∙◌}
-use mathlib.Core.Bool.{Bool, true, false, cond}
-use mathlib.Core.List.{List, [], ◌∷◌, ◌++◌}
-use mathlib.Core.Option.{Option, none, some}
-use Prim.Native.Nat.{ℕ, ◌+◌, ◌-◌, ◌≤◌, ◌<◌}
+use mathlib.Core.Path.{◌≡◌, sym, ap, ◌∙◌}
+use mathlib.Core.Bool.{Bool, true, false}
+use mathlib.Core.List.{List}
+use mathlib.Core.Option.{Option, none}
+use Prim.Native.Nat.{ℕ, ◌-◌, ◌≤◌, ◌<◌}
 use native.Mathlib.Omega.{arith}
 use borrow.Author.Tests.{lt-ltb, le-ltb}
 use lib.ListN.{length, take, drop, length-drop}
@@ -13,7 +13,7 @@ use Rattle.refusals.specs.Refusals.{no_refusal, no_room, not_genuine, unseal_roo
 use Rattle.octets.specs.Bytes.{overwrite, written, same_bytes}
 use Rattle.octets.proofs.Lists.{overwrite-start, same-lengths}
 use Rattle.channel_rules.specs.declared.Session.{Session}
-use Rattle.channel_rules.specs.declared.Opening.{Opening}
+use Rattle.std.specs.Prelude as rust
 use Rattle.channel_rules.specs.Message.{with_iv, response_head, open_field}
 use Rattle.channel_rules.specs.Terminal.{Out, refused, plain_success, sealed_field, unsealed, unseal_out}
 use Rattle.channel_open.specs.Promise.{Opens}
@@ -53,7 +53,7 @@ module _ (s : Session) (field : List ℕ) (o : Option (List ℕ)) where
   unseal-held n h l = ap (unsealed s field) h.is ∙ rw (le-ltb (length h.plain) 2 (omega (arith, h.long)))
 
   -- scratch is where the opening left the plaintext; m is its length as the code counts the part
-  pub did-unseal : (n m : ℕ) (scratch before after : List ℕ) (r : Opening) (t : Outcome) (mac : List ℕ) → Opens o r scratch → (h : Holds o n) → 2 ≤ n → m ≡ n
+  pub did-unseal : (n m : ℕ) (scratch before after : List ℕ) (r : rust.Option ℕ) (t : Outcome) (mac : List ℕ) → Opens o r scratch → (h : Holds o n) → 2 ≤ n → m ≡ n
       → after ≡ overwrite before 0 (take m scratch) → mac ≡ take 16 field → t.refusal ≡ no_refusal → t.count ≡ n → t.session ≡ with_iv s mac
       → Did (unsealed s field o) t before after
   did-unseal n m scratch before after r t mac p h l em ea eb er ec es =

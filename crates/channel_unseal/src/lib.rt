@@ -10,7 +10,7 @@ ghost use Rattle.channel_rules.specs.Terminal.{unsealed, unseal_out};
 ghost use Rattle.channel_terminal.specs.Did.{Did};
 
 use channel_open::CIPHERTEXT_MAX_BYTES;
-use channel_rules::{MAC_BYTES, Opening, Session};
+use channel_rules::{MAC_BYTES, Session};
 use channel_seal::PLAIN_SUCCESS;
 use channel_terminal::Outcome;
 use refusals::{REFUSAL_NONE, REFUSAL_NOT_GENUINE, REFUSAL_ROOM, UNSEAL_ROOM_BYTES};
@@ -22,19 +22,11 @@ fn unseal_field(s: Session, field: &[u8], buf: &mut [u8]) -> Outcome
         buf.old buf.new }
 {
     let mut plain = [0u8; CIPHERTEXT_MAX_BYTES];
-    let Opening::Bytes(count) = channel_open::open_response(s, field, &mut plain) else {
-        return Outcome {
-            refusal: REFUSAL_NOT_GENUINE,
-            count: 0,
-            session: s,
-        };
+    let Some(count) = channel_open::open_response(s, field, &mut plain) else {
+        return Outcome::refused(s, REFUSAL_NOT_GENUINE);
     };
     if count < 2 {
-        return Outcome {
-            refusal: REFUSAL_NOT_GENUINE,
-            count: 0,
-            session: s,
-        };
+        return Outcome::refused(s, REFUSAL_NOT_GENUINE);
     }
     octets::put(buf, 0, &plain[0..count]);
     let mac = octets::block(&field[0..MAC_BYTES]);
@@ -46,31 +38,15 @@ fn unseal_field(s: Session, field: &[u8], buf: &mut [u8]) -> Outcome
 }
 
 // UNSEAL: a response to its plaintext, the inner status word included.
+#[tactic(auto, unfolding(channel_rules::specs::Terminal::unseal_out))]
 pub fn unseal(s: Session, response: &[u8], buf: &mut [u8]) -> Outcome
     ensures { Did (unseal_out s response.now (length buf.old)) result buf.old buf.new }
 {
     if buf.len() < UNSEAL_ROOM_BYTES {
-        return Outcome {
-            refusal: REFUSAL_ROOM,
-            count: 0,
-            session: s,
-        };
+        return Outcome::refused(s, REFUSAL_ROOM);
     }
-    let n = response.len();
-    if n < 2 {
-        return Outcome {
-            refusal: REFUSAL_NOT_GENUINE,
-            count: 0,
-            session: s,
-        };
-    }
-    let end = n - 2;
-    if !octets::same(&response[end..], &PLAIN_SUCCESS) {
-        return Outcome {
-            refusal: REFUSAL_NOT_GENUINE,
-            count: 0,
-            session: s,
-        };
-    }
-    unseal_field(s, &response[0..end], buf)
+    let Some(field) = response.strip_suffix(&PLAIN_SUCCESS) else {
+        return Outcome::refused(s, REFUSAL_NOT_GENUINE);
+    };
+    unseal_field(s, field, buf)
 }

@@ -31,10 +31,10 @@ fn put_digits(buf: &mut [u8], at: usize, digits: &[u8]) -> usize
 
 // Writes a number, high byte first, as a DER integer from byte `at` on, and gives the place after it. There is room for the longest
 // head, a zero in front and the number.
+#[tactic(auto, using(template_rules::proofs::DerFacts::zeros_within))]
 pub fn put_integer(buf: &mut [u8], at: usize, number: &[u8]) -> usize
     requires { (length number.now < 255) × (at + 4 + length number.now ≤ length buf.old) }
     ensures { Wrote (der_integer number.now) at result buf.old buf.new }
 {
-    let zeros = leading_zeros(number);
-    put_digits(buf, at, &number[zeros..])
+    put_digits(buf, at, &number[leading_zeros(number)..])
 }

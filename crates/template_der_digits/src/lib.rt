@@ -13,34 +13,28 @@ pub const SIGN_BIT: u8 = 0x80;
 pub fn leading_zeros(number: &[u8]) -> usize
     ensures { result ≡ leading_zeros number.now }
 {
-    let mut i = 0;
-    while i < number.len() {
-        if number[i] != 0 {
-            return i;
-        }
-        i += 1;
-    }
-    i
+    number.iter().position(|b| *b != 0).unwrap_or(number.len())
 }
 
 // Whether the bytes need a zero in front, to be the content of a DER integer that is not negative.
 pub fn needs_zero(digits: &[u8]) -> bool
     ensures { result ≡ needs_zero digits.now }
 {
-    if digits.len() == 0 {
-        return true;
+    match *digits {
+        [] => true,
+        [first, ..] => first >= SIGN_BIT,
     }
-    digits[0] >= SIGN_BIT
 }
 
 // How many bytes the content of a number's DER integer takes.
+#[tactic(auto, using(template_rules::proofs::DerFacts::zeros_within))]
 pub fn der_bytes(number: &[u8]) -> usize
     ensures { result ≡ length (der_content number.now) }
 {
-    let zeros = leading_zeros(number);
-    if needs_zero(&number[zeros..]) {
-        number.len() - zeros + 1
+    let digits = &number[leading_zeros(number)..];
+    if needs_zero(digits) {
+        digits.len() + 1
     } else {
-        number.len() - zeros
+        digits.len()
     }
 }

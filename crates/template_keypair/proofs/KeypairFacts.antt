@@ -1,4 +1,4 @@
--- The reader's tests, in their order, are those of specs/Keypair.antt; and every keypair that is written in its layout is taken.
+-- The reader's tests, in their order, are those of specs/Keypair.antt.
 -- Assumes nothing.
 use mathlib.Core.Path.{◌≡◌, refl, sym, ap, ◌∙◌}
 use mathlib.Core.Bool.{Bool, true, false, ◌||◌}
@@ -10,8 +10,8 @@ use lib.Dec.{eqb}
 use lib.ListN.{length, take, drop, length-drop}
 use borrow.Author.Tests.{eq-eqb, ne_eqb}
 use Rattle.template_rules.specs.declared.Head.{Head}
-use Rattle.template_rules.specs.declared.Head.TheVariants.{Of, Unreadable}
-use Rattle.template_rules.specs.Template.{read_head, tag_of, begins_with}
+use Rattle.std.specs.Prelude.{Option}
+use Rattle.template_rules.specs.Template.{head_of, read_head, tag_of, begins_with}
 use Rattle.template_rules.proofs.HeadFacts.{head-facts, begins-facts}
 use Rattle.template_rules.proofs.Parts.{part-from}
 use Rattle.template_keypair.specs.Keypair.{exactly, private_fields, keypair_fields, keypair_with, keypair}
@@ -60,26 +60,13 @@ module _ (chain : Bool) (s : List ℕ) where
   pub with-public : begins_with 0x80 65 s ≡ true → keypair_fields chain s ≡ exactly (private_fields chain) (drop 67 s)
   with-public e = rw (e, one_tag s e (begins_with 0x81 32 s) refl) (or-false (exactly (private_fields chain) (drop 67 s)))
 
-  pub without-public : begins_with 0x80 65 s ≡ false → keypair_fields chain s ≡ exactly (private_fields chain) s
-  without-public e = rw e
-
 -- ---- keypair, by the head r that has been read
-module _ (chain : Bool) (s : List ℕ) (r : Head) (e : r ≡ read_head s) where
-  pub keypair-unreadable : r ≡ Unreadable → false ≡ keypair chain s
-  keypair-unreadable g = ap (keypair_with chain s) (sym g ∙ e)
-
-  module _ (h n : ℕ) (g : r ≡ Of h n) where
-    read : keypair chain s ≡ keypair_with chain s (Of h n)
+module _ (chain : Bool) (s : List ℕ) (r : Option Head) (e : r ≡ read_head s) where
+  module _ (h n : ℕ) (g : r ≡ head_of h n) where
+    read : keypair chain s ≡ keypair_with chain s (head_of h n)
     read = ap (keypair_with chain s) (sym e ∙ g)
 
-    pub other_tag : (tag_of s ≡ 0xA1 → ⊥) → false ≡ keypair chain s
-    other_tag p = sym (read ∙ rw (ne_eqb (tag_of s) 0xA1 p))
-
     module _ (p : tag_of s ≡ 0xA1) where
-      pub other_length : (n ≡ length s - h → ⊥) → false ≡ keypair chain s
-      other_length q =
-          sym (read ∙ rw (eq-eqb (tag_of s) 0xA1 p, ne_eqb (h + n) (length s) (λ z. q (omega (arith, head-facts s r h n e g)))))
-
       module _ (q : n ≡ length s - h) where
         value-is : keypair chain s ≡ keypair_fields chain (drop h s)
         value-is = read ∙ rw (eq-eqb (tag_of s) 0xA1 p, eq-eqb (h + n) (length s) (omega (arith, head-facts s r h n e g)))
@@ -92,6 +79,3 @@ module _ (chain : Bool) (s : List ℕ) (r : Head) (e : r ≡ read_head s) where
         keypair-with b t u =
             u ∙ ap (exactly (private_fields chain)) (part-from 67 v) ∙ sym
             (value-is ∙ ap (keypair_fields chain) (sym (part-from h s)) ∙ with-public chain v t)
-
-        pub keypair-without : (b : Bool) → begins_with 0x80 65 v ≡ false → b ≡ exactly (private_fields chain) v → b ≡ keypair chain s
-        keypair-without b t u = u ∙ sym (value-is ∙ ap (keypair_fields chain) (sym (part-from h s)) ∙ without-public chain v t)

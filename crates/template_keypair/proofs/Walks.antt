@@ -13,10 +13,10 @@ use lib.ListN.{length, drop, length-append}
 use lib.Seq.{drop_at}
 use borrow.Author.Tests.{eq-eqb, eqb-true}
 use Rattle.template_rules.specs.declared.Head.{Head}
-use Rattle.template_rules.specs.declared.Head.TheVariants.{Of, Unreadable}
+use Rattle.std.specs.Prelude.{Option, Some, None}
 use Rattle.template_rules.specs.Template.{read_head, tag_of, is_template, begins_with, field_head, field, field_bytes}
 use Rattle.template_rules.proofs.HeadFacts.{read_length, length-read, field-length, value, value-length, value-brief, begins-field, begins-written}
-use Rattle.template_walk.specs.declared.Walked.TheVariants.{Fields}
+use Rattle.std.specs.Prelude.{Ok}
 use Rattle.template_walk.specs.Walk.{plus, sequence_of, walk_of}
 use Rattle.template_walk.proofs.WalkFacts.{sequence-empty}
 use Rattle.template_walk.proofs.Joining.{in_field, sequence-join, walk-plain, walk-template}
@@ -56,7 +56,7 @@ exactly-length (f ∷ layout) s e =
     )
 
 pub exactly-walks : (layout : List Place) (levels : ℕ) (s : List ℕ) → Plain layout → exactly layout s ≡ true
-    → sequence_of levels s ≡ Fields (length layout)
+    → sequence_of levels s ≡ Ok (length layout)
 exactly-walks [] levels s p e = sequence-empty levels s (eqb-true (length s) 0 e)
 exactly-walks (f ∷ layout) levels s p e =
     let t = both (begins_with f.tag f.bytes s) (exactly layout (drop (field_bytes f.bytes) s)) e in
@@ -64,7 +64,7 @@ exactly-walks (f ∷ layout) levels s p e =
     ap (sequence_of levels) (begins-field f.tag f.bytes s t.0)
     ∙ sequence-join levels (drop (field_bytes f.bytes) s) (field f.tag v) 1 (walk-plain f.tag v (value-brief f.tag f.bytes s t.0) levels p.0)
     ∙ ap (plus 1 (length (field f.tag v))) (exactly-walks layout levels (drop (field_bytes f.bytes) s) p.1 t.1)
-    ∙ ap Fields (one-add (length layout))
+    ∙ ap Ok (one-add (length layout))
 
 -- a field that is written is taken, and what follows it is left
 pub exactly-written : (f : Place) (layout : List Place) (v rest : List ℕ) → length v ≡ f.bytes → f.bytes < 256
@@ -80,10 +80,12 @@ pub keypair-value : (chain : Bool) (s : List ℕ) → keypair chain s ≡ true
     → (v : List ℕ) × (s ≡ field 0xA1 v) × (keypair_fields chain v ≡ true) × (length v < 256)
 keypair-value chain s e = of-head (read_head s) refl e
   where
-    of-head : (r : Head) → read_head s ≡ r → keypair_with chain s r ≡ true
+    of-head : (r : Option Head) → read_head s ≡ r → keypair_with chain s r ≡ true
         → (v : List ℕ) × (s ≡ field 0xA1 v) × (keypair_fields chain v ≡ true) × (length v < 256)
-    of-head Unreadable g t = absurd (let z : ◌≡◌ {A = ℕ} 0 1 = cc in omega arith)
-    of-head (Of h n) g t =
+    of-head None g t = absurd (let z : ◌≡◌ {A = ℕ} 0 1 = cc in omega arith)
+    of-head (Some r) g t =
+        let h = r.head_bytes in
+        let n = r.value_bytes in
         let both1 = both (eqb (tag_of s) 0xA1 && eqb (h + n) (length s)) (keypair_fields chain (drop h s)) t in
         let both2 = both (eqb (tag_of s) 0xA1) (eqb (h + n) (length s)) both1.0 in
         let l = length-read s h n g in
@@ -107,7 +109,7 @@ plain-private true = (refl, (refl, tt))
 
 -- WALK accepts what LOAD takes, with the count of its fields: with the public key, or without
 pub keypair-walks : (chain : Bool) (s : List ℕ) → keypair chain s ≡ true
-    → (walk_of s ≡ Fields (length (public_key ∷ private_fields chain))) ⊎ (walk_of s ≡ Fields (length (private_fields chain)))
+    → (walk_of s ≡ Ok (length (public_key ∷ private_fields chain))) ⊎ (walk_of s ≡ Ok (length (private_fields chain)))
 keypair-walks chain s e =
     let k = keypair-value chain s e in
     let h = length (field_head 0xA1 (length k.0)) in

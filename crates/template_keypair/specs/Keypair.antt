@@ -1,8 +1,7 @@
 -- The keypair templates that LOAD takes (RULES 9.4): A1 holding 80 (65, optional), 81 (32), and 82 (32) exactly for P1 02.
 -- Every length is a number of bytes.
-use Rattle.std.specs.Prelude.{Bool, true, false, ◌&&◌, ◌||◌, List, [], ◌∷◌, ℕ, ◌+◌, eqb, length, drop}
+use Rattle.std.specs.Prelude.{Option, Some, None, Bool, true, false, ◌&&◌, ◌||◌, List, [], ◌∷◌, ℕ, ◌+◌, eqb, length, drop}
 use Rattle.template_rules.specs.declared.Head.{Head}
-use Rattle.template_rules.specs.declared.Head.TheVariants.{Of, Unreadable}
 use Rattle.template_rules.specs.Template.{read_head, tag_of, begins_with, field_bytes}
 
 -- a field of a layout: its tag, and how many bytes of value it has
@@ -37,9 +36,10 @@ abbrev pub keypair_fields : Bool → List ℕ → Bool
 keypair_fields chain s = exactly (public_key ∷ private_fields chain) s || exactly (private_fields chain) s
 
 -- a template whose head is h: tag A1, nothing after its value, and the fields inside
-abbrev pub keypair_with : Bool → List ℕ → Head → Bool
-keypair_with chain s Unreadable = false
-keypair_with chain s (Of h n) = eqb (tag_of s) 0xA1 && eqb (h + n) (length s) && keypair_fields chain (drop h s)
+abbrev pub keypair_with : Bool → List ℕ → Option Head → Bool
+keypair_with chain s None = false
+keypair_with chain s (Some h) =
+    eqb (tag_of s) 0xA1 && eqb (h.head_bytes + h.value_bytes) (length s) && keypair_fields chain (drop h.head_bytes s)
 
 abbrev pub keypair : Bool → List ℕ → Bool
 keypair chain s = keypair_with chain s (read_head s)

@@ -6,7 +6,7 @@
 ghost use Rattle.std.specs.Prelude.{◌≡◌};
 ghost use Rattle.template_keypair.specs.Keypair.{private_fields, keypair, exactly};
 
-use template_rules::{Head, TAG_PUBLIC_KEY, begins_with, read_head};
+use template_rules::{TAG_PUBLIC_KEY, begins_with, read_head};
 
 pub const TAG_KEYPAIR: u8 = 0xA1;
 
@@ -43,20 +43,16 @@ fn is_private(s: &[u8], chain: bool) -> bool
 pub fn is_keypair(s: &[u8], chain: bool) -> bool
     ensures { result ≡ keypair chain s.now }
 {
-    let Head::Of {
-        head_bytes,
-        value_bytes,
-    } = read_head(s)
-    else {
+    let Some(head) = read_head(s) else {
         return false;
     };
     if s[0] != TAG_KEYPAIR {
         return false;
     }
-    if value_bytes != s.len() - head_bytes {
+    if head.value_bytes != s.len() - head.head_bytes {
         return false;
     }
-    let value = &s[head_bytes..];
+    let value = &s[head.head_bytes..];
     if begins_with(value, TAG_PUBLIC_KEY, PUBLIC_KEY_BYTES) {
         return is_private(&value[HEAD_BYTES + PUBLIC_KEY_BYTES..], chain);
     }

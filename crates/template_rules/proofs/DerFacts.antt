@@ -11,6 +11,7 @@ use lib.Dec.{leb}
 use lib.ListN.{length, get_or, take, drop, length-drop, drop_of_length-le}
 use lib.Seq.{drop-cons}
 use borrow.Author.Tests.{leb-true, leb-false}
+use Rattle.std.specs.Prelude.{Option, Some, None, MatchOption, unwrap_or, slice_index}
 use Rattle.template_rules.specs.Template.{field_head, field}
 use Rattle.template_rules.specs.Der.{leading_zeros, needs_zero, with_sign, der_content, Shortest, number}
 use Rattle.template_rules.proofs.Parts.{part-from}
@@ -22,28 +23,23 @@ zeros_within [] = omega arith
 zeros_within (zero ∷ s) = omega (arith, zeros_within s)
 zeros_within (suc x ∷ s) = omega arith
 
-not-zero : (x : ℕ) (s : List ℕ) → (x ≡ 0 → ⊥) → leading_zeros (x ∷ s) ≡ 0
-not-zero zero s h = absurd (h refl)
-not-zero (suc x) s h = refl
+-- the count: zeros up to place i, and another byte there if it is not the end
+zeros-count : (s : List ℕ) (i : ℕ) → i ≤ length s → ((k : ℕ) → k < i → get_or s k 0 ≡ 0) → (i < length s → get_or s i 0 ≡ 0 → ⊥) → i ≡ leading_zeros s
+zeros-count [] i l z n = omega arith
+zeros-count (zero ∷ s) zero l z n = absurd (n (omega arith) refl)
+zeros-count (zero ∷ s) (suc i) l z n = ap suc (zeros-count s i (omega arith) (λ k h. z (suc k) (omega arith)) (λ h. n (omega arith)))
+zeros-count (suc x ∷ s) zero l z n = refl
+zeros-count (suc x ∷ s) (suc i) l z n = absurd (omega (arith, z 0 (omega arith)))
 
-pub zeros-step : (s : List ℕ) (i : ℕ) → i < length s → get_or s i 0 ≡ 0
-    → leading_zeros (drop i s) ≡ suc (leading_zeros (drop (suc i) s))
-zeros-step s i h e = rw (drop-cons s i 0 h, e)
+-- the place of the first byte that is not zero; where there is none, all are
+abbrev pub FirstNonzero : List ℕ → Option ℕ → Type 0
+FirstNonzero s r =
+    MatchOption r ((k : ℕ) → k < length s → slice_index s k ≡ 0)
+    (λ i. (i < length s) × (slice_index s i ≡ 0 → ⊥) × ((k : ℕ) → k < i → slice_index s k ≡ 0))
 
-pub zeros-here : (s : List ℕ) (i : ℕ) → i < length s → (get_or s i 0 ≡ 0 → ⊥) → leading_zeros (drop i s) ≡ 0
-zeros-here s i h e = rw (drop-cons s i 0 h) (not-zero (get_or s i 0) (drop (suc i) s) e)
-
-pub zeros-end : (s : List ℕ) (i : ℕ) → length s ≤ i → leading_zeros (drop i s) ≡ 0
-zeros-end s i h = rw (drop_of_length-le s {i = i} h)
-
--- ---- needs_zero, by the first byte
-pub needs-none : (s : List ℕ) → length s ≡ 0 → needs_zero s ≡ true
-needs-none [] h = refl
-needs-none (x ∷ s) h = absurd (omega arith)
-
-pub needs-first : (s : List ℕ) → (length s ≡ 0 → ⊥) → needs_zero s ≡ leb 128 (get_or s 0 0)
-needs-first [] h = absurd (h refl)
-needs-first (x ∷ s) h = refl
+pub zeros-found : (s : List ℕ) (r : Option ℕ) → FirstNonzero s r → unwrap_or r (length s) ≡ leading_zeros s
+zeros-found s None h = zeros-count s (length s) (omega arith) h (λ l. absurd (omega arith))
+zeros-found s (Some i) h = zeros-count s i (omega (arith, h.0)) h.2 (λ l. h.1)
 
 -- ---- with_sign
 pub sign_zero : (s : List ℕ) → needs_zero s ≡ true → with_sign s ≡ 0 ∷ s
@@ -84,27 +80,6 @@ pub der-length : (s : List ℕ) → (1 ≤ length (der_content s)) × (length (d
 der-length s =
     let b = sign-bounds (drop (leading_zeros s) s) in
     (b.0, omega (arith, b.1, length-drop (leading_zeros s) s))
-
--- how many bytes it takes, by whether a zero is in front of the digits that are left from z on
-module _ (s : List ℕ) (z : ℕ) (e : z ≡ leading_zeros s) (b : Bool) (t : b ≡ needs_zero (take (length s - z) (drop z s))) where
-  digits : List ℕ
-  digits = drop (leading_zeros s) s
-
-  long : length digits ≡ length s - z
-  unfolding digits
-  long = omega (arith, length-drop (leading_zeros s) s)
-
-  tested : needs_zero digits ≡ b
-  unfolding digits
-  tested = ap needs_zero (sym (part-from z s ∙ ap (λ (k : ℕ). drop k s) e)) ∙ sym t
-
-  pub content-more : b ≡ true → length s - z + 1 ≡ length (der_content s)
-  unfolding digits
-  content-more h = omega (arith, ap length (sign_zero digits (tested ∙ h)), long)
-
-  pub content-same : b ≡ false → length s - z ≡ length (der_content s)
-  unfolding digits
-  content-same h = omega (arith, ap length (sign-none digits (tested ∙ h)), long)
 
 -- of 32 bytes it is 1 to 33 bytes
 pub der-length-32 : (s : List ℕ) → length s ≡ 32 → (1 ≤ length (der_content s)) × (length (der_content s) ≤ 33)

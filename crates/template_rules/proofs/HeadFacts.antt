@@ -3,18 +3,18 @@
 use mathlib.Core.Path.{◌≡◌, refl, sym, ap, ◌∙◌, subst}
 use mathlib.Core.Bool.{Bool, true, false, cond, ◌&&◌}
 use mathlib.Core.List.{List, [], ◌∷◌, ◌++◌, append_assoc}
-use Prim.Native.Nat.{ℕ, ◌+◌, ◌-◌, ◌≤◌, ◌<◌}
+use Prim.Native.Nat.{ℕ, ◌+◌, ◌≤◌, ◌<◌}
 use native.Mathlib.Decide.{dec_lt}
 use native.Mathlib.Omega.{arith}
 use lib.Dec.{T, ltb, leb, eqb, eqb→eq, leb→le, ltb→lt}
-use lib.ListN.{length, get_or, take, drop, length-append, length-drop, take-append-drop}
+use lib.ListN.{length, take, drop, length-append, length-drop, take-append-drop}
 use lib.Seq.{length-take-le, drop-drop}
-use borrow.Author.Tests.{lt-ltb, le-ltb, eq-eqb, ne_eqb, ltb-true, eqb-true, le-leb, lt-leb}
+use borrow.Author.Tests.{lt-ltb, le-ltb, eq-eqb, ltb-true, eqb-true, le-leb}
 use Rattle.octets.specs.Bytes.{Bytes}
 use Rattle.octets.proofs.Table.{and_left, and_right}
+use Rattle.std.specs.Prelude.{Option, Some, None}
 use Rattle.template_rules.specs.declared.Head.{Head}
-use Rattle.template_rules.specs.declared.Head.TheVariants.{Of, Unreadable}
-use Rattle.template_rules.specs.Template.{read_second, read_head, tag_of, announces, begins_with, field_head, field, field_bytes, HeadSays}
+use Rattle.template_rules.specs.Template.{head_of, read_second, read_head, tag_of, announces, begins_with, field_head, field, field_bytes, HeadSays}
 
 -- what holds of both answers of a test
 pub by-test : {A : Type 0} (P : A → Type 0) (b : Bool) {x y : A} → (b ≡ true → P x) → (b ≡ false → P y) → P (cond b x y)
@@ -22,26 +22,10 @@ by-test P true t f = t refl
 by-test P false t f = f refl
 
 -- ---- read_head
--- the same head, by the bytes at their indices
-abbrev pub head_at : List ℕ → Head
-head_at s =
-    cond (ltb (length s) 2) Unreadable
-    (cond (ltb (get_or s 1 0) 128) (Of 2 (get_or s 1 0))
-    (cond (eqb (get_or s 1 0) 0x81)
-    (cond (ltb (length s) 3) Unreadable (cond (leb 128 (get_or s 2 0) && ltb (get_or s 2 0) 256) (Of 3 (get_or s 2 0)) Unreadable))
-    Unreadable))
-
-pub head-at : (s : List ℕ) → read_head s ≡ head_at s
-head-at [] = refl
-head-at (t ∷ []) = refl
-head-at (t ∷ n ∷ []) = refl
-head-at (t ∷ n ∷ m ∷ s) =
-    rw (le-ltb (length (t ∷ n ∷ m ∷ s)) 2 (omega arith), le-ltb (length (t ∷ n ∷ m ∷ s)) 3 (omega arith))
-
 -- a head that is read takes 2 or 3 bytes, and they are there
-abbrev pub Within : List ℕ → Head → Type 0
-Within s (Of h n) = (2 ≤ h) × (h ≤ 3) × (h ≤ length s)
-Within s Unreadable = Unit {0}
+abbrev pub Within : List ℕ → Option Head → Type 0
+Within s (Some h) = (2 ≤ h.head_bytes) × (h.head_bytes ≤ 3) × (h.head_bytes ≤ length s)
+Within s None = Unit {0}
 
 second-within : (t n : ℕ) (s : List ℕ) → Within (t ∷ n ∷ s) (read_second s)
 second-within t n [] = tt
@@ -55,11 +39,11 @@ head-within (t ∷ n ∷ s) =
     by-test (Within (t ∷ n ∷ s)) (ltb n 128) (λ _. (omega arith, omega arith, omega arith))
     (λ _. by-test (Within (t ∷ n ∷ s)) (eqb n 0x81) (λ _. second-within t n s) (λ _. tt))
 
-pub head-facts : (s : List ℕ) (r : Head) (h n : ℕ) → r ≡ read_head s → r ≡ Of h n → (2 ≤ h) × (h ≤ 3) × (h ≤ length s)
-head-facts s r h n e g = subst (λ (x : Head). Within s x) (sym e ∙ g) (head-within s)
+pub head-facts : (s : List ℕ) (r : Option Head) (h n : ℕ) → r ≡ read_head s → r ≡ head_of h n → (2 ≤ h) × (h ≤ 3) × (h ≤ length s)
+head-facts s r h n e g = subst (λ (x : Option Head). Within s x) (sym e ∙ g) (head-within s)
 
 -- ---- length_field, field_head: what is written is read back
-pub read_length : (tag n : ℕ) (rest : List ℕ) → n < 256 → read_head (field_head tag n ++ rest) ≡ Of (length (field_head tag n)) n
+pub read_length : (tag n : ℕ) (rest : List ℕ) → n < 256 → read_head (field_head tag n ++ rest) ≡ head_of (length (field_head tag n)) n
 read_length tag n rest h =
     elim (dec_lt n 128) [
       | yes p ↦ simp (lt-ltb n 128 p)
@@ -67,7 +51,7 @@ read_length tag n rest h =
     ]
 
 -- ... and from 256 on there is no form
-pub read-no-length : (tag n : ℕ) (rest : List ℕ) → 256 ≤ n → read_head (field_head tag n ++ rest) ≡ Unreadable
+pub read-no-length : (tag n : ℕ) (rest : List ℕ) → 256 ≤ n → read_head (field_head tag n ++ rest) ≡ None
 read-no-length tag n rest h = simp (le-ltb n 128 (omega arith), le-leb 128 n (omega arith), le-ltb n 256 h)
 
 pub bytes-head : (tag n : ℕ) → tag < 256 → n < 256 → Bytes (field_head tag n)
@@ -77,14 +61,14 @@ pub head-length-le : (tag n : ℕ) → length (field_head tag n) ≤ 3
 head-length-le tag n = by-test (λ (l : List ℕ). length (tag ∷ l) ≤ 3) (ltb n 128) (λ _. omega arith) (λ _. omega arith)
 
 -- ... and what is read is what would be written: no other form is taken
-abbrev Written : List ℕ → Head → Type 0
-Written s (Of h n) = HeadSays s (Of h n)
-Written s Unreadable = Unit {0}
+abbrev Written : List ℕ → Option Head → Type 0
+Written s (Some h) = HeadSays s (Some h)
+Written s None = Unit {0}
 
-short-written : (tag n : ℕ) (s : List ℕ) → ltb n 128 ≡ true → Written (tag ∷ n ∷ s) (Of 2 n)
+short-written : (tag n : ℕ) (s : List ℕ) → ltb n 128 ≡ true → Written (tag ∷ n ∷ s) (head_of 2 n)
 short-written tag n s e = (omega (arith, ltb-true n 128 e), rw e, rw e)
 
-long-written : (tag m : ℕ) (s : List ℕ) → (leb 128 m && ltb m 256) ≡ true → Written (tag ∷ 0x81 ∷ m ∷ s) (Of 3 m)
+long-written : (tag m : ℕ) (s : List ℕ) → (leb 128 m && ltb m 256) ≡ true → Written (tag ∷ 0x81 ∷ m ∷ s) (head_of 3 m)
 long-written tag m s e =
     let t : T (leb 128 m && ltb m 256) = subst T (sym e) tt in
     let long = le-ltb m 128 (leb→le 128 m (and_left (leb 128 m) (ltb m 256) t)) in
@@ -103,19 +87,19 @@ head-written (tag ∷ n ∷ s) =
     (λ _. by-test (Written (tag ∷ n ∷ s)) (eqb n 0x81)
     (λ e. subst (λ (k : ℕ). Written (tag ∷ k ∷ s) (read_second s)) (sym (eqb-true n 0x81 e)) (second-written tag s)) (λ _. tt))
 
-pub length-read : (s : List ℕ) (h n : ℕ) → read_head s ≡ Of h n
+pub length-read : (s : List ℕ) (h n : ℕ) → read_head s ≡ head_of h n
     → (n < 256) × (h ≡ length (field_head (tag_of s) n)) × (s ≡ field_head (tag_of s) n ++ drop h s)
-length-read s h n e = subst (λ (x : Head). Written s x) e (head-written s)
+length-read s h n e = subst (λ (x : Option Head). Written s x) e (head-written s)
 
 -- ---- HeadSays: what each answer says holds of the head that is read
-says : (s : List ℕ) (r : Head) → read_head s ≡ r → HeadSays s r
-says s (Of h n) e = length-read s h n e
-says s Unreadable e = λ tag n rest h g. absurd (unlike (sym e ∙ ap read_head g ∙ read_length tag n rest h))
+says : (s : List ℕ) (r : Option Head) → read_head s ≡ r → HeadSays s r
+says s (Some h) e = length-read s h.head_bytes h.value_bytes e
+says s None e = λ tag n rest h g. absurd (unlike (sym e ∙ ap read_head g ∙ read_length tag n rest h))
   where
-    unlike : {h n : ℕ} → Unreadable ≡ Of h n → ⊥
+    unlike : {h n : ℕ} → None ≡ head_of h n → ⊥
     unlike z = let z' : ◌≡◌ {A = ℕ} 0 1 = cc in omega arith
 
-pub head-says : (s : List ℕ) (r : Head) → r ≡ read_head s → (r ≡ read_head s) × HeadSays s r
+pub head-says : (s : List ℕ) (r : Option Head) → r ≡ read_head s → (r ≡ read_head s) × HeadSays s r
 head-says s r e = (e, says s r (sym e))
 
 -- ---- field_bytes
@@ -137,36 +121,14 @@ field-bytes-short n h = rw (lt-ltb n 128 h)
 pub field-bytes-le : (n : ℕ) → field_bytes n ≤ 3 + n
 field-bytes-le n = by-test (λ (k : ℕ). k + n ≤ 3 + n) (ltb n 128) (λ _. omega arith) (λ _. omega arith)
 
--- ---- begins_with, from the tests in their order
-module _ (s : List ℕ) (tag n : ℕ) (r : Head) (e : r ≡ read_head s) where
-  pub begins-unreadable : r ≡ Unreadable → false ≡ begins_with tag n s
-  begins-unreadable g = ap (announces tag n s) (sym g ∙ e)
-
-  module _ (h m : ℕ) (g : r ≡ Of h m) where
-    read : begins_with tag n s ≡ announces tag n s (Of h m)
-    read = ap (announces tag n s) (sym e ∙ g)
-
-    pub begins-other-tag : (tag_of s ≡ tag → ⊥) → false ≡ begins_with tag n s
-    begins-other-tag p = sym (read ∙ rw (ne_eqb (tag_of s) tag p))
-
-    pub begins-other-length : tag_of s ≡ tag → (m ≡ n → ⊥) → false ≡ begins_with tag n s
-    begins-other-length p q = sym (read ∙ rw (eq-eqb (tag_of s) tag p, ne_eqb m n q))
-
-    pub begins-by-end : tag_of s ≡ tag → m ≡ n → leb m (length s - h) ≡ begins_with tag n s
-    begins-by-end p q = sym (read ∙ rw (eq-eqb (tag_of s) tag p, eq-eqb m n q) (ends (head-facts s r h m e g).2))
-      where
-        ends : h ≤ length s → leb (h + m) (length s) ≡ leb m (length s - h)
-        ends b = elim (dec_lt (length s) (h + m)) [
-          | yes p ↦ lt-leb (h + m) (length s) p ∙ sym (lt-leb m (length s - h) (omega arith))
-          | no p ↦ le-leb (h + m) (length s) (omega arith) ∙ sym (le-leb m (length s - h) (omega arith))
-        ]
-
--- ... and what a true answer says
+-- ---- begins_with: what a true answer says
 module _ (tag n : ℕ) (s : List ℕ) where
-  announced : (r : Head) → r ≡ read_head s → announces tag n s r ≡ true
-      → (tag_of s ≡ tag) × (read_head s ≡ Of (length (field_head tag n)) n) × (field_bytes n ≤ length s)
-  announced Unreadable e t = absurd (let z : ◌≡◌ {A = ℕ} 0 1 = cc in omega arith)
-  announced (Of h m) e t =
+  announced : (r : Option Head) → r ≡ read_head s → announces tag n s r ≡ true
+      → (tag_of s ≡ tag) × (read_head s ≡ head_of (length (field_head tag n)) n) × (field_bytes n ≤ length s)
+  announced None e t = absurd (let z : ◌≡◌ {A = ℕ} 0 1 = cc in omega arith)
+  announced (Some r) e t =
+      let h = r.head_bytes in
+      let m = r.value_bytes in
       let test : T (eqb (tag_of s) tag && eqb m n && leb (h + m) (length s)) = subst T (sym t) tt in
       let both = and_left (eqb (tag_of s) tag && eqb m n) (leb (h + m) (length s)) test in
       let p : tag_of s ≡ tag = eqb→eq (tag_of s) tag (and_left (eqb (tag_of s) tag) (eqb m n) both) in
@@ -177,7 +139,7 @@ module _ (tag n : ℕ) (s : List ℕ) where
       (p, sym e ∙ rw (k, q), omega (arith, head-length tag n))
 
   pub begins-facts : begins_with tag n s ≡ true
-      → (tag_of s ≡ tag) × (read_head s ≡ Of (length (field_head tag n)) n) × (field_bytes n ≤ length s)
+      → (tag_of s ≡ tag) × (read_head s ≡ head_of (length (field_head tag n)) n) × (field_bytes n ≤ length s)
   begins-facts t = announced (read_head s) refl t
 
   -- the field is there as it would be written, before what follows it

@@ -17,43 +17,27 @@ pub const TAG_PUBLIC_KEY: u8 = 0x80;
 pub const TAG_INTEGER: u8 = 0x02;
 
 // What the head of a field, its tag and length, says: how many bytes it takes, and how many bytes of value follow. `HeadSays` of
-// specs/Template.antt states each case.
+// specs/Template.antt states each case, also that there is none.
 #[derive(Clone, Copy)]
-pub enum Head {
-    Of {
-        head_bytes: usize,
-        value_bytes: usize,
-    },
-    Unreadable,
+pub struct Head {
+    pub head_bytes: usize,
+    pub value_bytes: usize,
 }
 
 // The head of the field that begins s.
-pub fn read_head(s: &[u8]) -> Head
+pub fn read_head(s: &[u8]) -> Option<Head>
     ensures { (result ≡ read_head s.now) × HeadSays s.now result }
 {
-    if s.len() < 2 {
-        return Head::Unreadable;
-    }
-    let first = s[1];
-    if first < LONG_FORM_MIN_BYTES {
-        return Head::Of {
+    match *s {
+        [_, n, ..] if n < LONG_FORM_MIN_BYTES => Some(Head {
             head_bytes: 2,
-            value_bytes: first as usize,
-        };
-    }
-    if first != LONG_FORM {
-        return Head::Unreadable;
-    }
-    if s.len() < 3 {
-        return Head::Unreadable;
-    }
-    let second = s[2];
-    if second < LONG_FORM_MIN_BYTES {
-        return Head::Unreadable;
-    }
-    Head::Of {
-        head_bytes: 3,
-        value_bytes: second as usize,
+            value_bytes: n as usize,
+        }),
+        [_, LONG_FORM, n, ..] if LONG_FORM_MIN_BYTES <= n => Some(Head {
+            head_bytes: 3,
+            value_bytes: n as usize,
+        }),
+        _ => None,
     }
 }
 
@@ -61,18 +45,8 @@ pub fn read_head(s: &[u8]) -> Head
 pub fn begins_with(s: &[u8], tag: u8, value_bytes: usize) -> bool
     ensures { result ≡ begins_with tag value_bytes s.now }
 {
-    let Head::Of {
-        head_bytes,
-        value_bytes: found_bytes,
-    } = read_head(s)
-    else {
+    let Some(found) = read_head(s) else {
         return false;
     };
-    if s[0] != tag {
-        return false;
-    }
-    if found_bytes != value_bytes {
-        return false;
-    }
-    found_bytes <= s.len() - head_bytes
+    s[0] == tag && found.value_bytes == value_bytes && value_bytes <= s.len() - found.head_bytes
 }

@@ -11,52 +11,51 @@ use lib.Dec.{ltb, eqb}
 use lib.ListN.{length, take, drop, length-take, length-drop}
 use borrow.Author.Tests.{ltb-false, eq-eqb, ne_eqb}
 use Rattle.template_rules.specs.declared.Head.{Head}
-use Rattle.template_rules.specs.declared.Head.TheVariants.{Of, Unreadable}
+use Rattle.std.specs.Prelude.{Option, Some, None}
 use Rattle.template_rules.specs.Template.{read_head, tag_of, is_template}
 use Rattle.template_rules.proofs.HeadFacts.{by-test, Within, head-within}
-use Rattle.template_walk.specs.declared.Field.{Field}
-use Rattle.template_walk.specs.declared.Field.TheVariants.{Whole, Faulty}
-use Rattle.template_walk.specs.declared.Walked.{Walked}
-use Rattle.template_walk.specs.declared.Walked.TheVariants.{Fields, Refused}
-use Rattle.template_walk.specs.Walk.{as_field, field_with, read_field, plus, and_then, fields_of, template_of, sequence_of, walk_of}
+use Rattle.std.specs.Prelude.{Ok, Err}
+use Rattle.template_walk.specs.Walk.{Walked, Field, refused, as_field, field_with, read_field, plus, and_then, fields_of, template_of, sequence_of, walk_of}
 
 -- ---- plus
 pub plus_none : (w : Walked) → plus 0 0 w ≡ w
-plus_none (Fields n) = ap Fields (zero-add n)
-plus_none (Refused f at) = ap (Refused f) (zero-add at)
+plus_none (Ok n) = ap Ok (zero-add n)
+plus_none (Err r) = ap (refused r.fault) (zero-add r.place)
 
 pub plus-plus : (a i b j : ℕ) (w : Walked) → plus a i (plus b j w) ≡ plus (a + b) (i + j) w
-plus-plus a i b j (Fields n) = ap Fields (sym (add_assoc a b n))
-plus-plus a i b j (Refused f at) = ap (Refused f) (sym (add_assoc i j at))
+plus-plus a i b j (Ok n) = ap Ok (sym (add_assoc a b n))
+plus-plus a i b j (Err r) = ap (refused r.fault) (sym (add_assoc i j r.place))
 
 -- ---- what n bytes can come to: no more fields than bytes, or a fault at a place among them
 abbrev pub Fits : ℕ → Walked → Type 0
-Fits n (Fields c) = c ≤ n
-Fits n (Refused f at) = at ≤ n
+Fits n (Ok c) = c ≤ n
+Fits n (Err r) = r.place ≤ n
 
 -- ---- read_field: a field takes at least 2 bytes of s, counts no more fields than it has bytes, and its fault has a place in s
 abbrev pub Inside : List ℕ → Field → Type 0
-Inside s (Whole c b) = (2 ≤ b) × (b ≤ length s) × (c ≤ b)
-Inside s (Faulty f at) = at ≤ length s
+Inside s (Ok w) = (2 ≤ w.bytes) × (w.bytes ≤ length s) × (w.fields ≤ w.bytes)
+Inside s (Err r) = r.place ≤ length s
 
 -- a template with a head of h bytes and the value v: its length, and where its fault may be
 abbrev pub IsTemplate : ℕ → List ℕ → Field → Type 0
-IsTemplate h v (Whole c b) = (b ≡ h + length v) × (c ≤ b)
-IsTemplate h v (Faulty f at) = at ≤ h + length v
+IsTemplate h v (Ok w) = (w.bytes ≡ h + length v) × (w.fields ≤ w.bytes)
+IsTemplate h v (Err r) = r.place ≤ h + length v
 
 template-inside : (s : List ℕ) (h : ℕ) (v : List ℕ) (f : Field) → 2 ≤ h → h + length v ≤ length s → IsTemplate h v f → Inside s f
-template-inside s h v (Whole c b) p q i = (omega (arith, i.0), omega (arith, i.0), i.1)
-template-inside s h v (Faulty f at) p q i = omega (arith, i)
+template-inside s h v (Ok w) p q i = (omega (arith, i.0), omega (arith, i.0), i.1)
+template-inside s h v (Err r) p q i = omega (arith, i)
 
 as-template : (h : ℕ) (v : List ℕ) (w : Walked) → Fits (length v) w → IsTemplate h v (as_field h v w)
-as-template h v (Fields n) g = (refl, omega (arith, g))
-as-template h v (Refused f at) g = omega (arith, g)
+as-template h v (Ok n) g = (refl, omega (arith, g))
+as-template h v (Err r) g = omega (arith, g)
 
 module _ (inside : ℕ → List ℕ → Field) (few : (h : ℕ) (v : List ℕ) → IsTemplate h v (inside h v)) where
-  with-inside : (s : List ℕ) (h : Head) → Within s h → Inside s (field_with inside s h)
+  with-inside : (s : List ℕ) (h : Option Head) → Within s h → Inside s (field_with inside s h)
   unfolding field_with
-  with-inside s Unreadable w = omega arith
-  with-inside s (Of h n) w =
+  with-inside s None w = omega arith
+  with-inside s (Some r) w =
+      let h = r.head_bytes in
+      let n = r.value_bytes in
       by-test (Inside s) (ltb (length s) (h + n)) (λ _. omega arith) (λ e.
       let ends : h + n ≤ length s = ltb-false (length s) (h + n) e in
       let short : length (take n (drop h s)) ≤ n = simp length-take (omega arith) in
@@ -70,17 +69,17 @@ module _ (inside : ℕ → List ℕ → Field) (few : (h : ℕ) (v : List ℕ) �
   -- ---- and_then
   then-few : (s : List ℕ) (f : Field) (rest : ℕ → Walked) → Inside s f → ((b : ℕ) → Fits (length (drop b s)) (rest b))
       → Fits (length s) (and_then f rest)
-  then-few s (Whole c b) rest i h = plus-few (rest b) (rw length-drop at (h b))
+  then-few s (Ok f) rest i h = plus-few (rest f.bytes) (rw length-drop at (h f.bytes))
     where
-      plus-few : (w : Walked) → Fits (length s - b) w → Fits (length s) (plus c b w)
-      plus-few (Fields n) g = omega (arith, g, i)
-      plus-few (Refused f at) g = omega (arith, g, i)
-  then-few s (Faulty f at) rest i h = i
+      plus-few : (w : Walked) → Fits (length s - f.bytes) w → Fits (length s) (plus f.fields f.bytes w)
+      plus-few (Ok n) g = omega (arith, g, i)
+      plus-few (Err r) g = omega (arith, g, i)
+  then-few s (Err r) rest i h = i
 
   then_same : (s : List ℕ) (f : Field) (r r' : ℕ → Walked) → Inside s f → ((b : ℕ) → 2 ≤ b → b ≤ length s → r b ≡ r' b)
       → and_then f r ≡ and_then f r'
-  then_same s (Whole c b) r r' i h = ap (plus c b) (h b i.0 i.1)
-  then_same s (Faulty f at) r r' i h = refl
+  then_same s (Ok f) r r' i h = ap (plus f.fields f.bytes) (h f.bytes i.0 i.1)
+  then_same s (Err e) r r' i h = refl
 
   -- ---- fields_of
   pub fields-few : (n : ℕ) (s : List ℕ) → Fits (length s) (fields_of inside n s)
@@ -97,7 +96,7 @@ module _ (inside : ℕ → List ℕ → Field) (few : (h : ℕ) (v : List ℕ) �
   fields-enough zero (suc n) s p q = rw (eq-eqb (length s) 0 (omega arith))
   fields-enough (suc m) zero s p q = rw (eq-eqb (length s) 0 (omega arith))
   fields-enough (suc m) (suc n) s p q =
-      ap (cond (eqb (length s) 0) (Fields 0))
+      ap (cond (eqb (length s) 0) (Ok 0))
       (then_same s (read_field inside s) (λ (b : ℕ). fields_of inside m (drop b s)) (λ (b : ℕ). fields_of inside n (drop b s))
       (field-inside s)
       (λ b l g. fields-enough m n (drop b s) (simp length-drop (omega arith)) (simp length-drop (omega arith))))
@@ -121,7 +120,7 @@ template-few (suc d) h v = as-template h v (sequence_of d v) (fields-few (templa
 pub sequence-few : (levels : ℕ) (s : List ℕ) → Fits (length s) (sequence_of levels s)
 sequence-few d s = fields-few (template_of d) (template-few d) (length s) s
 
-pub sequence-empty : (levels : ℕ) (s : List ℕ) → length s ≡ 0 → sequence_of levels s ≡ Fields 0
+pub sequence-empty : (levels : ℕ) (s : List ℕ) → length s ≡ 0 → sequence_of levels s ≡ Ok 0
 unfolding fields_of
 sequence-empty d s e = rw e
 
@@ -130,5 +129,5 @@ pub sequence-step : (levels : ℕ) (s : List ℕ) → (length s ≡ 0 → ⊥)
 sequence-step d s h = fields-step (template_of d) (template-few d) (length s) s refl h
 
 -- empty input counts 0
-pub walk-empty : walk_of [] ≡ Fields 0
+pub walk-empty : walk_of [] ≡ Ok 0
 walk-empty = sequence-empty 4 [] refl

@@ -7,117 +7,108 @@ ghost use Rattle.std.specs.Prelude.{◌≡◌};
 ghost use Rattle.template_walk.specs.Walk.{read_field, template_of, sequence_of, walk_of, report, WALK};
 
 use refusals::{REFUSAL_MALFORMED, REFUSAL_NONE, REFUSAL_TOO_DEEP};
-use template_rules::{Head, read_head};
+use template_rules::read_head;
 
 // The deepest templates that are read are at this depth.
 pub const MAX_DEPTH: usize = 4;
 // A tag with this bit marks a template, a field whose value is a sequence of fields.
 pub const TEMPLATE_BIT: u8 = 0x20;
 
-#[derive(Clone, Copy)]
+// Why a field is not one that may stand where it does.
+#[derive(Clone, Copy, PartialEq, Eq)]
 pub enum Fault {
     Malformed,
     TooDeep,
 }
 
-// How many fields that are not templates there are, or the first fault from the left and the place of its field: how many bytes come before
-// the tag.
+// A fault, and the place of its field: how many bytes come before the tag.
 #[derive(Clone, Copy)]
-pub enum Walked {
-    Fields(usize),
-    Refused { fault: Fault, at: usize },
+pub struct Refused {
+    pub fault: Fault,
+    pub place: usize,
 }
 
-// One field: how many fields that are not templates it is or holds, and its length in bytes; or its first fault and the place, counted from
-// the field's own tag.
+// One field: how many fields that are not templates it is or holds, and its length in bytes.
 #[derive(Clone, Copy)]
-pub enum Field {
-    Whole { fields: usize, bytes: usize },
-    Faulty { fault: Fault, at: usize },
+pub struct Whole {
+    pub fields: usize,
+    pub bytes: usize,
 }
 
-// The field that begins s, where templates may nest this many levels from here.
+// The field that begins s, where templates may nest this many levels from here; or its first fault, the place counted from the field's
+// own tag.
 #[cycle(read_field_read_sequence)]
-fn read_field(s: &[u8], levels: usize) -> Field
+fn read_field(s: &[u8], levels: usize) -> Result<Whole, Refused>
     ensures { result ≡ read_field (template_of levels) s.now }
 {
-    let Head::Of {
-        head_bytes,
-        value_bytes,
-    } = read_head(s)
-    else {
-        return Field::Faulty {
-            fault: Fault::Malformed,
-            at: 0,
-        };
+    let malformed = Refused {
+        fault: Fault::Malformed,
+        place: 0,
     };
-    if s.len() - head_bytes < value_bytes {
-        return Field::Faulty {
-            fault: Fault::Malformed,
-            at: 0,
-        };
+    let head = read_head(s).ok_or(malformed)?;
+    if s.len() - head.head_bytes < head.value_bytes {
+        return Err(malformed);
     }
-    let end = head_bytes + value_bytes;
+    let bytes = head.head_bytes + head.value_bytes;
     if s[0] & TEMPLATE_BIT != TEMPLATE_BIT {
-        return Field::Whole {
-            fields: 1,
-            bytes: end,
-        };
+        return Ok(Whole { fields: 1, bytes });
     }
     if levels == 0 {
-        return Field::Faulty {
+        return Err(Refused {
             fault: Fault::TooDeep,
-            at: 0,
-        };
+            place: 0,
+        });
     }
-    match read_sequence(&s[head_bytes..end], levels - 1) {
-        Walked::Fields(fields) => Field::Whole {
-            fields: fields,
-            bytes: end,
-        },
-        Walked::Refused { fault, at } => {
-            let place = head_bytes + at;
-            Field::Faulty { fault, at: place }
-        }
+    match read_sequence(&s[head.head_bytes..bytes], levels - 1) {
+        Ok(fields) => Ok(Whole { fields, bytes }),
+        Err(Refused { fault, place }) => Err(Refused {
+            fault,
+            place: head.head_bytes + place,
+        }),
     }
 }
 
-// The fields of s one after the other, where templates may nest this many levels.
+// How many fields that are not templates the fields of s are or hold, where templates may nest this many levels; or the first fault from
+// the left.
 #[cycle(read_field_read_sequence)]
-fn read_sequence(s: &[u8], levels: usize) -> Walked
+fn read_sequence(s: &[u8], levels: usize) -> Result<usize, Refused>
     ensures { result ≡ sequence_of levels s.now }
 {
     let mut count = 0;
+    // An index counted by hand: a step is as long as the field that was read, and the place of a fault is counted from here; a loop over
+    // what is left of the slice would need the same count beside it.
     let mut at = 0;
     while at < s.len() {
         match read_field(&s[at..], levels) {
-            Field::Whole { fields, bytes } => {
+            Ok(Whole { fields, bytes }) => {
                 count += fields;
                 at += bytes;
             }
-            Field::Faulty { fault, at: inside } => {
-                let place = at + inside;
-                return Walked::Refused { fault, at: place };
+            Err(Refused { fault, place }) => {
+                return Err(Refused {
+                    fault,
+                    place: at + place,
+                });
             }
         }
     }
-    Walked::Fields(count)
+    Ok(count)
 }
 
-// WALK over any bytes.
-pub fn walk(s: &[u8]) -> Walked
+// WALK over any bytes: how many fields that are not templates there are, or the first fault from the left.
+pub fn walk(s: &[u8]) -> Result<usize, Refused>
     ensures { (result ≡ walk_of s.now) × (report result ≡ WALK s.now) }
 {
     read_sequence(s, MAX_DEPTH)
 }
 
 // The number of WALK's refusal, or of none.
-pub fn refusal(w: Walked) -> u8
-    ensures { result ≡ (report w).refusal }
+pub fn refusal(walked: Result<usize, Refused>) -> u8
+    ensures { result ≡ (report walked).refusal }
 {
-    match w {
-        Walked::Fields(_) => REFUSAL_NONE,
-        Walked::Refused { fault, at: _ } => match fault {
+    match walked {
+        Ok(_) => REFUSAL_NONE,
+        Err(refused) => match refused.fault {
             Fault::Malformed => REFUSAL_MALFORMED,
             Fault::TooDeep => REFUSAL_TOO_DEEP,
         },
@@ -125,21 +116,18 @@ pub fn refusal(w: Walked) -> u8
 }
 
 // How many fields WALK counted, 0 where it refused.
-pub fn count(w: Walked) -> usize
-    ensures { result ≡ (report w).count }
+pub fn count(walked: Result<usize, Refused>) -> usize
+    ensures { result ≡ (report walked).count }
 {
-    match w {
-        Walked::Fields(fields) => fields,
-        Walked::Refused { fault: _, at: _ } => 0,
-    }
+    walked.unwrap_or(0)
 }
 
 // The fault offset: how many bytes come before the tag of the faulty field, 0 where WALK did not refuse.
-pub fn fault_offset(w: Walked) -> usize
-    ensures { result ≡ (report w).offset }
+pub fn fault_offset(walked: Result<usize, Refused>) -> usize
+    ensures { result ≡ (report walked).offset }
 {
-    match w {
-        Walked::Fields(_) => 0,
-        Walked::Refused { fault: _, at } => at,
+    match walked {
+        Ok(_) => 0,
+        Err(refused) => refused.place,
     }
 }

@@ -8,39 +8,29 @@ use native.Mathlib.Omega.{arith}
 use lib.ListN.{length, length-drop}
 use Rattle.channel_heads.proofs.Tails.{tail-is}
 use Rattle.channel_seal.proofs.Responses.{response-fits}
-use Rattle.channel_rules.specs.Terminal.{seal_out}
-use Rattle.channel_terminal.proofs.Outcomes.{did-refuse, seal-no-room, seal-too-long}
 use Rattle.channel_terminal.proofs.Commands.{did-seal}
 use Rattle.channel_terminal.proofs.seal.Goals as goal
 
-pub returns-then-buf-lt-SEAL_ROOM_BYTES : goal.returns-then-buf-lt-SEAL_ROOM_BYTES
-returns-then-buf-lt-SEAL_ROOM_BYTES c = let g = c.args in
-    did-refuse (seal_out g.s (g.cla ∷ g.ins ∷ g.p1 ∷ g.p2 ∷ []) g.plain.now (length g.buf.now)) g.s 2 _ g.buf.now (seal-no-room g.s (g.cla ∷ g.ins ∷ g.p1 ∷ g.p2 ∷ []) g.plain.now (length g.buf.now) c.if-buf-lt-SEAL_ROOM_BYTES.true) refl refl refl
-
-pub returns-then-plain-gt-SEAL_DATA_MAX_BYTES : goal.returns-then-plain-gt-SEAL_DATA_MAX_BYTES
-returns-then-plain-gt-SEAL_DATA_MAX_BYTES c = let g = c.args in
-    did-refuse (seal_out g.s (g.cla ∷ g.ins ∷ g.p1 ∷ g.p2 ∷ []) g.plain.now (length g.buf.now)) g.s 6 _ g.buf.now (seal-too-long g.s (g.cla ∷ g.ins ∷ g.p1 ∷ g.p2 ∷ []) g.plain.now (length g.buf.now) c.if-buf-lt-SEAL_ROOM_BYTES.false c.if-plain-gt-SEAL_DATA_MAX_BYTES.true) refl refl refl
-
 pub command_head-head-requires : goal.command_head-head-requires
-command_head-head-requires c = omega (arith, c.padded_bytes-padded.ensures, response-fits (length c.args.plain.now) c.if-plain-gt-SEAL_DATA_MAX_BYTES.false)
+command_head-head-requires c = omega (arith, c.padded_bytes-padded.ensures, response-fits (length c.args.plain.now) (omega arith))
 
 pub seal_field-mac-requires : goal.seal_field-mac-requires
 seal_field-mac-requires c = let B : List ℕ = c.put.new.buf in
     omega
-    (arith, ap length (tail-is 5 B) ∙ length-drop 5 B, c.put.auto.buf, c.if-buf-lt-SEAL_ROOM_BYTES.false, response-fits (length c.args.plain.now) c.if-plain-gt-SEAL_DATA_MAX_BYTES.false)
+    (arith, ap length (tail-is 5 B) ∙ length-drop 5 B, c.put.auto.buf, response-fits (length c.args.plain.now) (omega arith))
 
 pub overflow_add-lc : goal.overflow_add-lc
-overflow_add-lc c = omega (arith, c.padded_bytes-padded.ensures, response-fits (length c.args.plain.now) c.if-plain-gt-SEAL_DATA_MAX_BYTES.false)
+overflow_add-lc c = omega (arith, c.padded_bytes-padded.ensures, response-fits (length c.args.plain.now) (omega arith))
 
 pub overflow_cast-lc : goal.overflow_cast-lc
-overflow_cast-lc c = omega (arith, c.padded_bytes-padded.ensures, response-fits (length c.args.plain.now) c.if-plain-gt-SEAL_DATA_MAX_BYTES.false)
+overflow_cast-lc c = omega (arith, c.padded_bytes-padded.ensures, response-fits (length c.args.plain.now) (omega arith))
 
 pub overflow_add-result-2 : goal.overflow_add-result-2
-overflow_add-result-2 c = omega (arith, c.padded_bytes-padded.ensures, response-fits (length c.args.plain.now) c.if-plain-gt-SEAL_DATA_MAX_BYTES.false)
+overflow_add-result-2 c = omega (arith, c.padded_bytes-padded.ensures, response-fits (length c.args.plain.now) (omega arith))
 
 pub returns : goal.returns
 returns c = let g = c.args in
     let f = c.seal_field-mac in
     did-seal g.s g.buf.now c.put.new.buf f.new.buf c.put-2.new.buf (g.cla ∷ g.ins ∷ g.p1 ∷ g.p2 ∷ []) g.plain.now c.command_head-head.result f.result
-    c.padded_bytes-padded.result c.if-buf-lt-SEAL_ROOM_BYTES.false c.if-plain-gt-SEAL_DATA_MAX_BYTES.false refl c.padded_bytes-padded.ensures c.put.ensures c.command_head-head.ensures
+    c.padded_bytes-padded.result (omega arith) (omega arith) refl c.padded_bytes-padded.ensures c.put.ensures c.command_head-head.ensures
     f.ensures (search rules) c.put-2.ensures _ refl refl c.after.ensures

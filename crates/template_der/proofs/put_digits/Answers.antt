@@ -1,44 +1,12 @@
 -- `put_digits` writes the digits as they are, or head, zero and digits one after the other.
-use mathlib.Core.Path.{sym, ap, ◌∙◌}
+use mathlib.Core.Path.{sym, ◌∙◌}
 use Prim.Native.Nat.{◌+◌}
 use native.Mathlib.Omega.{arith}
 use lib.ListN.{length}
-use Rattle.template_rules.specs.Template.{field}
 use Rattle.template_rules.proofs.WritingFacts.{wrote_one, wrote-both, wrote-same}
 use Rattle.template_rules.proofs.HeadFacts.{head-length-le}
-use Rattle.template_rules.proofs.DerFacts.{sign-none, zero_field}
+use Rattle.template_rules.proofs.DerFacts.{zero_field}
 use Rattle.template_der.proofs.put_digits.Goals as goal
-
-pub returns-then-not-needs_zero : goal.returns-then-not-needs_zero
-returns-then-not-needs_zero c =
-    wrote-same
-    (ap (field 2) (sym (sign-none c.args.digits.now (sym c.needs_zero.ensures ∙ c.if-not-needs_zero.true))))
-    c.put_field.ensures
-
-pub put-requires : goal.put-requires
-put-requires c =
-    let h = c.put_head-behind in let d = c.args.digits.now in
-    omega (arith, h.ensures.place, h.auto.buf, c.requires, head-length-le 0x02 (length d + 1))
-
-pub overflow_add-behind : goal.overflow_add-behind
-overflow_add-behind c =
-    let h = c.put_head-behind in let d = c.args.digits.now in
-    omega (arith, h.ensures.place, c.requires, head-length-le 0x02 (length d + 1))
-
-pub put-requires-2 : goal.put-requires-2
-put-requires-2 c =
-    let h = c.put_head-behind in let d = c.args.digits.now in
-    omega (arith, h.ensures.place, h.auto.buf, c.put.auto.buf, c.requires, head-length-le 0x02 (length d + 1))
-
-pub overflow_add-result : goal.overflow_add-result
-overflow_add-result c =
-    let h = c.put_head-behind in let d = c.args.digits.now in
-    omega (arith, h.ensures.place, c.requires, head-length-le 0x02 (length d + 1))
-
-pub overflow_add-result-2 : goal.overflow_add-result-2
-overflow_add-result-2 c =
-    let h = c.put_head-behind in let d = c.args.digits.now in
-    omega (arith, h.ensures.place, c.requires, head-length-le 0x02 (length d + 1))
 
 pub returns : goal.returns
 returns c =

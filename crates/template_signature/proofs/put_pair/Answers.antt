@@ -5,18 +5,6 @@ use Rattle.template_rules.proofs.WritingFacts.{wrote-both, wrote-same}
 use Rattle.template_answers.proofs.AnswerFacts.{integer-length, pair-length-le, pair_parts}
 use Rattle.template_signature.proofs.put_pair.Goals as goal
 
-pub put_head-inner-requires : goal.put_head-inner-requires
-put_head-inner-requires c =
-    let a = c.args in let p = c.requires in
-    (omega (arith, c.pair_bytes.ensures, pair-length-le a.r.now a.s.now p.0 p.1), omega (arith, p.2))
-
-pub put_integer-after_r-requires : goal.put_integer-after_r-requires
-put_integer-after_r-requires c =
-    let a = c.args in let p = c.requires in let n = c.pair_bytes in let h = c.put_head-inner in
-    let small = pair-length-le a.r.now a.s.now p.0 p.1 in
-    let two = short-head 0x30 n.result (omega (arith, n.ensures, small)) in
-    (omega (arith, p.0), omega (arith, p.0, p.2, h.ensures.place, h.auto.buf, two))
-
 pub put_integer-requires : goal.put_integer-requires
 put_integer-requires c =
     let a = c.args in let p = c.requires in let n = c.pair_bytes in

@@ -4,15 +4,9 @@ use Prim.Native.Nat.{◌+◌}
 use native.Mathlib.Omega.{arith}
 use lib.ListN.{length}
 use Rattle.template_rules.specs.Template.{field_bytes}
-use Rattle.template_rules.proofs.HeadFacts.{head-length-le, short-field}
 use Rattle.template_rules.proofs.WritingFacts.{wrote-both, wrote-same}
 use Rattle.template_answers.proofs.AnswerFacts.{pair-length-le, signature-bytes-le, signature-parts}
 use Rattle.template_signature.proofs.put_signature.Goals as goal
-
-pub field_bytes-requires-2 : goal.field_bytes-requires-2
-field_bytes-requires-2 c =
-    let a = c.args in let p = c.requires in
-    omega (arith, c.pair_bytes.ensures, pair-length-le a.r.now a.s.now p.1 p.2)
 
 pub overflow_add-inner_bytes : goal.overflow_add-inner_bytes
 overflow_add-inner_bytes c =
@@ -27,20 +21,6 @@ put_head-inner-requires c =
     let small = pair-length-le a.r.now a.s.now p.1 p.2 in
     let all = signature-bytes-le (length a.key.now) n.result p.0 (omega (arith, n.ensures, small)) in
     (omega (arith, c.field_bytes.ensures, c.field_bytes-2.ensures, all), omega (arith, p.3))
-
-pub put_field-after_key-requires : goal.put_field-after_key-requires
-put_field-after_key-requires c =
-    let p = c.requires in let h = c.put_head-inner in
-    let most = head-length-le 0xA0 (c.field_bytes.result + c.field_bytes-2.result) in
-    (omega (arith, p.0), omega (arith, p.0, p.3, h.ensures.place, h.auto.buf, most))
-
-pub put_pair-requires : goal.put_pair-requires
-put_pair-requires c =
-    let a = c.args in let p = c.requires in
-    let h = c.put_head-inner in let k = c.put_field-after_key in
-    let most = head-length-le 0xA0 (c.field_bytes.result + c.field_bytes-2.result) in
-    let key = short-field 0x80 a.key.now (omega (arith, p.0)) in
-    (omega (arith, p.1, p.2), omega (arith, p.1, p.2), omega (arith, p.0, p.3, h.ensures.place, h.auto.buf, k.ensures.place, k.auto.buf, most, key))
 
 pub returns : goal.returns
 returns c =
