@@ -9,52 +9,32 @@ ghost use Rattle.card_slots.specs.Free.{first_free, Says};
 
 use card::{Card, Slot};
 
-// The first free slot, by its index, or that all slots are filled. `Says` of specs/Free.antt states each case.
-#[derive(Clone, Copy)]
-pub enum Free {
-    At(usize),
-    Full,
-}
-
-// The search stops at the first free slot (RULES 6.8).
-pub fn first_free(slots: [Slot; Card::SLOTS]) -> Free
+// The index of the first free slot, or none where all slots are filled (RULES 6.8). `Says` of specs/Free.antt states each case.
+#[tactic(auto, using(crate::proofs::FreeFacts::found_here, crate::proofs::FreeFacts::none_found))]
+pub fn first_free(slots: [Slot; Card::SLOTS]) -> Option<usize>
     ensures { (result ≡ first_free slots) × Says slots result }
 {
-    let mut k = 0;
-    let i = loop {
-        if Card::SLOTS <= k {
-            return Free::Full;
-        }
-        let slot = slots[k];
+    let mut found = None;
+    for (i, slot) in slots.iter().enumerate() {
         if slot.filled == 0 {
-            break k;
+            found = Some(i);
+            break;
         }
-        k += 1;
-    };
-    Free::At(i)
+    }
+    found
 }
 
 // Whether there is a free slot.
+#[tactic(auto, using(crate::proofs::FreeFacts::finding))]
 pub fn has_free(slots: [Slot; Card::SLOTS]) -> bool
     ensures { result ≡ some_of is_free slots }
 {
-    match first_free(slots) {
-        Free::At(_) => true,
-        Free::Full => false,
-    }
+    first_free(slots).is_some()
 }
 
 // Whether the slots from an index on are all free.
 pub fn free_from(slots: [Slot; Card::SLOTS], first: usize) -> bool
     ensures { result ≡ all_of is_free (drop first slots) }
 {
-    let mut i = first;
-    while i < Card::SLOTS {
-        let slot = slots[i];
-        if slot.filled != 0 {
-            return false;
-        }
-        i += 1;
-    }
-    true
+    slots.iter().skip(first).all(|slot| slot.filled == 0)
 }

@@ -11,9 +11,7 @@ ghost use Rattle.rules.specs.Commands.{are_digits};
 ghost use Rattle.rules.specs.Commands.{is_secret, change_checks, with_pin, with_puk, with_pairing_secret, change_reply};
 
 use card::{Card, KEY_BYTES, PIN_BYTES, PUK_BYTES, Pairing, Pins};
-use command_parts::{
-    done, key_part, must, pin_part, puk_part, reads_none, with_pairing, with_pins,
-};
+use command_parts::{done, must, part, reads_none, with_pairing, with_pins};
 use rules::{CONDITIONS_NOT_MET, Replied, SecretKind, Verdict, WRONG_DATA};
 use sound_bytes::digits;
 
@@ -37,13 +35,13 @@ fn is_secret(which: SecretKind, data: &[u8]) -> bool
     }
 }
 
+#[tactic(auto, unfolding(rules::specs::Commands::change_checks))]
 pub fn change_verdict(pins: Pins, which: SecretKind, data: &[u8]) -> Verdict
     ensures { result ≡ verdict no_supply (change_checks pins which «data».now) }
 {
-    let verified = pins.verified != 0;
-    let formed = is_secret(which, data);
-    let read = reads_none();
-    must(verified, CONDITIONS_NOT_MET, must(formed, WRONG_DATA, read))
+    must(pins.verified != 0, CONDITIONS_NOT_MET)?;
+    must(is_secret(which, data), WRONG_DATA)?;
+    reads_none()
 }
 
 fn with_pin(pins: Pins, pin: [u8; PIN_BYTES]) -> Pins
@@ -80,15 +78,15 @@ pub fn change(card: Card, which: SecretKind, data: &[u8]) -> Replied
     let pairing = card.pairing;
     match which {
         SecretKind::Pin => {
-            let changed = with_pin(pins, pin_part(data, 0));
+            let changed = with_pin(pins, part(data, 0));
             done(with_pins(card, changed))
         }
         SecretKind::Puk => {
-            let changed = with_puk(pins, puk_part(data, 0));
+            let changed = with_puk(pins, part(data, 0));
             done(with_pins(card, changed))
         }
         SecretKind::Pairing => {
-            let changed = with_secret(pairing, key_part(data, 0));
+            let changed = with_secret(pairing, part(data, 0));
             done(with_pairing(card, changed))
         }
     }

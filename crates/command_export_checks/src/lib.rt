@@ -30,6 +30,7 @@ fn is_export_data(which: ExportPath, data: &[u8]) -> bool
     }
 }
 
+#[tactic(auto, unfolding(rules::specs::Commands::export_checks))]
 pub fn export_verdict(
     pins: Pins,
     keys: Keys,
@@ -42,13 +43,8 @@ pub fn export_verdict(
 {
     let extended = keys.kind == KEY_EXTENDED;
     let verified = pins.verified != 0;
-    let allowed = extended & verified;
-    let formed = is_export_data(which, data);
-    let out = may_go_out(keys, which, what, data);
-    let read = reads(EXPORT_SUPPLY, EXPORT_SUPPLY_BYTES, true);
-    must(
-        allowed,
-        CONDITIONS_NOT_MET,
-        must(formed, WRONG_DATA, must(out, CONDITIONS_NOT_MET, read)),
-    )
+    must(extended & verified, CONDITIONS_NOT_MET)?;
+    must(is_export_data(which, data), WRONG_DATA)?;
+    must(may_go_out(keys, which, what, data), CONDITIONS_NOT_MET)?;
+    reads(EXPORT_SUPPLY, EXPORT_SUPPLY_BYTES, true)
 }

@@ -1,6 +1,6 @@
--- INIT's content (RULES 6.5): what data and supply hold, and what a function that opens them promises.
--- Every length is in bytes.
-use Rattle.std.specs.Prelude.{ℕ, Bool, false, cond, List, ◌≡◌, length, take}
+-- INIT's content (RULES 6.5): what data and supply hold.
+use Rattle.std.specs.Prelude.{ℕ, cond, List, Some, None}
+use Rattle.std.specs.Prelude as code
 use Rattle.std.proofs.Math.Option.{Option, none, some}
 use Rattle.rules.specs.Supplies.{says_yes, init_key}
 use Rattle.rules.specs.Commands.{init_content, is_content}
@@ -9,12 +9,7 @@ use Rattle.rules.specs.Commands.{init_content, is_content}
 unfoldable pub brought_content : List ℕ → List ℕ → Option (List ℕ)
 brought_content d s = cond (says_yes s) (init_content (init_key s) d) none
 
-abbrev pub is_right : Option (List ℕ) → Bool
-is_right none = false
-is_right (some x) = is_content x
-
--- the answer is whether there is content that is right, which is then at the start of `plain`
-pub record Found (o : Option (List ℕ)) (r : Bool) (plain : List ℕ) : Type 0 where
-  pub told : r ≡ is_right o
-  pub left : (x : List ℕ) → o ≡ some x → x ≡ take (length x) plain
-  pub long : length plain ≡ 64
+-- what is brought, where it is content that is right
+abbrev pub right : Option (List ℕ) → code.Option (List ℕ)
+right none = None
+right (some x) = cond (is_content x) (Some x) None

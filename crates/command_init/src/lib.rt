@@ -11,13 +11,10 @@ ghost use Rattle.rules.specs.Words.{Hold, verdict};
 ghost use Rattle.rules.specs.Code.{replied_of};
 ghost use Rattle.rules.specs.Supplies.{suits, init_supply};
 ghost use Rattle.rules.specs.Commands.{is_init_data, init_checks, is_content, pins_with, initialised_with, init_reply};
-ghost use Rattle.command_init.specs.Content.{brought_content, Found};
+ghost use Rattle.command_init.specs.Content.{brought_content, right};
 
-use aes_padding::Unpadded;
-use card::{Card, IV_BYTES, KEY_BYTES, Pins};
-use command_parts::{
-    POINT_FORM, block_part, done, failed, key_part, must, pin_part, puk_part, reads, says_yes,
-};
+use card::{Card, IV_BYTES, KEY_BYTES, Pairing, Pins};
+use command_parts::{POINT_FORM, done, failed, must, part, reads, says_yes};
 use rules::{Replied, Verdict, WRONG_DATA};
 
 // INIT's data, and where its parts begin: the point's length in one byte, the point, IV 16, ciphertext 64.
@@ -57,12 +54,12 @@ fn is_init_data(data: &[u8]) -> bool
     point_bytes & point_form
 }
 
+#[tactic(auto, unfolding(rules::specs::Commands::init_checks))]
 pub fn init_verdict(data: &[u8]) -> Verdict
     ensures { result ≡ verdict init_supply (init_checks «data».now) }
 {
-    let formed = is_init_data(data);
-    let read = reads(INIT_SUPPLY, INIT_SUPPLY_BYTES, true);
-    must(formed, WRONG_DATA, read)
+    must(is_init_data(data), WRONG_DATA)?;
+    reads(INIT_SUPPLY, INIT_SUPPLY_BYTES, true)
 }
 
 // Whether these bytes are a PIN, a PUK and a pairing secret.
@@ -77,40 +74,43 @@ fn is_content(content: &[u8]) -> bool
     pin & puk
 }
 
-// Deciphers the bytes in their place, and looks whether they hold content that is right, which is then at their start.
-fn decipher(key: [u8; KEY_BYTES], iv: [u8; IV_BYTES], plain: &mut [u8]) -> bool
-    requires { length plain.old ≡ 64 }
-    ensures { Found (unpad (cbc_decrypt (inv_aes256 key) iv plain.old)) result plain.new }
+// What the deciphered bytes hold before their padding, where that is content that is right.
+fn decipher(
+    key: [u8; KEY_BYTES],
+    iv: [u8; IV_BYTES],
+    mut bytes: [u8; CIPHERTEXT_BYTES],
+) -> Option<[u8; CONTENT_BYTES]>
+    ensures { result ≡ right (unpad (cbc_decrypt (inv_aes256 key) iv bytes)) }
 {
-    aes_cbc::cbc_decrypt(&key, iv, plain);
-    match aes_padding::find_data(plain) {
-        Unpadded::Bytes(n) => is_content(&plain[0..n]),
-        Unpadded::Wrong => false,
+    aes_cbc::cbc_decrypt(&key, iv, &mut bytes);
+    let n = aes_padding::find_data(&bytes)?;
+    if is_content(&bytes[..n]) {
+        Some(part(&bytes, 0))
+    } else {
+        None
     }
 }
 
 // Opens INIT's data with the key that the supply brings, if its flag says yes.
-fn open_init(data: &[u8], supply: &[u8], plain: &mut [u8]) -> bool
-    requires { (length «data».now ≡ 146) × (length supply.now ≡ 33) × (length plain.old ≡ 64) }
-    ensures { Found (brought_content «data».now supply.now) result plain.new }
+fn open_init(data: &[u8], supply: &[u8]) -> Option<[u8; CONTENT_BYTES]>
+    requires { (length «data».now ≡ 146) × (length supply.now ≡ 33) }
+    ensures { result ≡ right (brought_content «data».now supply.now) }
 {
-    if says_yes(supply) {
-        let key = key_part(supply, AES_KEY_AT);
-        let iv = block_part(data, INIT_IV_AT);
-        octets::put(plain, 0, &data[CIPHERTEXT_AT..INIT_DATA_BYTES]);
-        decipher(key, iv, plain)
-    } else {
-        false
+    if !says_yes(supply) {
+        return None;
     }
+    let key = part(supply, AES_KEY_AT);
+    let iv = part(data, INIT_IV_AT);
+    let ciphertext = part(data, CIPHERTEXT_AT);
+    decipher(key, iv, ciphertext)
 }
 
 // PIN and PUK with full tries.
-fn pins_with(content: &[u8]) -> Pins
-    requires { length content.now ≡ 50 }
-    ensures { result ≡ pins_with content.now }
+fn pins_with(content: [u8; CONTENT_BYTES]) -> Pins
+    ensures { result ≡ pins_with content }
 {
-    let pin = pin_part(content, 0);
-    let puk = puk_part(content, PUK_AT);
+    let pin = part(&content, 0);
+    let puk = part(&content, PUK_AT);
     Pins {
         pin,
         puk,
@@ -121,29 +121,27 @@ fn pins_with(content: &[u8]) -> Pins
 }
 
 // The card with what the content brings.
-fn initialised_with(card: Card, content: &[u8]) -> Card
-    requires { length content.now ≡ 50 }
-    ensures { result ≡ initialised_with card content.now }
+fn initialised_with(card: Card, content: [u8; CONTENT_BYTES]) -> Card
+    ensures { result ≡ initialised_with card content }
 {
-    let pins = pins_with(content);
-    let secret = key_part(content, SECRET_AT);
-    let mut pairing = card.pairing;
-    pairing.secret = secret;
-    let mut next = card;
-    next.initialised = 1;
-    next.pins = pins;
-    next.pairing = pairing;
-    next
+    let secret = part(&content, SECRET_AT);
+    Card {
+        initialised: 1,
+        pins: pins_with(content),
+        pairing: Pairing {
+            secret,
+            ..card.pairing
+        },
+        ..card
+    }
 }
 
 pub fn init(card: Card, data: &[u8], supply: &[u8]) -> Replied
     requires { Hold (init_checks «data».now) × (suits init_supply supply.now ≡ true) }
     ensures { result ≡ replied_of (init_reply card «data».now supply.now) }
 {
-    let mut plain = [0; CIPHERTEXT_BYTES];
-    if !open_init(data, supply, &mut plain) {
-        return failed(card, WRONG_DATA);
+    match open_init(data, supply) {
+        Some(content) => done(initialised_with(card, content)),
+        None => failed(card, WRONG_DATA),
     }
-    let initialised = initialised_with(card, &plain[0..CONTENT_BYTES]);
-    done(initialised)
 }

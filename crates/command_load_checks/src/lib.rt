@@ -12,7 +12,7 @@ use card::Pins;
 use command_parts::{must, reads};
 use rules::{CONDITIONS_NOT_MET, KeyForm, NO_FAULT, Verdict, WRONG_DATA};
 use template_keypair::PUBLIC_KEY_BYTES;
-use template_walk::Walked;
+use template_walk::Refused;
 
 // LOAD, P1 03: the seed.
 pub const SEED_BYTES: usize = 64;
@@ -35,22 +35,22 @@ fn is_key_data(form: KeyForm, data: &[u8]) -> bool
     }
 }
 
+#[tactic(auto, unfolding(rules::specs::Commands::load_checks))]
 pub fn load_verdict(pins: Pins, form: KeyForm, data: &[u8]) -> Verdict
     ensures { result ≡ verdict load_supply (load_checks pins form «data».now) }
 {
-    let verified = pins.verified != 0;
-    let formed = is_key_data(form, data);
-    let read = reads(LOAD_SUPPLY, LOAD_SUPPLY_BYTES, true);
-    must(verified, CONDITIONS_NOT_MET, must(formed, WRONG_DATA, read))
+    must(pins.verified != 0, CONDITIONS_NOT_MET)?;
+    must(is_key_data(form, data), WRONG_DATA)?;
+    reads(LOAD_SUPPLY, LOAD_SUPPLY_BYTES, true)
 }
 
 // The place of the faulty field where WALK refused, NO_FAULT elsewhere.
-fn place_in(walked: Walked) -> usize
+fn place_in(walked: Result<usize, Refused>) -> usize
     ensures { result ≡ place_in walked }
 {
     match walked {
-        Walked::Fields(_) => NO_FAULT,
-        Walked::Refused { fault: _, at } => at,
+        Ok(_) => NO_FAULT,
+        Err(refused) => refused.place,
     }
 }
 

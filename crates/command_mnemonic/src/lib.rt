@@ -40,12 +40,12 @@ fn entropy_bytes(which: Phrase) -> usize
 }
 
 // ---- GENERATE MNEMONIC D2, without a PIN
+#[tactic(auto, unfolding(rules::specs::Commands::mnemonic_checks))]
 pub fn mnemonic_verdict(which: Phrase, data: &[u8]) -> Verdict
     ensures { result ≡ verdict (mnemonic_supply (checksum_bits which)) (mnemonic_checks «data».now) }
 {
-    let empty = data.len() == 0;
-    let read = reads(MNEMONIC_SUPPLY, entropy_bytes(which), false);
-    must(empty, WRONG_DATA, read)
+    must(data.len() == 0, WRONG_DATA)?;
+    reads(MNEMONIC_SUPPLY, entropy_bytes(which), false)
 }
 
 pub fn mnemonic(card: Card, which: Phrase, supply: &[u8], out: &mut [u8]) -> Replied

@@ -22,17 +22,13 @@ const MUTUAL_SUPPLY: u8 = 3;
 
 const RANDOM_BYTES: usize = 32;
 
+#[tactic(auto, unfolding(rules::specs::Commands::mutual_checks))]
 pub fn mutual_verdict(stage: u8, data: &[u8]) -> Verdict
     ensures { result ≡ verdict mutual_supply (mutual_checks stage «data».now) }
 {
-    let opened = stage == STAGE_OPENED;
-    let long = data.len() == CHALLENGE_BYTES;
-    let read = reads(MUTUAL_SUPPLY, RANDOM_BYTES, false);
-    must(
-        opened,
-        CONDITIONS_NOT_MET,
-        must(long, SECURITY_NOT_MET, read),
-    )
+    must(stage == STAGE_OPENED, CONDITIONS_NOT_MET)?;
+    must(data.len() == CHALLENGE_BYTES, SECURITY_NOT_MET)?;
+    reads(MUTUAL_SUPPLY, RANDOM_BYTES, false)
 }
 
 fn in_stage_2(channel: Channel) -> Channel

@@ -28,13 +28,13 @@ pub fn tap_of(data: &[u8]) -> Tap
 }
 
 // ---- SET NDEF F3
+#[tactic(auto, unfolding(rules::specs::Commands::ndef_checks))]
 pub fn ndef_verdict(pins: Pins, data: &[u8]) -> Verdict
     ensures { result ≡ verdict no_supply (ndef_checks pins «data».now) }
 {
-    let verified = pins.verified != 0;
-    let ndef = is_ndef(data);
-    let read = reads_none();
-    must(verified, CONDITIONS_NOT_MET, must(ndef, WRONG_DATA, read))
+    must(pins.verified != 0, CONDITIONS_NOT_MET)?;
+    must(is_ndef(data), WRONG_DATA)?;
+    reads_none()
 }
 
 pub fn ndef(card: Card, data: &[u8]) -> Replied

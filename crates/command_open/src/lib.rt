@@ -11,10 +11,9 @@ ghost use Rattle.rules.specs.Code.{Replies};
 ghost use Rattle.rules.specs.Supplies.{suits, open_supply, open_salt, open_iv};
 ghost use Rattle.rules.specs.Commands.{is_point, slot_at, open_checks, opened_with, open_reply};
 
-use card::{Card, Channel, STAGE_OPENED, Slot, wide};
+use card::{Card, Channel, IV_BYTES, KEY_BYTES, STAGE_OPENED, Slot, wide};
 use command_parts::{
-    POINT_FORM, block_part, failed, key_part, must, put_both, reads, replied, says_yes,
-    with_channel,
+    POINT_FORM, failed, must, part, put_both, reads, replied, says_yes, with_channel,
 };
 use rules::{Replied, Verdict, WRONG_DATA, WRONG_PARAMETERS};
 
@@ -56,13 +55,13 @@ fn is_filled(slots: [Slot; Card::SLOTS], slot: u8) -> bool
     chosen.filled != 0
 }
 
+#[tactic(auto, unfolding(rules::specs::Commands::open_checks))]
 pub fn open_verdict(slots: [Slot; Card::SLOTS], slot: u8, data: &[u8]) -> Verdict
     ensures { result ≡ verdict open_supply (open_checks slots slot «data».now) }
 {
-    let filled = is_filled(slots, slot);
-    let point = is_point(data);
-    let read = reads(OPEN_SUPPLY, OPEN_SUPPLY_BYTES, true);
-    must(filled, WRONG_PARAMETERS, must(point, WRONG_DATA, read))
+    must(is_filled(slots, slot), WRONG_PARAMETERS)?;
+    must(is_point(data), WRONG_DATA)?;
+    reads(OPEN_SUPPLY, OPEN_SUPPLY_BYTES, true)
 }
 
 // The channel in stage 1 with the session that the supply brings.
@@ -70,9 +69,9 @@ fn opened_channel(supply: &[u8]) -> Channel
     requires { length supply.now ≡ 113 }
     ensures { result ≡ opened_with supply.now }
 {
-    let enc_key = key_part(supply, ENC_KEY_AT);
-    let mac_key = key_part(supply, MAC_KEY_AT);
-    let iv = block_part(supply, OPEN_IV_AT);
+    let enc_key = part(supply, ENC_KEY_AT);
+    let mac_key = part(supply, MAC_KEY_AT);
+    let iv = part(supply, OPEN_IV_AT);
     Channel {
         stage: STAGE_OPENED,
         enc_key,
@@ -86,8 +85,8 @@ fn put_salt_iv(supply: &[u8], out: &mut [u8]) -> usize
     requires { (length supply.now ≡ 113) × (221 ≤ length out.old) }
     ensures { Wrote (open_salt supply.now ++ open_iv supply.now) 0 result out.old out.new }
 {
-    let salt = key_part(supply, SALT_AT);
-    let iv = block_part(supply, OPEN_IV_AT);
+    let salt = part::<KEY_BYTES>(supply, SALT_AT);
+    let iv = part::<IV_BYTES>(supply, OPEN_IV_AT);
     put_both(out, &salt, &iv)
 }
 

@@ -12,8 +12,7 @@ use Rattle.card.specs.declared.Card.{Card}
 use Rattle.card.specs.declared.Slot.{Slot}
 use Rattle.card.specs.declared.Pairing.{Pairing}
 use Rattle.card.specs.State.{with_pairing, not_pending}
-use Rattle.card_slots.specs.declared.Free.{Free}
-use Rattle.card_slots.specs.declared.Free.TheVariants as free
+use Rattle.std.specs.Prelude.{Option, Some, None}
 use Rattle.card_slots.specs.Free.{first_free, Says}
 use Rattle.card_slots.proofs.FreeFacts.{first-free-least}
 use Rattle.rules.specs.declared.Replied.{Replied}
@@ -30,7 +29,7 @@ replies-same e p = rw e at p
 
 -- ---- pair_final_reply
 module _ (c : Card) (s : List ℕ) (p : Pairing) (next : Card) (en : next ≡ with_pairing c p) where
-  pub final-replied : {r : Replied} {n : ℕ} {a b : List ℕ} (i j : ℕ) (x k : List ℕ) → free.At i ≡ first_free c.pairing.slots → j ≡ i
+  pub final-replied : {r : Replied} {n : ℕ} {a b : List ℕ} (i j : ℕ) (x k : List ℕ) → Some i ≡ first_free c.pairing.slots → j ≡ i
       → x ≡ pair_salt s → k ≡ with_secret c.pairing x → p ≡ with_slot (not_pending c.pairing) i (filled_with k) → Wrote (j ∷ x) 0 n a b
       → r ≡ said success n next → Replies (pair_final_reply c s) r a b
   unfolding pair_final_reply pair_into
@@ -42,7 +41,7 @@ module _ (c : Card) (s : List ℕ) (p : Pairing) (next : Card) (en : next ≡ wi
       (ep ∙ ap (λ (l : List ℕ). with_slot (not_pending c.pairing) i (filled_with l)) (ek ∙ ap (with_secret c.pairing) ex)))
       (wrote-same (ej & ex) w))
 
-  pub final-refused : {r : Replied} {a : List ℕ} → free.Full ≡ first_free c.pairing.slots → p ≡ not_pending c.pairing
+  pub final-refused : {r : Replied} {a : List ℕ} → None ≡ first_free c.pairing.slots → p ≡ not_pending c.pairing
       → r ≡ replied_of (fails next no_space) → Replies (pair_final_reply c s) r a a
   unfolding pair_final_reply pair_into
   final-refused f e er =
@@ -50,9 +49,9 @@ module _ (c : Card) (s : List ℕ) (p : Pairing) (next : Card) (en : next ≡ wi
       (silent _ refl (er ∙ ap (λ (x : Card). replied_of (fails x no_space)) (en ∙ ap (with_pairing c) e)))
 
 -- the slot that is found is there
-pub found_within : (slots : List Slot) (i : ℕ) → free.At i ≡ first_free slots → i < length slots
+pub found_within : (slots : List Slot) (i : ℕ) → Some i ≡ first_free slots → i < length slots
 found_within slots i e = within (first_free slots) (first-free-least slots) e
   where
-    within : (f : Free) → Says slots f → free.At i ≡ f → i < length slots
-    within (free.At k) h q = let same : i ≡ k = cc in omega (arith, h.within)
-    within free.Full h q = let z : ◌≡◌ {A = ℕ} 0 1 = cc in absurd (omega arith)
+    within : (f : Option ℕ) → Says slots f → Some i ≡ f → i < length slots
+    within (Some k) h q = let same : i ≡ k = cc in omega (arith, h.within)
+    within None h q = let z : ◌≡◌ {A = ℕ} 0 1 = cc in absurd (omega arith)

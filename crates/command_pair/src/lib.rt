@@ -13,10 +13,9 @@ ghost use Rattle.rules.specs.Commands.{pair_final_checks, with_slot, filled_with
 ghost use Rattle.command_pair.specs.Parts.{FoundAt};
 
 use card::{Card, KEY_BYTES, Pairing, STAGE_AUTHENTICATED, Slot};
-use card_slots::Free;
 use command_pair_first::{PAIR_DATA_BYTES, with_secret};
 pub use command_pair_first::{pair_first, pair_first_verdict};
-use command_parts::{failed, key_part, must, put_both, reads, replied, with_pairing};
+use command_parts::{failed, must, part, put_both, reads, replied, with_pairing};
 use rules::{
     CONDITIONS_NOT_MET, NO_SPACE, Replied, SECURITY_NOT_MET, Verdict, WRONG_DATA, WRONG_PARAMETERS,
 };
@@ -26,24 +25,16 @@ const FINAL_SUPPLY: u8 = 5;
 
 const FINAL_SUPPLY_BYTES: usize = 32;
 
+#[tactic(auto, unfolding(rules::specs::Commands::pair_final_checks))]
 pub fn pair_final_verdict(pairing: Pairing, stage: u8, data: &[u8]) -> Verdict
     ensures { result ≡ verdict pair_final_supply (pair_final_checks pairing stage «data».now) }
 {
     let expected = pairing.expected;
-    let pending = pairing.pending != 0;
-    let outside = stage != STAGE_AUTHENTICATED;
-    let long = data.len() == PAIR_DATA_BYTES;
-    let right = octets::same(data, &expected);
-    let read = reads(FINAL_SUPPLY, FINAL_SUPPLY_BYTES, false);
-    must(
-        pending,
-        WRONG_PARAMETERS,
-        must(
-            outside,
-            CONDITIONS_NOT_MET,
-            must(long, WRONG_DATA, must(right, SECURITY_NOT_MET, read)),
-        ),
-    )
+    must(pairing.pending != 0, WRONG_PARAMETERS)?;
+    must(stage != STAGE_AUTHENTICATED, CONDITIONS_NOT_MET)?;
+    must(data.len() == PAIR_DATA_BYTES, WRONG_DATA)?;
+    must(octets::same(data, &expected), SECURITY_NOT_MET)?;
+    reads(FINAL_SUPPLY, FINAL_SUPPLY_BYTES, false)
 }
 
 // The pairing without a pending one.
@@ -82,12 +73,12 @@ pub fn pair_final(card: Card, supply: &[u8], out: &mut [u8]) -> Replied
     let before = card.pairing;
     let slots = before.slots;
     let secret = before.secret;
-    let Free::At(i) = card_slots::first_free(slots) else {
+    let Some(i) = card_slots::first_free(slots) else {
         let pairing = not_pending(before);
         return failed(with_pairing(card, pairing), NO_SPACE);
     };
     let index = [index_byte(slots, i)];
-    let salt = key_part(supply, 0);
+    let salt = part(supply, 0);
     let key = with_secret(secret, salt);
     let count = put_both(out, &index, &salt);
     let pairing = filled_at(before, i, key);

@@ -11,7 +11,7 @@ ghost use Rattle.rules.specs.Supplies.{suits, pair_first_supply};
 ghost use Rattle.rules.specs.Commands.{pair_first_checks, pending_with, pair_first_reply};
 
 use card::{Card, KEY_BYTES, Pairing, STAGE_AUTHENTICATED};
-use command_parts::{key_part, must, put_both, reads, replied, with_pairing};
+use command_parts::{must, part, put_both, reads, replied, with_pairing};
 use rules::{CONDITIONS_NOT_MET, NO_SPACE, Replied, Verdict, WRONG_DATA};
 
 // A client's challenge and its cryptogram, in bytes.
@@ -34,19 +34,14 @@ pub fn with_secret(secret: [u8; KEY_BYTES], x: [u8; KEY_BYTES]) -> [u8; KEY_BYTE
     sha_hash::sha256(&message)
 }
 
+#[tactic(auto, unfolding(rules::specs::Commands::pair_first_checks))]
 pub fn pair_first_verdict(pairing: Pairing, stage: u8, data: &[u8]) -> Verdict
     ensures { result ≡ verdict pair_first_supply (pair_first_checks pairing stage «data».now) }
 {
-    let slots = pairing.slots;
-    let outside = stage != STAGE_AUTHENTICATED;
-    let long = data.len() == PAIR_DATA_BYTES;
-    let room = card_slots::has_free(slots);
-    let read = reads(FIRST_SUPPLY, FIRST_SUPPLY_BYTES, false);
-    must(
-        outside,
-        CONDITIONS_NOT_MET,
-        must(long, WRONG_DATA, must(room, NO_SPACE, read)),
-    )
+    must(stage != STAGE_AUTHENTICATED, CONDITIONS_NOT_MET)?;
+    must(data.len() == PAIR_DATA_BYTES, WRONG_DATA)?;
+    must(card_slots::has_free(pairing.slots), NO_SPACE)?;
+    reads(FIRST_SUPPLY, FIRST_SUPPLY_BYTES, false)
 }
 
 // The pairing with a pending one, which takes the place of one before it.
@@ -66,8 +61,8 @@ pub fn pair_first(card: Card, data: &[u8], supply: &[u8], out: &mut [u8]) -> Rep
 {
     let before = card.pairing;
     let secret = before.secret;
-    let client = key_part(data, 0);
-    let challenge = key_part(supply, 0);
+    let client = part(data, 0);
+    let challenge = part(supply, 0);
     let cryptogram = with_secret(secret, client);
     let expected = with_secret(secret, challenge);
     let count = put_both(out, &cryptogram, &challenge);

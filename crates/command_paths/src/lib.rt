@@ -46,6 +46,7 @@ pub fn path_of(data: &[u8]) -> Path
 }
 
 // ---- DERIVE D1: another current path
+#[tactic(auto, unfolding(rules::specs::Commands::derive_checks))]
 pub fn derive_verdict(pins: Pins, keys: Keys, data: &[u8]) -> Verdict
     ensures { result ≡ verdict derive_supply (derive_checks pins keys «data».now) }
 {
@@ -53,10 +54,9 @@ pub fn derive_verdict(pins: Pins, keys: Keys, data: &[u8]) -> Verdict
     let verified = pins.verified != 0;
     let set = pinless.len != 0;
     let extended = keys.kind == KEY_EXTENDED;
-    let allowed = (verified | set) & extended;
-    let path = is_path(data);
-    let read = reads(DERIVE_SUPPLY, DERIVE_SUPPLY_BYTES, true);
-    must(allowed, CONDITIONS_NOT_MET, must(path, WRONG_DATA, read))
+    must((verified | set) & extended, CONDITIONS_NOT_MET)?;
+    must(is_path(data), WRONG_DATA)?;
+    reads(DERIVE_SUPPLY, DERIVE_SUPPLY_BYTES, true)
 }
 
 // The keys with this current path.
@@ -81,13 +81,13 @@ pub fn derive(card: Card, data: &[u8], supply: &[u8]) -> Replied
 }
 
 // ---- SET PIN-LESS PATH C1
+#[tactic(auto, unfolding(rules::specs::Commands::pinless_checks))]
 pub fn pinless_verdict(pins: Pins, data: &[u8]) -> Verdict
     ensures { result ≡ verdict no_supply (pinless_checks pins «data».now) }
 {
-    let verified = pins.verified != 0;
-    let path = is_path(data);
-    let read = reads_none();
-    must(verified, CONDITIONS_NOT_MET, must(path, WRONG_DATA, read))
+    must(pins.verified != 0, CONDITIONS_NOT_MET)?;
+    must(is_path(data), WRONG_DATA)?;
+    reads_none()
 }
 
 // The keys with this PIN-less path.

@@ -14,10 +14,12 @@ use command_load::key_with;
 use command_parts::{done, must, reads_none, with_keys};
 use rules::{CONDITIONS_NOT_MET, Replied, Verdict};
 
+#[tactic(auto, unfolding(rules::specs::Commands::remove_checks))]
 pub fn remove_verdict(pins: Pins) -> Verdict
     ensures { result ≡ verdict no_supply (remove_checks pins) }
 {
-    must(pins.verified != 0, CONDITIONS_NOT_MET, reads_none())
+    must(pins.verified != 0, CONDITIONS_NOT_MET)?;
+    reads_none()
 }
 
 pub fn remove(card: Card) -> Replied

@@ -1,6 +1,6 @@
 -- SELECT's reply, from what the code's calls give.
 -- Assumes nothing.
-use mathlib.Core.Path.{◌≡◌, refl}
+use mathlib.Core.Path.{◌≡◌}
 use mathlib.Core.List.{List}
 use Prim.Native.Nat.{ℕ}
 use Rattle.template_rules.specs.Writing.{Wrote}

@@ -1,34 +1,31 @@
--- Free slots counted one by one, and the key UID as SELECT answers it.
+-- The free slots as the library counts them, and the key UID as SELECT answers it.
 -- Assumes nothing.
 use mathlib.Core.Path.{◌≡◌, refl, ap, ◌∙◌}
 use mathlib.Core.Bool.{Bool, true, false, cond}
-use mathlib.Core.List.{List, []}
-use Prim.Native.Nat.{ℕ, ◌+◌, ◌≤◌, ◌<◌}
-use native.Mathlib.Numerals.{add-one}
+use mathlib.Core.List.{List, [], ◌∷◌}
+use Prim.Native.Nat.{ℕ, ◌+◌, ◌≤◌}
 use native.Mathlib.Omega.{arith}
-use lib.ListN.{length, take, drop, get_or, drop_of_length-le}
-use lib.Seq.{drop-cons, take_all}
-use borrow.Author.Tests.{eq-eqb, ne_eqb}
+use lib.ListN.{length, take}
+use lib.Seq.{take_all}
+use Rattle.std.specs.List.{count_by}
+use Rattle.std.proofs.lemmas.List.Sums.{sum_by-cons}
 use Rattle.card.specs.declared.Slot.{Slot}
 use Rattle.card.specs.declared.Keys.{Keys}
 use Rattle.card.specs.State.{key_uid}
-use Rattle.card.specs.Slots.{is_zero}
+use Rattle.card.specs.Slots.{is_zero, is_free}
 use Rattle.rules.specs.Commands.{free_slots}
 use Rattle.command_select.specs.Parts.{key_uid_bytes}
 
--- ---- free_slots, from slot k on
-module _ (s : List Slot) (k : ℕ) (d : Slot) where
-  pub free_more : k < length s → (get_or s k d).filled ≡ 0 → free_slots (drop k s) ≡ 1 + free_slots (drop (k + 1) s)
-  unfolding free_slots
-  free_more h t = rw (drop-cons s k d, eq-eqb _ _ t, add-one k)
-
-  pub free-same : k < length s → ((get_or s k d).filled ≡ 0 → ⊥) → free_slots (drop k s) ≡ free_slots (drop (k + 1) s)
-  unfolding free_slots
-  free-same h t = rw (drop-cons s k d, ne_eqb _ _ t, add-one k)
-
-pub free-none : (s : List Slot) (k : ℕ) → length s ≤ k → free_slots (drop k s) ≡ 0
+-- ---- free_slots: the free slots are those that the library counts
+pub counted_free : (s : List Slot) → count_by is_free s ≡ free_slots s
 unfolding free_slots
-free-none s k h = rw (drop_of_length-le s h)
+counted_free [] = refl
+counted_free (x ∷ s) =
+    sum_by-cons (λ (y : Slot). cond (is_free y) 1 0) x s ∙ ap (λ n. cond (is_free x) 1 0 + n) (counted_free s) ∙ by_flag (is_free x)
+  where
+    by_flag : (b : Bool) → cond b 1 0 + free_slots s ≡ cond b (1 + free_slots s) (free_slots s)
+    by_flag true = refl
+    by_flag false = omega arith
 
 -- ---- key_uid
 pub key-uid-is : (k : Keys) (n : ℕ) → length k.uid ≡ 32 → n ≡ key_uid_bytes k.kind → take n k.uid ≡ key_uid k

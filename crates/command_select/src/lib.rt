@@ -22,28 +22,21 @@ pub const APPLICATION_ID: [u8; 15] = [
     0x53, 0x74, 0x61, 0x74, 0x75, 0x73, 0x57, 0x61, 0x6C, 0x6C, 0x65, 0x74, 0x41, 0x70, 0x70,
 ];
 
+#[tactic(auto, unfolding(rules::specs::Commands::select_checks))]
 pub fn select_verdict(data: &[u8]) -> Verdict
     ensures { result ≡ verdict no_supply (select_checks «data».now) }
 {
     let id = APPLICATION_ID;
-    let named = octets::same(data, &id);
-    must(named, NOT_FOUND, reads_none())
+    must(octets::same(data, &id), NOT_FOUND)?;
+    reads_none()
 }
 
 // How many slots are free.
+#[tactic(auto, using(crate::proofs::SelectFacts::counted_free))]
 fn free_slots(slots: [Slot; Card::SLOTS]) -> u8
     ensures { result ≡ free_slots slots }
 {
-    let mut free: u8 = 0;
-    let mut i = 0;
-    while i < Card::SLOTS {
-        let slot = slots[i];
-        if slot.filled == 0 {
-            free += 1;
-        }
-        i += 1;
-    }
-    free
+    slots.iter().filter(|slot| slot.filled == 0).count() as u8
 }
 
 // How many bytes of the key UID are answered: none without a key.

@@ -56,6 +56,7 @@ fn on_pinless_path(keys: Keys) -> bool
     set & equal
 }
 
+#[tactic(auto, unfolding(rules::specs::Commands::sign_checks))]
 pub fn sign_verdict(pins: Pins, keys: Keys, data: &[u8]) -> Verdict
     requires { (keys.current.len ≤ 40) × (keys.pinless.len ≤ 40) }
     ensures { result ≡ verdict sign_supply (sign_checks pins keys «data».now) }
@@ -64,9 +65,9 @@ pub fn sign_verdict(pins: Pins, keys: Keys, data: &[u8]) -> Verdict
     let verified = pins.verified != 0;
     let pinless = on_pinless_path(keys);
     let allowed = some & (verified | pinless);
-    let hash = data.len() == HASH_BYTES;
-    let read = reads(SIGN_SUPPLY, SIGN_SUPPLY_BYTES, false);
-    must(allowed, CONDITIONS_NOT_MET, must(hash, WRONG_DATA, read))
+    must(allowed, CONDITIONS_NOT_MET)?;
+    must(data.len() == HASH_BYTES, WRONG_DATA)?;
+    reads(SIGN_SUPPLY, SIGN_SUPPLY_BYTES, false)
 }
 
 pub fn sign(card: Card, supply: &[u8], out: &mut [u8]) -> Replied

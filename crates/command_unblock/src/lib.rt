@@ -11,7 +11,7 @@ ghost use Rattle.rules.specs.Rules.{puk, right_by};
 ghost use Rattle.rules.specs.Commands.{is_unblocking, unblock_checks, puk_right, puk_wrong, unblock_reply};
 
 use card::{Card, PIN_BYTES, PUK_BYTES, Pins};
-use command_parts::{done, failed, must, pin_part, reads_none, tries_left, with_pins};
+use command_parts::{done, failed, must, part, reads_none, tries_left, with_pins};
 use octets::same;
 use rules::{CONDITIONS_NOT_MET, Replied, TRIES_LEFT, Verdict, WRONG_DATA};
 use sound_bytes::digits;
@@ -29,18 +29,14 @@ fn is_unblocking(data: &[u8]) -> bool
     digits(&data[PUK_BYTES..])
 }
 
+#[tactic(auto, unfolding(rules::specs::Commands::unblock_checks))]
 pub fn unblock_verdict(pins: Pins, data: &[u8]) -> Verdict
     ensures { result ≡ verdict no_supply (unblock_checks pins «data».now) }
 {
-    let blocked = pins.pin_tries == 0;
-    let try_left = pins.puk_tries != 0;
-    let formed = is_unblocking(data);
-    let read = reads_none();
-    must(
-        blocked,
-        CONDITIONS_NOT_MET,
-        must(try_left, TRIES_LEFT, must(formed, WRONG_DATA, read)),
-    )
+    must(pins.pin_tries == 0, CONDITIONS_NOT_MET)?;
+    must(pins.puk_tries != 0, TRIES_LEFT)?;
+    must(is_unblocking(data), WRONG_DATA)?;
+    reads_none()
 }
 
 fn puk_right(pins: Pins, pin: [u8; PIN_BYTES]) -> Pins
@@ -71,7 +67,7 @@ pub fn unblock(card: Card, data: &[u8]) -> Replied
     let pins = card.pins;
     let puk = pins.puk;
     if same(&data[..PUK_BYTES], &puk) {
-        let unblocked = puk_right(pins, pin_part(data, PUK_BYTES));
+        let unblocked = puk_right(pins, part(data, PUK_BYTES));
         return done(with_pins(card, unblocked));
     }
     let wrong = puk_wrong(pins);

@@ -14,10 +14,12 @@ use card::{Card, KEY_BYTES, Pairing, Pins, Slot, wide};
 use command_parts::{done, must, reads_none, with_pairing};
 use rules::{CONDITIONS_NOT_MET, Replied, Verdict};
 
+#[tactic(auto, unfolding(rules::specs::Commands::unpair_checks))]
 pub fn unpair_verdict(pins: Pins) -> Verdict
     ensures { result ≡ verdict no_supply (unpair_checks pins) }
 {
-    must(pins.verified != 0, CONDITIONS_NOT_MET, reads_none())
+    must(pins.verified != 0, CONDITIONS_NOT_MET)?;
+    reads_none()
 }
 
 // The slots with the one of this index free.

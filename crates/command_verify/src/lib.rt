@@ -15,10 +15,12 @@ use command_parts::{done, failed, must, reads_none, tries_left, with_pins};
 use octets::same;
 use rules::{Replied, TRIES_LEFT, Verdict};
 
+#[tactic(auto, unfolding(rules::specs::Commands::verify_checks))]
 pub fn verify_verdict(pins: Pins) -> Verdict
     ensures { result ≡ verdict no_supply (verify_checks pins) }
 {
-    must(pins.pin_tries != 0, TRIES_LEFT, reads_none())
+    must(pins.pin_tries != 0, TRIES_LEFT)?;
+    reads_none()
 }
 
 // PIN and PUK once the PIN was right: full tries, and verified.

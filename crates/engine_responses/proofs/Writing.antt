@@ -3,12 +3,15 @@
 use mathlib.Core.Path.{◌≡◌, refl, sym, ap, subst, ◌∙◌}
 use mathlib.Core.Bool.{Bool, true, false, ◌&&◌}
 use mathlib.Core.List.{List, [], ◌∷◌, ◌++◌}
-use Prim.Native.Nat.{ℕ, ◌+◌, ◌/◌, ◌%◌}
+use Prim.Native.Nat.{ℕ, ◌+◌, ◌/◌, ◌%◌, ◌<◌}
+use native.Mathlib.Omega.{arith}
 use lib.Dec.{eqb}
 use lib.ListN.{length, drop, length-append}
 use lib.Seq.{drop-drop}
 use Rattle.octets.specs.Bytes.{overwrite, written}
-use Rattle.octets.proofs.Lists.{overwrite-behind, overwrite-start}
+use Rattle.std.proofs.Common.{w16}
+use Rattle.std.specs.Int.{to_be_bytes}
+use Rattle.octets.proofs.Lists.{◌&◌, overwrite-behind, overwrite-start}
 use Rattle.channel_rules.specs.declared.Session.{Session}
 use Rattle.channel_seal.specs.declared.Response.{Response}
 use Rattle.channel_seal.specs.Promise.{ResponseSealed}
@@ -44,7 +47,10 @@ put-behind b x t =
     ∙ overwrite-behind x (drop (length x) b) t (length x) refl
     ∙ ap (λ (y : List ℕ). (x ++ t) ++ y) (drop-drop (length t) (length x) b ∙ ap (λ (k : ℕ). drop k b) (sym (length-append x t)))
 
--- ---- the status word's two bytes, as the code works them out
+-- ---- the status word's two bytes
+pub word-bytes : (w : ℕ) → w < 65536 → to_be_bytes w16 w ≡ w / 256 ∷ w % 256 ∷ []
+word-bytes w h = omega (arith, h) & omega (arith, h) & refl
+
 module _ (w : ℕ) (x : List ℕ) (c : Card) (sw1 sw2 : ℕ) (high : sw1 ≡ w / 256) (low : sw2 ≡ w % 256) where
   text : x ++ (sw1 ∷ sw2 ∷ []) ≡ plain_text (reply_with w x c)
   text = rw (high, low)

@@ -18,12 +18,9 @@ fn tell_plainly(card: Card, status: u16, response: &[u8], buf: &mut [u8]) -> Ans
     requires { (length response.now ≤ 221) × (258 ≤ length buf.old) }
     ensures { AnswerDid (answered (plainly (reply_with status response.now card))) result buf.old buf.new }
 {
-    let sw1 = (status / 256) as u8;
-    let sw2 = (status % 256) as u8;
     let n = response.len();
     octets::put(buf, 0, response);
-    let word = [sw1, sw2];
-    octets::put(buf, n, &word);
+    octets::put(buf, n, &status.to_be_bytes());
     Answered {
         refusal: refusals::REFUSAL_NONE,
         count: n + 2,
@@ -37,8 +34,7 @@ fn tell_sealed(card: Card, status: u16, response: &[u8], buf: &mut [u8]) -> Answ
     requires { (length response.now ≤ 221) × (258 ≤ length buf.old) }
     ensures { AnswerDid (answered (sealed (reply_with status response.now card))) result buf.old buf.new }
 {
-    let sw1 = (status / 256) as u8;
-    let sw2 = (status % 256) as u8;
+    let [sw1, sw2] = status.to_be_bytes();
     let session = channel_card::session_of(card.channel);
     let told = channel_seal::seal_response(session, response, sw1, sw2, buf);
     let count = told.count;

@@ -1,7 +1,8 @@
--- What ASK and ANSWER make of a route, and what the buffer then holds.
+-- What ASK and ANSWER make of a way through the order of checks, and what the buffer then holds.
 -- Assumes nothing.
+use Rattle.std.specs.Prelude.{Ok, Err}
 use mathlib.Core.Path.{◌≡◌, refl, sym, ap, subst, ◌∙◌}
-use mathlib.Core.Bool.{Bool, true, false, cond}
+use mathlib.Core.Bool.{true, false}
 use mathlib.Core.List.{List}
 use Prim.Native.Nat.{ℕ, ◌-◌, ◌≤◌}
 use native.Mathlib.Omega.{arith}
@@ -23,38 +24,32 @@ use Rattle.rules.specs.Steps.{reply_of, Decision, ends_at}
 use Rattle.rules.specs.Engine.{AskOut, ask_refused, asked, answer_refused, answered_at, answered, with_supply}
 use Rattle.rules.specs.Reports.{AskDid, AnswerDid}
 use Rattle.rules.specs.Code.{reply_with, Replies}
-use Rattle.order_ends.specs.declared.Way.{Way}
+use Rattle.order_ends.specs.declared.Going.{Going}
+use Rattle.order_ends.specs.declared.Ended.{Ended}
 use Rattle.order_ends.specs.Routes.{Routes, RoutesIn}
 
--- ---- ANSWER of a sound card, with room enough
-module _ (c : Card) (want : Decision) (r : Way) (d s : List ℕ) (h : Routes want r d) where
-  decided : (b : Bool) → r.goes ≡ b → want ≡ cond b
-      (record { supply = r.supply; data' = d; answer = λ s. tell r.over (reply_of r.command r.card d s); fault_offset = no_fault })
-      (ends_at r.fault_offset (tell r.over (fails r.card r.status)))
-  decided b e = h.decides ∙ rw (e)
+-- ---- a command whose checks hold: ANSWER of a sound card, with room enough, and ASK
+module _ (c : Card) (want : Decision) (g : Going) (d s : List ℕ) (h : Routes want (Ok g) d) where
+  pub answer-refused : suits g.supply s ≡ false → with_supply c want s ≡ answer_refused c wrong_supply
+  answer-refused f = ap (λ (x : Decision). with_supply c x s) h.decides ∙ rw (f)
 
-  pub answer-refused : r.goes ≡ true → suits r.supply s ≡ false → with_supply c want s ≡ answer_refused c wrong_supply
-  answer-refused g f = ap (λ (x : Decision). with_supply c x s) (decided true g) ∙ rw (f)
+  pub answer-taken : suits g.supply s ≡ true → with_supply c want s ≡ answered (tell g.over (reply_of g.command g.card d s))
+  answer-taken f = ap (λ (x : Decision). with_supply c x s) h.decides ∙ rw (f)
 
-  pub answer-taken : r.goes ≡ true → suits r.supply s ≡ true
-      → with_supply c want s ≡ answered (tell r.over (reply_of r.command r.card d s))
-  answer-taken g f = ap (λ (x : Decision). with_supply c x s) (decided true g) ∙ rw (f)
+  pub ask-none : g.supply.kind ≡ 0 → asked want ≡ ask_refused 0
+  ask-none f = ap asked h.decides ∙ rw (f)
 
-  pub answer-ended : r.goes ≡ false
-      → with_supply c want s ≡ answered_at r.fault_offset (tell r.over (fails r.card r.status))
+  pub ask-some : (g.supply.kind ≡ 0 → ⊥) → asked want ≡ record { refusal = 0; kind = g.supply.kind; bytes = d }
+  ask-some f = ap asked h.decides ∙ rw (ne_eqb g.supply.kind 0 f)
+
+-- ---- a command that a step ends
+module _ (c : Card) (want : Decision) (e : Ended) (d s : List ℕ) (h : Routes want (Err e) d) where
+  pub answer-ended : with_supply c want s ≡ answered_at e.fault_offset (tell e.over (fails e.card e.status))
   unfolding suits
-  answer-ended g = ap (λ (x : Decision). with_supply c x s) (decided false g)
+  answer-ended = ap (λ (x : Decision). with_supply c x s) h.decides
 
-  -- ---- ASK
-  pub ask-none : r.goes ≡ true → r.supply.kind ≡ 0 → asked want ≡ ask_refused 0
-  ask-none g f = ap asked (decided true g) ∙ rw (f)
-
-  pub ask-some : r.goes ≡ true → (r.supply.kind ≡ 0 → ⊥)
-      → asked want ≡ record { refusal = 0; kind = r.supply.kind; bytes = d }
-  ask-some g f = ap asked (decided true g) ∙ rw (ne_eqb r.supply.kind 0 f)
-
-  pub ask-ended : r.goes ≡ false → asked want ≡ ask_refused 0
-  ask-ended g = ap asked (decided false g)
+  pub ask-ended : asked want ≡ ask_refused 0
+  ask-ended = ap asked h.decides
 
 -- ---- another name for what is answered
 pub ask-as : (o o' : AskOut) (r : Asked) (b a : List ℕ) → o' ≡ o → AskDid o r b a → AskDid o' r b a
@@ -91,15 +86,9 @@ module _ (x : Reply) (r : Replied) (b a : List ℕ) (h : Replies x r b a) where
     length-drop (length x.response) b,
   )
 
--- ---- the data of a route that goes on
-pub data-part : (n : ℕ) (s : List ℕ) → take (n - 0) s ≡ take n s
-data-part n s = ap (λ (k : ℕ). take k s) same
-  where
-    same : n - 0 ≡ n
-    same = omega arith
-
-pub data-short : (want : Decision) (r : Way) (plain : List ℕ) → RoutesIn want r plain → r.goes ≡ true → r.count ≤ length plain
-data-short want r plain h g = omega (arith, (h.ready g).long, length-take r.count plain)
+-- ---- the data of a command that goes on
+pub data-short : (want : Decision) (g : Going) (plain : List ℕ) → RoutesIn want (Ok g) plain → g.count ≤ length plain
+data-short want g plain h = omega (arith, h.ready.long, length-take g.count plain)
 
 -- ---- ASK's data in the buffer
 pub did-ask : (d : List ℕ) (n : ℕ) (b a : List ℕ) (kind : ℕ) {told : ℕ} → length d ≡ n → a ≡ overwrite b 0 d → told ≡ kind

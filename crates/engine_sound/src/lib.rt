@@ -43,18 +43,19 @@ pub fn answer_sound(card: Card, cmd: &[u8], supply: &[u8], buf: &mut [u8]) -> An
     ensures { AnswerDid (with_supply card (decide card cmd.now) supply.now) result buf.old buf.new }
 {
     let mut plain = [0u8; order::DATA_MAX_BYTES];
-    let way = order::route(card, cmd, &mut plain);
-    let next = way.card;
-    let count = way.count;
-    let k = way.command;
-    if way.goes {
-        if engine_reports::supply_suits(way.supply, supply) {
-            return perform(way.over, next, k, &plain[0..count], supply, buf);
+    match order::route(card, cmd, &mut plain) {
+        Ok(going) => {
+            if !engine_reports::supply_suits(going.supply, supply) {
+                return engine_reports::refused(card, REFUSAL_SUPPLY);
+            }
+            let data = &plain[..going.count];
+            perform(going.over, going.card, going.command, data, supply, buf)
         }
-        return engine_reports::refused(card, REFUSAL_SUPPLY);
+        Err(ended) => {
+            let told = engine_responses::tell(ended.over, ended.card, ended.status, &[], buf);
+            engine_reports::with_fault(told, ended.fault_offset)
+        }
     }
-    let told = engine_responses::tell(way.over, next, way.status, &plain[0..0], buf);
-    engine_reports::with_fault(told, way.fault_offset)
 }
 
 // ASK for a sound card, with room enough: nothing is written where no supply is read.
@@ -63,19 +64,17 @@ pub fn ask_sound(card: Card, cmd: &[u8], buf: &mut [u8]) -> Asked
     ensures { AskDid (asked (decide card cmd.now)) result buf.old buf.new }
 {
     let mut plain = [0u8; order::DATA_MAX_BYTES];
-    let way = order::route(card, cmd, &mut plain);
-    let count = way.count;
-    let kind = way.supply.kind;
-    if way.goes {
-        if kind == 0 {
-            return engine_reports::ask_refused(REFUSAL_NONE);
-        }
-        octets::put(buf, 0, &plain[0..count]);
-        return Asked {
-            refusal: REFUSAL_NONE,
-            kind,
-            count,
-        };
+    let Ok(going) = order::route(card, cmd, &mut plain) else {
+        return engine_reports::ask_refused(REFUSAL_NONE);
+    };
+    let kind = going.supply.kind;
+    if kind == 0 {
+        return engine_reports::ask_refused(REFUSAL_NONE);
     }
-    engine_reports::ask_refused(REFUSAL_NONE)
+    octets::put(buf, 0, &plain[..going.count]);
+    Asked {
+        refusal: REFUSAL_NONE,
+        kind,
+        count: going.count,
+    }
 }

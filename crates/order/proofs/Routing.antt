@@ -1,5 +1,6 @@
 -- What each step to 4 makes of a route: it ends, or it is the next step's. Lengths are in bytes.
 -- Assumes nothing.
+use Rattle.std.specs.Prelude.{Err}
 use mathlib.Core.Path.{◌≡◌, refl, sym, ap, subst, ◌∙◌}
 use mathlib.Core.Bool.{Bool, true, false, ◌&&◌, not, cond}
 use mathlib.Core.List.{List}
@@ -15,15 +16,13 @@ use Rattle.card.specs.declared.Card.{Card}
 use Rattle.card.specs.declared.Keys.{Keys}
 use Rattle.card.specs.State.{closed, forgotten}
 use Rattle.rules.specs.declared.Instruction.{Instruction}
-use Rattle.rules.specs.declared.Named.{Named}
+use Rattle.rules.specs.declared.Unnamed.{Unnamed}
+use Rattle.rules.specs.Results.{Named}
 use Rattle.rules.specs.Words.{wrong_length, conditions_not_met, fails}
 use Rattle.rules.specs.Channel.{plainly, tell}
 use Rattle.rules.specs.Rows.{row_of, is_plain}
 use Rattle.rules.specs.Steps as steps
 use Rattle.command_table.specs.Fits.{PathsFit}
-use Rattle.order_form.specs.declared.Form.{Form}
-use Rattle.order_form.specs.declared.Form.TheVariants as form
-use Rattle.order_form.specs.Form.{DataAt, FormSays}
 use Rattle.order_ends.specs.Routes.{from_step2, from_step3, from_step4, from_opening, from_step5}
 use Rattle.order_ends.proofs.Ending.{paths-by}
 
@@ -76,6 +75,10 @@ pub step3-as : (cmd : List ℕ) (c : Card) (field : List ℕ) (n : Named) → n 
 step3-as cmd c field n e =
     ap (λ (x : Named). steps.finish (steps.then (steps.by_name c x) (λ (i : Instruction). steps.then (steps.step4 i cmd c field) (steps.step5 i cmd)))) (sym e)
 
+-- why there is no instruction, under its name
+pub refusal-as : {r : Named} {x : Unnamed} (y : Unnamed) → r ≡ Err x → x ≡ y → Err y ≡ r
+refusal-as {r} y e f = sym (subst (λ (z : Unnamed). r ≡ Err z) f e)
+
 -- ---- step 2
 module _ (cmd : List ℕ) (c : Card) where
   by-form : (o : Option (List ℕ)) → steps.data_of cmd ≡ o
@@ -89,16 +92,6 @@ module _ (cmd : List ℕ) (c : Card) where
   pub step2-wrong : steps.data_of cmd ≡ none → from_step2 cmd c ≡ steps.ends (tell false (fails c wrong_length))
   unfolding tell
   step2-wrong e = by-form none e
-
--- what the search for the data found
-pub found : (cmd : List ℕ) (r : Form) (start stop : ℕ) → FormSays cmd r → r ≡ form.Data start stop → DataAt cmd start stop
-found cmd r start stop h e = subst (FormSays cmd) e h
-
-pub lost : (cmd : List ℕ) (r : Form) → FormSays cmd r → r ≡ form.Wrong → steps.data_of cmd ≡ none
-lost cmd r h e = subst (FormSays cmd) e h
-
-pub part-short : {n : ℕ} (s : List ℕ) → n ≤ 255 → length (take n s) ≤ 255
-part-short {n = n} s h = omega (arith, h, length-take n s)
 
 -- ---- step 1
 module _ (cmd : List ℕ) (c next : Card) (e : next ≡ steps.step1 cmd c) where

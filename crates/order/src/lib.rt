@@ -1,6 +1,6 @@
 // The order of checks for a command (RULES 5), steps 1 to 4 and then those of order_opens and order_ends, walked once for ASK and ANSWER alike.
 // Every length, Lc included, and the fault offset are in bytes.
-// Proved: for every card and every command, however short, the route means what the rulebook decides.
+// Proved: for every card and every command, however short, the way means what the rulebook decides.
 #![tactic(auto)]
 
 ghost use Rattle.std.specs.Prelude.{◌≡◌, ◌≤◌, length};
@@ -10,8 +10,7 @@ ghost use Rattle.order_ends.specs.Routes.{RoutesIn, from_step2, from_step3, from
 
 use card::Card;
 use order_ends::Way;
-use order_form::Form;
-use rules::{Instruction, Named};
+use rules::{Instruction, Unnamed};
 
 // The most data that a command carries, in bytes.
 pub const DATA_MAX_BYTES: usize = 255;
@@ -30,11 +29,10 @@ fn step_2(card: Card, cmd: &[u8], plain: &mut [u8]) -> Way
     requires { (length plain.old ≡ 255) × PathsFit card.keys }
     ensures { RoutesIn (from_step2 cmd.now card) result plain.new }
 {
-    let form = order_form::find_data(cmd);
-    match form {
-        Form::Data(start, stop) => step_3(card, cmd, &cmd[start..stop], plain),
-        Form::Wrong => order_ends::ends(false, card, rules::WRONG_LENGTH),
-    }
+    let Some(field) = order_form::find_data(cmd) else {
+        return Err(order_ends::ends(false, card, rules::WRONG_LENGTH));
+    };
+    step_3(card, cmd, field, plain)
 }
 
 // Step 3: class and instruction.
@@ -42,11 +40,10 @@ fn step_3(card: Card, cmd: &[u8], field: &[u8], plain: &mut [u8]) -> Way
     requires { (4 ≤ length cmd.now) × (length field.now ≤ 255) × (length plain.old ≡ 255) × PathsFit card.keys }
     ensures { RoutesIn (from_step3 cmd.now card field.now) result plain.new }
 {
-    let named = order_rows::name(card.initialised != 0, cmd[0], cmd[1]);
-    match named {
-        Named::Known(i) => step_4(i, card, cmd, field, plain),
-        Named::WrongClass => order_ends::ends(false, card, rules::UNKNOWN_CLASS),
-        Named::Unknown => order_ends::ends(false, card, rules::UNKNOWN_INSTRUCTION),
+    match order_rows::name(card.initialised != 0, cmd[0], cmd[1]) {
+        Ok(i) => step_4(i, card, cmd, field, plain),
+        Err(Unnamed::WrongClass) => Err(order_ends::ends(false, card, rules::UNKNOWN_CLASS)),
+        Err(Unnamed::Unknown) => Err(order_ends::ends(false, card, rules::UNKNOWN_INSTRUCTION)),
     }
 }
 
@@ -61,7 +58,7 @@ fn step_4(i: Instruction, card: Card, cmd: &[u8], field: &[u8], plain: &mut [u8]
         return order_ends::step_5(i, false, card, cmd, field);
     }
     if card.channel.stage < stage {
-        return order_ends::ends(false, card, rules::CONDITIONS_NOT_MET);
+        return Err(order_ends::ends(false, card, rules::CONDITIONS_NOT_MET));
     }
     order_opens::step_4_opens(i, card, cmd, field, plain)
 }

@@ -9,68 +9,62 @@ ghost use Rattle.rules.specs.Rows.{row_of};
 ghost use Rattle.rules.specs.Code.{choice_of};
 
 use order_lists::{export, is_slot, load, mnemonic, only};
-use rules::{Choice, Command, Instruction, SecretKind, StatusKind};
+use rules::{Command, Instruction, SecretKind, StatusKind};
 
-fn open(p1: u8, p2: u8) -> Choice
+fn open(p1: u8, p2: u8) -> Option<Command>
     ensures { result ≡ choice_of ((row_of ins.Open).lists p1 p2) }
 {
-    if is_slot(p1, p2) {
-        return Choice::Listed(Command::Open(p1));
-    }
-    Choice::Unlisted
+    is_slot(p1, p2).then_some(Command::Open(p1))
 }
 
-fn unpair(p1: u8, p2: u8) -> Choice
+fn unpair(p1: u8, p2: u8) -> Option<Command>
     ensures { result ≡ choice_of ((row_of ins.Unpair).lists p1 p2) }
 {
-    if is_slot(p1, p2) {
-        return Choice::Listed(Command::Unpair(p1));
-    }
-    Choice::Unlisted
+    is_slot(p1, p2).then_some(Command::Unpair(p1))
 }
 
-fn pair(p1: u8, p2: u8) -> Choice
+fn pair(p1: u8, p2: u8) -> Option<Command>
     ensures { result ≡ choice_of ((row_of ins.Pair).lists p1 p2) }
 {
     if p2 != 0 {
-        return Choice::Unlisted;
+        return None;
     }
     match p1 {
-        0x00 => Choice::Listed(Command::PairFirst),
-        0x01 => Choice::Listed(Command::PairFinal),
-        _ => Choice::Unlisted,
+        0x00 => Some(Command::PairFirst),
+        0x01 => Some(Command::PairFinal),
+        _ => None,
     }
 }
 
-fn status(p1: u8, p2: u8) -> Choice
+fn status(p1: u8, p2: u8) -> Option<Command>
     ensures { result ≡ choice_of ((row_of ins.Status).lists p1 p2) }
 {
     if p2 != 0 {
-        return Choice::Unlisted;
+        return None;
     }
     match p1 {
-        0x00 => Choice::Listed(Command::Status(StatusKind::Application)),
-        0x01 => Choice::Listed(Command::Status(StatusKind::Path)),
-        _ => Choice::Unlisted,
+        0x00 => Some(Command::Status(StatusKind::Application)),
+        0x01 => Some(Command::Status(StatusKind::Path)),
+        _ => None,
     }
 }
 
-fn change(p1: u8, p2: u8) -> Choice
+fn change(p1: u8, p2: u8) -> Option<Command>
     ensures { result ≡ choice_of ((row_of ins.Change).lists p1 p2) }
 {
     if p2 != 0 {
-        return Choice::Unlisted;
+        return None;
     }
     match p1 {
-        0x00 => Choice::Listed(Command::Change(SecretKind::Pin)),
-        0x01 => Choice::Listed(Command::Change(SecretKind::Puk)),
-        0x02 => Choice::Listed(Command::Change(SecretKind::Pairing)),
-        _ => Choice::Unlisted,
+        0x00 => Some(Command::Change(SecretKind::Pin)),
+        0x01 => Some(Command::Change(SecretKind::Puk)),
+        0x02 => Some(Command::Change(SecretKind::Pairing)),
+        _ => None,
     }
 }
 
 // Step 5: P1 and P2.
-pub fn choose(i: Instruction, p1: u8, p2: u8) -> Choice
+pub fn choose(i: Instruction, p1: u8, p2: u8) -> Option<Command>
     ensures { result ≡ choice_of ((row_of i).lists p1 p2) }
 {
     match i {

@@ -1,11 +1,12 @@
-// Step 2 of the order of checks (RULES 5.2): the form of a command's bytes, and where its data is.
-// Every length, Lc included, and every place is in bytes.
-// Proved: a place is given exactly where the rulebook finds data there, for every command, however short.
+// Step 2 of the order of checks (RULES 5.2): the form of a command's bytes, and its data.
+// Every length, Lc included, is in bytes.
+// Proved: the data are what the rulebook finds, and none where it finds the form wrong, for every command, however short.
 #![tactic(auto)]
 
-ghost use Rattle.std.specs.Prelude.{◌≡◌, ◌<◌};
-ghost use Rattle.rules.specs.Steps.{lc_fits};
-ghost use Rattle.order_form.specs.Form.{FormSays};
+ghost use Rattle.std.specs.Prelude.{◌≡◌, ◌<◌, IfSome, IfNone};
+ghost use Rattle.std.proofs.Math.Option.{none};
+ghost use Rattle.rules.specs.Steps.{lc_fits, data_of};
+ghost use Rattle.order_form.specs.Form.{DataIn};
 
 use card::wide;
 
@@ -13,13 +14,6 @@ use card::wide;
 pub const HEADER_BYTES: usize = 4;
 
 pub const FRONT_BYTES: usize = 5;
-
-// Step 2: where the command's data starts and ends, counted from byte 0, or that the form is wrong.
-#[derive(Clone, Copy)]
-pub enum Form {
-    Data(usize, usize),
-    Wrong,
-}
 
 // Whether byte 4 can be the Lc of a command of this many bytes.
 fn lc_fits(lc: usize, whole: usize) -> bool
@@ -32,20 +26,21 @@ fn lc_fits(lc: usize, whole: usize) -> bool
     some & (bare | with_le)
 }
 
-// Step 2, the form.
-pub fn find_data(cmd: &[u8]) -> Form
-    ensures { FormSays cmd.now result }
+// Step 2: the command's data as received, or that the form is wrong.
+pub fn find_data(cmd: &[u8]) -> Option<&[u8]>
+    ensures some { IfSome result (λ field. DataIn cmd.now field.now) }
+    ensures none { IfNone result (data_of cmd.now ≡ none) }
 {
     let n = cmd.len();
     if n < HEADER_BYTES {
-        return Form::Wrong;
+        return None;
     }
     if n <= FRONT_BYTES {
-        return Form::Data(n, n);
+        return Some(&cmd[n..]);
     }
     let lc = wide(cmd[4]);
     if lc_fits(lc, n) {
-        return Form::Data(FRONT_BYTES, FRONT_BYTES + lc);
+        return Some(&cmd[FRONT_BYTES..FRONT_BYTES + lc]);
     }
-    Form::Wrong
+    None
 }

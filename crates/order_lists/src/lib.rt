@@ -11,18 +11,15 @@ ghost use Rattle.rules.specs.Rows.{row_of, only, at_p1, exports};
 ghost use Rattle.rules.specs.Code.{choice_of};
 
 use card::{Card, wide};
-use rules::{Choice, Command, ExportPart, ExportPath, KeyForm, Phrase};
+use rules::{Command, ExportPart, ExportPath, KeyForm, Phrase};
 
 // The command of an instruction that lists one P1 alone, with P2 00.
-pub fn only(value: u8, k: Command, p1: u8, p2: u8) -> Choice
+pub fn only(value: u8, k: Command, p1: u8, p2: u8) -> Option<Command>
     ensures { result ≡ choice_of (only value k p1 p2) }
 {
     let p1_listed = p1 == value;
     let p2_listed = p2 == 0;
-    if p2_listed & p1_listed {
-        return Choice::Listed(k);
-    }
-    Choice::Unlisted
+    (p2_listed & p1_listed).then_some(k)
 }
 
 // Whether P1 is the index of a slot, and P2 is 00.
@@ -34,54 +31,54 @@ pub fn is_slot(p1: u8, p2: u8) -> bool
     p2_zero & slot
 }
 
-pub fn load(p1: u8, p2: u8) -> Choice
+pub fn load(p1: u8, p2: u8) -> Option<Command>
     ensures { result ≡ choice_of ((row_of ins.Load).lists p1 p2) }
 {
     if p2 != 0 {
-        return Choice::Unlisted;
+        return None;
     }
     match p1 {
-        0x01 => Choice::Listed(Command::Load(KeyForm::Keypair)),
-        0x02 => Choice::Listed(Command::Load(KeyForm::Extended)),
-        0x03 => Choice::Listed(Command::Load(KeyForm::Seed)),
-        _ => Choice::Unlisted,
+        0x01 => Some(Command::Load(KeyForm::Keypair)),
+        0x02 => Some(Command::Load(KeyForm::Extended)),
+        0x03 => Some(Command::Load(KeyForm::Seed)),
+        _ => None,
     }
 }
 
 // EXPORT with this part: its three P1.
-fn export_of(what: ExportPart, p1: u8) -> Choice
+fn export_of(what: ExportPart, p1: u8) -> Option<Command>
     ensures { result ≡ choice_of (at_p1 (exports what) p1) }
 {
     match p1 {
-        0x00 => Choice::Listed(Command::Export(ExportPath::Current, what)),
-        0x01 => Choice::Listed(Command::Export(ExportPath::Given, what)),
-        0x02 => Choice::Listed(Command::Export(ExportPath::MakeCurrent, what)),
-        _ => Choice::Unlisted,
+        0x00 => Some(Command::Export(ExportPath::Current, what)),
+        0x01 => Some(Command::Export(ExportPath::Given, what)),
+        0x02 => Some(Command::Export(ExportPath::MakeCurrent, what)),
+        _ => None,
     }
 }
 
-pub fn export(p1: u8, p2: u8) -> Choice
+pub fn export(p1: u8, p2: u8) -> Option<Command>
     ensures { result ≡ choice_of ((row_of ins.Export).lists p1 p2) }
 {
     match p2 {
         0x00 => export_of(ExportPart::PrivateAndPublic, p1),
         0x01 => export_of(ExportPart::PublicOnly, p1),
-        _ => Choice::Unlisted,
+        _ => None,
     }
 }
 
-pub fn mnemonic(p1: u8, p2: u8) -> Choice
+pub fn mnemonic(p1: u8, p2: u8) -> Option<Command>
     ensures { result ≡ choice_of ((row_of ins.Mnemonic).lists p1 p2) }
 {
     if p2 != 0 {
-        return Choice::Unlisted;
+        return None;
     }
     match p1 {
-        0x04 => Choice::Listed(Command::Mnemonic(Phrase::Words12)),
-        0x05 => Choice::Listed(Command::Mnemonic(Phrase::Words15)),
-        0x06 => Choice::Listed(Command::Mnemonic(Phrase::Words18)),
-        0x07 => Choice::Listed(Command::Mnemonic(Phrase::Words21)),
-        0x08 => Choice::Listed(Command::Mnemonic(Phrase::Words24)),
-        _ => Choice::Unlisted,
+        0x04 => Some(Command::Mnemonic(Phrase::Words12)),
+        0x05 => Some(Command::Mnemonic(Phrase::Words15)),
+        0x06 => Some(Command::Mnemonic(Phrase::Words18)),
+        0x07 => Some(Command::Mnemonic(Phrase::Words21)),
+        0x08 => Some(Command::Mnemonic(Phrase::Words24)),
+        _ => None,
     }
 }

@@ -9,8 +9,7 @@ use native.Mathlib.Omega.{arith}
 use lib.ListN.{length, take, get_or, length-append}
 use lib.Seq.{take-append-le, length-take-le}
 use Rattle.channel_rules.specs.declared.Session.{Session}
-use Rattle.channel_rules.specs.declared.Opening.{Opening}
-use Rattle.channel_rules.specs.declared.Opening.TheVariants as opening
+use Rattle.std.specs.Prelude as rust
 use Rattle.channel_rules.specs.Message.{open_field, command_head}
 use Rattle.channel_open.specs.Promise.{Opens}
 use Rattle.channel_open.proofs.Openings.{Holds, holds, held-short, field-long}
@@ -31,7 +30,7 @@ header_is (a ∷ (b ∷ (x ∷ []))) h = absurd (omega (arith, h))
 header_is (a ∷ (b ∷ (x ∷ (y ∷ more)))) h = refl
 
 -- the opening as the code asks for it, byte by byte of the header
-pub opens_as : (cmd : List ℕ) (c : Card) (field : List ℕ) (s : Session) → s ≡ session_of c.channel → 4 ≤ length cmd → (r : Opening) (at : List ℕ)
+pub opens_as : (cmd : List ℕ) (c : Card) (field : List ℕ) (s : Session) → s ≡ session_of c.channel → 4 ≤ length cmd → (r : rust.Option ℕ) (at : List ℕ)
     → Opens (open_field s (command_head (get_or cmd 0 0 ∷ get_or cmd 1 0 ∷ get_or cmd 2 0 ∷ get_or cmd 3 0 ∷ [])) field) r at → Opens (opened_by c cmd field) r at
 opens_as cmd c field s e h r at p =
     subst (λ (x : Session). Opens (open_field x (command_head (header_of cmd)) field) r at) e
@@ -42,12 +41,12 @@ module _ (i : Instruction) (cmd : List ℕ) (c : Card) (field : List ℕ) where
   by-opening o e = ap (λ (x : Option (List ℕ)). finish (then (by_opening c field x) (step5 i cmd))) e
 
   -- the opening's answer r, which left the data at the start of `at`
-  module _ (r : Opening) (at : List ℕ) (p : Opens (opened_by c cmd field) r at) where
-    pub open_none : r ≡ opening.Refused → from_opening i cmd c field ≡ ends (tell false (fails (closed c) security_not_met))
+  module _ (r : rust.Option ℕ) (at : List ℕ) (p : Opens (opened_by c cmd field) r at) where
+    pub open_none : r ≡ rust.None → from_opening i cmd c field ≡ ends (tell false (fails (closed c) security_not_met))
     unfolding tell
     open_none e = by-opening none (closed_none (opened_by c cmd field) (sym e ∙ p.told))
 
-    module _ (n : ℕ) (e : r ≡ opening.Bytes n) where
+    module _ (n : ℕ) (e : r ≡ rust.Some n) where
       held : Holds (opened_by c cmd field) n
       held = holds _ n (sym e ∙ p.told)
 

@@ -9,7 +9,6 @@ ghost use Rattle.rules.specs.Rows.{is_plain};
 ghost use Rattle.order_ends.specs.Routes.{RoutesIn, from_opening};
 
 use card::Card;
-use channel_rules::Opening;
 use order_ends::Way;
 use rules::Instruction;
 
@@ -24,14 +23,14 @@ pub fn step_4_opens(i: Instruction, card: Card, cmd: &[u8], field: &[u8], plain:
     let p1 = cmd[2];
     let p2 = cmd[3];
     let header = [cla, ins, p1, p2];
-    let Opening::Bytes(n) = channel_open::open_command(
+    let Some(n) = channel_open::open_command(
         session,
         header,
         field,
         &mut plain[0..channel_open::CIPHERTEXT_MAX_BYTES],
     ) else {
         let closed = card.close();
-        return order_ends::ends(false, closed, rules::SECURITY_NOT_MET);
+        return Err(order_ends::ends(false, closed, rules::SECURITY_NOT_MET));
     };
     let mac = octets::block(&field[0..channel_rules::MAC_BYTES]);
     order_ends::step_5(

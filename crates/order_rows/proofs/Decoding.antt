@@ -1,11 +1,12 @@
 -- An instruction byte that no row has.
 -- Assumes nothing.
+use Rattle.std.specs.Prelude.{Err}
 use mathlib.Core.Path.{◌≡◌, refl}
 use mathlib.Core.List.{List, [], ◌∷◌}
 use Prim.Native.Nat.{ℕ}
 use borrow.Author.Tests.{ne_eqb}
 use Rattle.rules.specs.declared.Instruction.{Instruction}
-use Rattle.rules.specs.declared.Named.TheVariants as named
+use Rattle.rules.specs.declared.Unnamed.TheVariants as unnamed
 use Rattle.rules.specs.Rows.{row_of}
 use Rattle.rules.specs.Steps.{with_byte}
 
@@ -14,7 +15,7 @@ abbrev pub NoneOf : ℕ → List Instruction → Type 0 → Type 0
 NoneOf b [] known = known
 NoneOf b (i ∷ more) known = NoneOf b more (known × (b ≡ (row_of i).byte → ⊥))
 
-pub unknown : (b : ℕ) (l : List Instruction) (known : Type 0) → NoneOf b l known → known × (with_byte b l ≡ named.Unknown)
+pub unknown : (b : ℕ) (l : List Instruction) (known : Type 0) → NoneOf b l known → known × (with_byte b l ≡ (Err unnamed.Unknown))
 unknown b [] known n = (n, refl)
 unknown b (i ∷ more) known n =
     let r = unknown b more (known × (b ≡ (row_of i).byte → ⊥)) n in

@@ -11,36 +11,36 @@ use card::{STAGE_AUTHENTICATED, STAGE_CLOSED, STAGE_OPENED};
 use rules::{
     CLASS, CLASS_SELECT, INS_CHANGE, INS_DERIVE, INS_EXPORT, INS_INIT, INS_LOAD, INS_MNEMONIC,
     INS_MUTUAL, INS_OPEN, INS_PAIR, INS_REMOVE, INS_SELECT, INS_SET_NDEF, INS_SET_PINLESS,
-    INS_SIGN, INS_STATUS, INS_UNBLOCK, INS_UNPAIR, INS_VERIFY, Instruction, Loss, Named, Offer,
+    INS_SIGN, INS_STATUS, INS_UNBLOCK, INS_UNPAIR, INS_VERIFY, Instruction, Loss, Offer, Unnamed,
 };
 
 // The instructions of class 80.
-fn of_class_80(ins: u8) -> Named
+fn of_class_80(ins: u8) -> Result<Instruction, Unnamed>
     ensures { result ≡ with_byte ins class80 }
 {
     match ins {
-        INS_INIT => Named::Known(Instruction::Init),
-        INS_OPEN => Named::Known(Instruction::Open),
-        INS_MUTUAL => Named::Known(Instruction::Mutual),
-        INS_PAIR => Named::Known(Instruction::Pair),
-        INS_UNPAIR => Named::Known(Instruction::Unpair),
-        INS_STATUS => Named::Known(Instruction::Status),
-        INS_VERIFY => Named::Known(Instruction::Verify),
-        INS_CHANGE => Named::Known(Instruction::Change),
-        INS_UNBLOCK => Named::Known(Instruction::Unblock),
-        INS_LOAD => Named::Known(Instruction::Load),
-        INS_DERIVE => Named::Known(Instruction::Derive),
-        INS_REMOVE => Named::Known(Instruction::Remove),
-        INS_SET_PINLESS => Named::Known(Instruction::SetPinless),
-        INS_SIGN => Named::Known(Instruction::Sign),
-        INS_EXPORT => Named::Known(Instruction::Export),
-        INS_SET_NDEF => Named::Known(Instruction::SetNdef),
-        INS_MNEMONIC => Named::Known(Instruction::Mnemonic),
-        _ => Named::Unknown,
+        INS_INIT => Ok(Instruction::Init),
+        INS_OPEN => Ok(Instruction::Open),
+        INS_MUTUAL => Ok(Instruction::Mutual),
+        INS_PAIR => Ok(Instruction::Pair),
+        INS_UNPAIR => Ok(Instruction::Unpair),
+        INS_STATUS => Ok(Instruction::Status),
+        INS_VERIFY => Ok(Instruction::Verify),
+        INS_CHANGE => Ok(Instruction::Change),
+        INS_UNBLOCK => Ok(Instruction::Unblock),
+        INS_LOAD => Ok(Instruction::Load),
+        INS_DERIVE => Ok(Instruction::Derive),
+        INS_REMOVE => Ok(Instruction::Remove),
+        INS_SET_PINLESS => Ok(Instruction::SetPinless),
+        INS_SIGN => Ok(Instruction::Sign),
+        INS_EXPORT => Ok(Instruction::Export),
+        INS_SET_NDEF => Ok(Instruction::SetNdef),
+        INS_MNEMONIC => Ok(Instruction::Mnemonic),
+        _ => Err(Unnamed::Unknown),
     }
 }
 
-fn by_class(cla: u8, ins: u8) -> Named
+fn by_class(cla: u8, ins: u8) -> Result<Instruction, Unnamed>
     ensures { result ≡ by_class cla ins }
 {
     if cla == CLASS {
@@ -49,9 +49,9 @@ fn by_class(cla: u8, ins: u8) -> Named
     let class_0 = cla == CLASS_SELECT;
     let select = ins == INS_SELECT;
     if class_0 & select {
-        return Named::Known(Instruction::Select);
+        return Ok(Instruction::Select);
     }
-    Named::WrongClass
+    Err(Unnamed::WrongClass)
 }
 
 // A row: where the instruction is offered; the lowest stage of the channel that it goes in, 0 for those that are plain in every stage; and what
@@ -115,20 +115,15 @@ fn is_offered(offer: Offer, initialised: bool) -> bool
 }
 
 // Step 3: class and instruction.
-pub fn name(initialised: bool, cla: u8, ins: u8) -> Named
+#[tactic(auto, unfolding(rules::specs::Steps::name_of))]
+pub fn name(initialised: bool, cla: u8, ins: u8) -> Result<Instruction, Unnamed>
     ensures { result ≡ name_of initialised cla ins }
 {
-    let named = by_class(cla, ins);
-    match named {
-        Named::Known(i) => {
-            if is_offered(offer_of(i), initialised) {
-                Named::Known(i)
-            } else {
-                Named::Unknown
-            }
-        }
-        Named::WrongClass => Named::WrongClass,
-        Named::Unknown => Named::Unknown,
+    let i = by_class(cla, ins)?;
+    if is_offered(offer_of(i), initialised) {
+        Ok(i)
+    } else {
+        Err(Unnamed::Unknown)
     }
 }
 

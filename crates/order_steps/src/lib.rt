@@ -71,9 +71,7 @@ pub fn begun(loss: Loss, card: Card) -> Card
 {
     match loss {
         Loss::Channel => card.close(),
-        Loss::HalfOpen => card,
-        Loss::Pending => card,
-        Loss::Nothing => card,
+        Loss::HalfOpen | Loss::Pending | Loss::Nothing => card,
     }
 }
 

@@ -12,7 +12,7 @@ ghost use Rattle.plan_steps.specs.Steps.{stepped};
 
 use card::{Card, Keys, Pins, wide};
 use plan_rules::{Checked, HEAD_BYTES, PLAN_MAX_COMMANDS};
-use plan_steps::{Step, after_ins, is_at, stopped};
+use plan_steps::{Step, after_ins, is_at};
 use refusals::{REFUSAL_NONE, REFUSAL_UNSOUND};
 use rules::CLASS;
 use sound::sound;
@@ -39,41 +39,32 @@ fn first_bytes(plan: &[u8]) -> usize
 }
 
 // The first command of a plan.
-fn after_first(flag: u8, pins: Pins, keys: Keys, plan: &[u8]) -> Step
+fn after_first(flag: u8, pins: Pins, keys: Keys, plan: &[u8]) -> Option<Step>
     ensures { after_first (bare flag pins keys) plan.now ≡ stepped flag result }
 {
     let end = first_bytes(plan);
     if plan.len() < end {
-        return stopped(pins, keys);
+        return None;
     }
     if !is_head(flag, plan[0], plan[2], plan[3]) {
-        return stopped(pins, keys);
+        return None;
     }
     after_ins(plan[1], pins, keys, &plan[HEAD_BYTES..end])
 }
 
 // A plan of at most so many commands.
-fn run(left: usize, flag: u8, pins: Pins, keys: Keys, plan: &[u8]) -> Step
+fn run(left: usize, flag: u8, pins: Pins, keys: Keys, plan: &[u8]) -> Option<Step>
     ensures { run_plan left (bare flag pins keys) plan.now ≡ stepped flag result }
 {
     if plan.len() == 0 {
-        return Step {
-            goes: true,
-            pins,
-            keys,
-        };
+        return Some(Step { pins, keys });
     }
     if left == 0 {
-        return stopped(pins, keys);
+        return None;
     }
-    let step = after_first(flag, pins, keys, plan);
-    if !step.goes {
-        return step;
-    }
+    let step = after_first(flag, pins, keys, plan)?;
     let end = first_bytes(plan);
-    let next_pins = step.pins;
-    let next_keys = step.keys;
-    run(left - 1, flag, next_pins, next_keys, &plan[end..])
+    run(left - 1, flag, step.pins, step.keys, &plan[end..])
 }
 
 // ---- the check
@@ -81,11 +72,13 @@ fn run(left: usize, flag: u8, pins: Pins, keys: Keys, plan: &[u8]) -> Step
 fn accepted(flag: u8, pins: Pins, keys: Keys, plan: &[u8], current: &[u8], pinless: &[u8]) -> bool
     ensures { result ≡ accepts (bare flag pins keys) plan.now current.now pinless.now }
 {
-    let end = run(PLAN_MAX_COMMANDS, flag, pins, keys, plan);
+    let Some(end) = run(PLAN_MAX_COMMANDS, flag, pins, keys, plan) else {
+        return false;
+    };
     let left = end.keys;
     let derived = is_at(left.current, current);
     let set = is_at(left.pinless, pinless);
-    end.goes & (derived & set)
+    derived & set
 }
 
 // The check: refusal 1 where the card is not sound, or whether the plan is accepted.

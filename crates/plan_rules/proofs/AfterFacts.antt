@@ -1,5 +1,6 @@
 -- What each command of a plan leaves: its checks hold and it gives 9000, or the plan goes no further. Lengths are in bytes.
 -- Assumes nothing.
+use Rattle.std.specs.Prelude.{Err}
 use mathlib.Core.Path.{◌≡◌, refl, sym, ap, ◌∙◌}
 use mathlib.Core.Bool.{Bool, true, false, ◌&&◌, not, cond, false≢true}
 use mathlib.Core.Logic.{⊎_elim}
@@ -16,7 +17,6 @@ use Rattle.card.specs.Sound.{is_sound}
 use Rattle.card.specs.Shape.{Shaped}
 use Rattle.card.proofs.Rules.{pins-rules, parts-rules, sound-cases}
 use Rattle.rules.specs.declared.Supply.{Supply}
-use Rattle.rules.specs.declared.Verdict.TheVariants.{Fails}
 use Rattle.rules.specs.declared.Command.TheVariants as command
 use Rattle.rules.specs.Words.{success, tries_left, Check, verdict, Hold}
 use Rattle.rules.specs.Supplies.{no_supply, derive_supply}
@@ -30,7 +30,7 @@ pub reads-hold : (s : Supply) (checks : List Check) → reads (verdict s checks)
 reads-hold s [] e = tt
 reads-hold s (k ∷ more) e = by-check k.holds refl e (reads-hold s more)
   where
-    by-check : (b : Bool) → k.holds ≡ b → reads (cond b (verdict s more) (Fails k.otherwise)) ≡ true
+    by-check : (b : Bool) → k.holds ≡ b → reads (cond b (verdict s more) (Err k.otherwise)) ≡ true
         → (reads (verdict s more) ≡ true → Hold more) → (k.holds ≡ true) × Hold more
     by-check true h f rest = (h, rest f)
     by-check false h f rest = absurd (false≢true f)

@@ -1,5 +1,6 @@
 -- The commands of a plan are VERIFY, SET PIN-LESS PATH and DERIVE, of class 80, on an initialised card, with P1 and P2 00.
 -- Assumes nothing.
+use Rattle.std.specs.Prelude.{Err, Ok}
 use mathlib.Core.Path.{◌≡◌, refl, sym, ap, subst, ◌∙◌}
 use mathlib.Core.Bool.{Bool, true, false, ◌&&◌, cond, false≢true}
 use mathlib.Core.Option.{Option, none, some}
@@ -9,8 +10,8 @@ use borrow.Author.Tests.{eqb-true}
 use Rattle.card.specs.Slots.{is_zero}
 use Rattle.rules.specs.declared.Instruction.{Instruction}
 use Rattle.rules.specs.declared.Instruction.TheVariants as ins
-use Rattle.rules.specs.declared.Named.{Named}
-use Rattle.rules.specs.declared.Named.TheVariants as named
+use Rattle.rules.specs.Results.{Named}
+use Rattle.rules.specs.declared.Unnamed.TheVariants as unnamed
 use Rattle.rules.specs.declared.Command.{Command}
 use Rattle.rules.specs.declared.Command.TheVariants as command
 use Rattle.rules.specs.Steps.{name_of, on_card}
@@ -39,8 +40,8 @@ abbrev pub command_of : ℕ → Option Command
 command_of b = command_at true 0x80 b 0 0
 
 module _ (v : Instruction) (k : Command) (M : Bool → Named → Option Command) (p q : Bool)
-    (known : (i : Bool) → M i (named.Known v) ≡ cond i (cond q (cond p (some k) none) none) none)
-    (wrong : (i : Bool) → M i named.WrongClass ≡ none) where
+    (known : (i : Bool) → M i (Ok v) ≡ cond i (cond q (cond p (some k) none) none) none)
+    (wrong : (i : Bool) → M i (Err unnamed.WrongClass) ≡ none) where
   all_three : (i p q : Bool) → cond i (cond q (cond p (some k) none) none) none ≡ cond (i && (p && q)) (some k) none
   all_three true true true = refl
   all_three true true false = refl
@@ -52,7 +53,7 @@ module _ (v : Instruction) (k : Command) (M : Bool → Named → Option Command)
   none-at true = refl
   none-at false = refl
 
-  by-head : (i e z : Bool) → M i (cond e (named.Known v) (cond (z && false) (named.Known ins.Select) named.WrongClass))
+  by-head : (i e z : Bool) → M i (cond e (Ok v) (cond (z && false) (Ok ins.Select) (Err unnamed.WrongClass)))
       ≡ cond (i && (e && (p && q))) (some k) none
   by-head i true z = known i ∙ all_three i p q
   by-head i false true = wrong i ∙ none-at i
@@ -62,18 +63,18 @@ module _ (i : Bool) (cla p1 p2 : ℕ) where
   abbrev at : Bool → Named → Option Command
   at i x = listed_at p1 p2 (on_card i x)
 
-  unknown : (i : Bool) → at i named.WrongClass ≡ none
+  unknown : (i : Bool) → at i (Err unnamed.WrongClass) ≡ none
   unknown i = refl
 
-  verify-known : (j : Bool) → at j (named.Known ins.Verify) ≡ cond j (cond (is_zero p2) (cond (is_zero p1) (some command.Verify) none) none) none
+  verify-known : (j : Bool) → at j (Ok ins.Verify) ≡ cond j (cond (is_zero p2) (cond (is_zero p1) (some command.Verify) none) none) none
   verify-known true = refl
   verify-known false = refl
 
-  set_pinless-known : (j : Bool) → at j (named.Known ins.SetPinless) ≡ cond j (cond (is_zero p2) (cond (is_zero p1) (some command.SetPinless) none) none) none
+  set_pinless-known : (j : Bool) → at j (Ok ins.SetPinless) ≡ cond j (cond (is_zero p2) (cond (is_zero p1) (some command.SetPinless) none) none) none
   set_pinless-known true = refl
   set_pinless-known false = refl
 
-  derive-known : (j : Bool) → at j (named.Known ins.Derive) ≡ cond j (cond (is_zero p2) (cond (is_zero p1) (some command.Derive) none) none) none
+  derive-known : (j : Bool) → at j (Ok ins.Derive) ≡ cond j (cond (is_zero p2) (cond (is_zero p1) (some command.Derive) none) none) none
   derive-known true = refl
   derive-known false = refl
 

@@ -1,6 +1,6 @@
 -- Job sheets (RULES 6.21): what a plan of opened commands does on a card, which plans the check accepts, and when the planner refuses. Each
 -- command of a plan is judged and answered by its own rule (crate `rules`). Every length is in bytes.
-use Rattle.std.specs.Prelude.{ℕ, zero, suc, ◌+◌, ◌-◌, ◌≤◌, ◌≡◌, Bool, true, false, ◌&&◌, ◌||◌, not, cond, List, [], ◌∷◌, leb, eqb, length, take, drop}
+use Rattle.std.specs.Prelude.{ℕ, zero, suc, ◌+◌, ◌-◌, ◌≤◌, ◌≡◌, Bool, true, false, ◌&&◌, ◌||◌, not, cond, List, [], ◌∷◌, leb, eqb, length, take, drop, Err, Ok}
 use Rattle.std.proofs.Math.Option.{Option, none, some}
 use Rattle.octets.specs.Bytes.{same_bytes}
 use Rattle.refusals.specs.Refusals.{no_refusal, unsound, no_plan}
@@ -10,11 +10,10 @@ use Rattle.card.specs.State.{zeros, path_bytes}
 use Rattle.card.specs.Slots.{is_zero}
 use Rattle.card.specs.Sound.{is_sound}
 use Rattle.rules.specs.declared.Instruction.TheVariants as ins
-use Rattle.rules.specs.declared.Named.{Named}
-use Rattle.rules.specs.declared.Named.TheVariants as named
+use Rattle.rules.specs.Results.{Named}
+use Rattle.rules.specs.declared.Unnamed.TheVariants as unnamed
 use Rattle.rules.specs.declared.Command.{Command}
-use Rattle.rules.specs.declared.Verdict.{Verdict}
-use Rattle.rules.specs.declared.Verdict.TheVariants.{Reads, Fails}
+use Rattle.rules.specs.Results.{Verdict}
 use Rattle.rules.specs.Words.{success, verdict, Reply}
 use Rattle.rules.specs.Supplies.{part}
 use Rattle.rules.specs.Commands.{are_digits, is_path, rule_of}
@@ -49,9 +48,9 @@ open_stage = 2
 
 -- what a named instruction lists at P1 and P2
 abbrev pub listed_at : ℕ → ℕ → Named → Option Command
-listed_at p1 p2 (named.Known i) = cond (in_stage i open_stage) ((row_of i).lists p1 p2) none
-listed_at p1 p2 named.WrongClass = none
-listed_at p1 p2 named.Unknown = none
+listed_at p1 p2 (Ok i) = cond (in_stage i open_stage) ((row_of i).lists p1 p2) none
+listed_at p1 p2 (Err unnamed.WrongClass) = none
+listed_at p1 p2 (Err unnamed.Unknown) = none
 
 -- the command of a class, an instruction byte, P1 and P2, where it is of the three kinds
 unfoldable pub command_at : Bool → ℕ → ℕ → ℕ → ℕ → Option Command
@@ -63,8 +62,8 @@ first_command c s = command_at (is_initialised c) (cla_of s) (ins_of s) (p1_of s
 -- ---- what a command does: the next card where it gives 9000
 -- whether all checks hold
 abbrev pub reads : Verdict → Bool
-reads (Reads s) = true
-reads (Fails w) = false
+reads (Ok s) = true
+reads (Err w) = false
 
 -- the supply that says yes
 abbrev pub yes : List ℕ

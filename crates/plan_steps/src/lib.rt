@@ -4,7 +4,6 @@
 #![tactic(auto)]
 
 ghost use Rattle.std.specs.Prelude.{true, ◌≡◌};
-ghost use Rattle.std.proofs.Math.Option.{none};
 ghost use Rattle.octets.specs.Bytes.{same_bytes};
 ghost use Rattle.card.specs.State.{path_bytes};
 ghost use Rattle.rules.specs.declared.Command.TheVariants as command;
@@ -16,10 +15,9 @@ use command_paths::{derive_verdict, path_of, pinless_verdict, with_current, with
 use command_verify::{pin_right, verify_verdict};
 use rules::{INS_DERIVE, INS_SET_PINLESS, INS_VERIFY, Verdict};
 
-// Where a command of a plan leads: whether it gives 9000, and what it leaves then of the parts of a card that a plan can change.
+// What a command of a plan that gives 9000 leaves of the parts of a card that a plan can change.
 #[derive(Clone, Copy)]
 pub struct Step {
-    pub goes: bool,
     pub pins: Pins,
     pub keys: Keys,
 }
@@ -29,10 +27,7 @@ pub struct Step {
 fn holds(verdict: Verdict) -> bool
     ensures { result ≡ reads verdict }
 {
-    match verdict {
-        Verdict::Reads(_) => true,
-        Verdict::Fails(_) => false,
-    }
+    verdict.is_ok()
 }
 
 // Whether the bytes are six digits.
@@ -44,68 +39,54 @@ pub fn is_pin(data: &[u8]) -> bool
     whole & digits
 }
 
-// The plan goes no further.
-pub fn stopped(pins: Pins, keys: Keys) -> Step
-    ensures { Leads (λ c. none) pins keys result }
-{
-    Step {
-        goes: false,
-        pins,
-        keys,
-    }
-}
-
-fn after_verify(pins: Pins, keys: Keys, data: &[u8]) -> Step
+fn after_verify(pins: Pins, keys: Keys, data: &[u8]) -> Option<Step>
     ensures { Leads (λ c. after command.Verify c «data».now) pins keys result }
 {
     let tried = holds(verify_verdict(pins));
     let right = is_pin(data);
-    let verified = pin_right(pins);
-    let goes = tried & right;
-    Step {
-        goes,
-        pins: verified,
-        keys,
+    if tried & right {
+        Some(Step {
+            pins: pin_right(pins),
+            keys,
+        })
+    } else {
+        None
     }
 }
 
-fn after_pinless(pins: Pins, keys: Keys, data: &[u8]) -> Step
+fn after_pinless(pins: Pins, keys: Keys, data: &[u8]) -> Option<Step>
     ensures { Leads (λ c. after command.SetPinless c «data».now) pins keys result }
 {
     if !holds(pinless_verdict(pins, data)) {
-        return stopped(pins, keys);
+        return None;
     }
-    let set = with_pinless(keys, path_of(data));
-    Step {
-        goes: true,
+    Some(Step {
         pins,
-        keys: set,
-    }
+        keys: with_pinless(keys, path_of(data)),
+    })
 }
 
-fn after_derive(pins: Pins, keys: Keys, data: &[u8]) -> Step
+fn after_derive(pins: Pins, keys: Keys, data: &[u8]) -> Option<Step>
     ensures { Leads (λ c. after command.Derive c «data».now) pins keys result }
 {
     if !holds(derive_verdict(pins, keys, data)) {
-        return stopped(pins, keys);
+        return None;
     }
-    let derived = with_current(keys, path_of(data));
-    Step {
-        goes: true,
+    Some(Step {
         pins,
-        keys: derived,
-    }
+        keys: with_current(keys, path_of(data)),
+    })
 }
 
 // The command of an instruction byte, where class, P1 and P2 are right on an initialised card.
-pub fn after_ins(ins: u8, pins: Pins, keys: Keys, data: &[u8]) -> Step
+pub fn after_ins(ins: u8, pins: Pins, keys: Keys, data: &[u8]) -> Option<Step>
     ensures { Leads (λ c. after_that c «data».now (command_at true 0x80 ins 0 0)) pins keys result }
 {
     match ins {
         INS_VERIFY => after_verify(pins, keys, data),
         INS_SET_PINLESS => after_pinless(pins, keys, data),
         INS_DERIVE => after_derive(pins, keys, data),
-        _ => stopped(pins, keys),
+        _ => None,
     }
 }
 

@@ -1,18 +1,17 @@
--- What the code's answers mean in the rulebook: enums for options, and what a command's function writes. No rule is here.
-use Rattle.std.specs.Prelude.{ℕ, List, ◌≡◌, length}
+-- What the code's answers mean in the rulebook: the code's options for the rulebook's, and what a command's function writes. No rule is here.
+use Rattle.std.specs.Prelude.{ℕ, List, ◌≡◌, length, None, Some}
 use Rattle.std.proofs.Math.Option.{Option, none, some}
+use Rattle.std.specs.Prelude as code
 use Rattle.octets.specs.Bytes.{written}
 use Rattle.card.specs.declared.Card.{Card}
 use Rattle.rules.specs.declared.Command.{Command}
-use Rattle.rules.specs.declared.Choice.{Choice}
-use Rattle.rules.specs.declared.Choice.TheVariants as choice
 use Rattle.rules.specs.declared.Replied.{Replied}
 use Rattle.rules.specs.Words.{Reply}
 
--- step 5
-abbrev pub choice_of : Option Command → Choice
-choice_of (some k) = choice.Listed k
-choice_of none = choice.Unlisted
+-- step 5: the command, or that its P1 and P2 are not listed
+abbrev pub choice_of : Option Command → code.Option Command
+choice_of (some k) = Some k
+choice_of none = None
 
 -- a reply from its parts
 abbrev pub reply_with : ℕ → List ℕ → Card → Reply

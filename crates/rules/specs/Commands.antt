@@ -1,7 +1,7 @@
 -- The eighteen instructions' commands (RULES 6), in its order, and at the end one rule for each command: the checks of step 6, in order, with
 -- their status words; what is compared and which supply is read past them (Supplies.antt); and the reply, from the card, the data (opened,
 -- where the command is sealed) and the supply; LOAD's also where its data are at fault. Every length and offset is in bytes.
-use Rattle.std.specs.Prelude.{ℕ, ◌+◌, ◌-◌, ◌%◌, Bool, true, false, ◌&&◌, ◌||◌, not, cond, List, [], ◌∷◌, ◌++◌, leb, eqb, length, take, drop, get_or, set}
+use Rattle.std.specs.Prelude.{Ok, Err, ℕ, ◌+◌, ◌-◌, ◌%◌, Bool, true, false, ◌&&◌, ◌||◌, not, cond, List, [], ◌∷◌, ◌++◌, leb, eqb, length, take, drop, get_or, set}
 use Rattle.std.proofs.Math.Option.{Option, none, some}
 use Rattle.octets.specs.Bytes.{same_bytes}
 use Rattle.aes_rules.specs.Aes.{inv_aes256}
@@ -20,13 +20,10 @@ use Rattle.card.specs.declared.Card.{Card}
 use Rattle.card.specs.State.{most_pin_tries, most_puk_tries, free_slot, no_keys, empty_path, with_initialised, with_pins, with_pairing, with_keys, with_channel, with_tap, closed, forgotten, not_pending, path_bytes, path_of, tap_of, key_uid}
 use Rattle.card.specs.Slots.{all_of, some_of, is_zero, is_free}
 use Rattle.card.specs.Sound.{is_digit, is_ndef}
-use Rattle.card_slots.specs.declared.Free.{Free}
-use Rattle.card_slots.specs.declared.Free.TheVariants as free
+use Rattle.std.specs.Prelude.{Option as Found, Some, None}
 use Rattle.card_slots.specs.Free.{first_free}
 use Rattle.template_keypair.specs.Keypair.{keypair}
-use Rattle.template_walk.specs.declared.Walked.{Walked}
-use Rattle.template_walk.specs.declared.Walked.TheVariants.{Fields, Refused}
-use Rattle.template_walk.specs.Walk.{walk_of}
+use Rattle.template_walk.specs.Walk.{Walked, walk_of}
 use Rattle.template_answers.specs.Answers as answer
 use Rattle.rules.specs.declared.StatusKind.{StatusKind}
 use Rattle.rules.specs.declared.StatusKind.TheVariants as status
@@ -185,10 +182,10 @@ abbrev pub filled_with : List ℕ → Slot
 filled_with k = record { filled = 1; key = k }
 
 -- a pending pairing has a free slot, so that Full does not occur here (law `pending-slot`)
-unfoldable pub pair_into : Card → List ℕ → Free → Reply
-pair_into c s (free.At i) =
+unfoldable pub pair_into : Card → List ℕ → Found ℕ → Reply
+pair_into c s (Some i) =
     succeeds (with_pairing c (with_slot (not_pending c.pairing) i (filled_with (with_secret c.pairing (pair_salt s))))) (i ∷ pair_salt s)
-pair_into c s free.Full = fails (forgotten c) no_space
+pair_into c s None = fails (forgotten c) no_space
 
 unfoldable pub pair_final_reply : Card → List ℕ → Reply
 pair_final_reply c s = pair_into c s (first_free c.pairing.slots)
@@ -297,8 +294,8 @@ load_reply c form s = cond (says_yes s) (succeeds (with_keys c (key_with (kind_o
 
 -- the fault offset (RULES 5.9): where WALK refuses a template, how many bytes come before the tag of the faulty field; a seed is no template
 abbrev pub place_in : Walked → ℕ
-place_in (Fields n) = no_fault
-place_in (Refused f at) = at
+place_in (Ok n) = no_fault
+place_in (Err r) = r.place
 
 unfoldable pub load_place : KeyForm → List ℕ → ℕ
 load_place key.Keypair d = place_in (walk_of d)

@@ -1,6 +1,6 @@
 -- The order of checks for a command, steps 1 to 6 (RULES 5): each step a definition of its own, in order, and at the
 -- end `arrival`, steps 1 to 5 one after the other, and `decide`, the whole. Every length, Lc included, is in bytes.
-use Rattle.std.specs.Prelude.{ℕ, ◌+◌, Bool, ◌&&◌, ◌||◌, not, cond, List, [], ◌∷◌, ltb, leb, eqb, length, take, drop, get_or}
+use Rattle.std.specs.Prelude.{ℕ, ◌+◌, Bool, ◌&&◌, ◌||◌, not, cond, List, [], ◌∷◌, ltb, leb, eqb, length, take, drop, get_or, Err, Ok}
 use Rattle.std.proofs.Math.Option.{Option, none, some}
 use Rattle.octets.specs.Bytes.{same_bytes}
 use Rattle.channel_rules.specs.Message.{command_head, open_field}
@@ -9,14 +9,13 @@ use Rattle.card.specs.State.{closed, forgotten}
 use Rattle.card.specs.Slots.{is_zero}
 use Rattle.rules.specs.declared.Instruction.{Instruction}
 use Rattle.rules.specs.declared.Instruction.TheVariants as ins
-use Rattle.rules.specs.declared.Named.{Named}
-use Rattle.rules.specs.declared.Named.TheVariants as named
+use Rattle.rules.specs.Results.{Named}
+use Rattle.rules.specs.declared.Unnamed.TheVariants as unnamed
 use Rattle.rules.specs.declared.Loss.{Loss}
 use Rattle.rules.specs.declared.Loss.TheVariants as loss
 use Rattle.rules.specs.declared.Command.{Command}
 use Rattle.rules.specs.declared.Supply.{Supply}
-use Rattle.rules.specs.declared.Verdict.{Verdict}
-use Rattle.rules.specs.declared.Verdict.TheVariants.{Reads, Fails}
+use Rattle.rules.specs.Results.{Verdict}
 use Rattle.rules.specs.Words.{wrong_length, conditions_not_met, security_not_met, wrong_parameters, unknown_instruction, unknown_class, wrong_data, Check, verdict, Reply, fails}
 use Rattle.rules.specs.Supplies.{no_supply}
 use Rattle.rules.specs.Rules.{outcome_of, no_fault}
@@ -92,20 +91,20 @@ p2_of cmd = get_or cmd 3 0
 -- ---- step 3 (RULES 5.3), class and instruction
 -- the one of a list that has this instruction byte
 abbrev pub with_byte : ℕ → List Instruction → Named
-with_byte b [] = named.Unknown
-with_byte b (i ∷ more) = cond (eqb b (row_of i).byte) (named.Known i) (with_byte b more)
+with_byte b [] = (Err unnamed.Unknown)
+with_byte b (i ∷ more) = cond (eqb b (row_of i).byte) (Ok i) (with_byte b more)
 
 -- class 80, or 00 with A4
 abbrev pub by_class : ℕ → ℕ → Named
 by_class cla b =
     cond (eqb cla 0x80) (with_byte b class80)
-    (cond (eqb cla 0 && eqb b (row_of ins.Select).byte) (named.Known ins.Select) named.WrongClass)
+    (cond (eqb cla 0 && eqb b (row_of ins.Select).byte) (Ok ins.Select) (Err unnamed.WrongClass))
 
 -- an initialised card has no INIT; before INIT there are SELECT and INIT alone
 abbrev pub on_card : Bool → Named → Named
-on_card initialised (named.Known i) = cond (offered (row_of i).offer initialised) (named.Known i) named.Unknown
-on_card initialised named.WrongClass = named.WrongClass
-on_card initialised named.Unknown = named.Unknown
+on_card initialised (Ok i) = cond (offered (row_of i).offer initialised) (Ok i) (Err unnamed.Unknown)
+on_card initialised (Err unnamed.WrongClass) = (Err unnamed.WrongClass)
+on_card initialised (Err unnamed.Unknown) = (Err unnamed.Unknown)
 
 unfoldable pub name_of : Bool → ℕ → ℕ → Named
 name_of initialised cla b = on_card initialised (by_class cla b)
@@ -114,9 +113,9 @@ abbrev pub is_initialised : Card → Bool
 is_initialised c = not (is_zero c.initialised)
 
 abbrev pub by_name : Card → Named → Step Instruction
-by_name c (named.Known i) = goes i
-by_name c named.WrongClass = stops_with c unknown_class
-by_name c named.Unknown = stops_with c unknown_instruction
+by_name c (Ok i) = goes i
+by_name c (Err unnamed.WrongClass) = stops_with c unknown_class
+by_name c (Err unnamed.Unknown) = stops_with c unknown_instruction
 
 abbrev pub step3 : List ℕ → Card → Step Instruction
 step3 cmd c = by_name c (name_of (is_initialised c) (cla_of cmd) (ins_of cmd))
@@ -220,13 +219,13 @@ abbrev pub ends : Outgoing → Decision
 ends t = ends_at no_fault t
 
 abbrev pub by_verdict : Arrived → Verdict → Decision
-by_verdict a (Reads k) = record {
+by_verdict a (Ok k) = record {
   supply = k;
   data' = a.data';
   answer = λ s. tell a.over (reply_of a.command a.card a.data' s);
   fault_offset = no_fault;
 }
-by_verdict a (Fails w) = ends_at (fault_at a.command a.data' w) (tell a.over (fails a.lost w))
+by_verdict a (Err w) = ends_at (fault_at a.command a.data' w) (tell a.over (fails a.lost w))
 
 unfoldable pub step6 : Arrived → Decision
 step6 a = by_verdict a (verdict (supply_of a.command) (checks_of a.command a.card a.data'))

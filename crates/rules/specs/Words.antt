@@ -1,9 +1,8 @@
 -- The status words by name (RULES 5.8), the checks that give them, and what a command's rule answers (RULES 6.2).
-use Rattle.std.specs.Prelude.{ℕ, ◌+◌, ◌/◌, ◌%◌, Bool, true, cond, List, [], ◌∷◌, ◌≡◌}
+use Rattle.std.specs.Prelude.{ℕ, ◌+◌, ◌/◌, ◌%◌, Bool, true, cond, List, [], ◌∷◌, ◌≡◌, Err, Ok}
 use Rattle.card.specs.declared.Card.{Card}
 use Rattle.rules.specs.declared.Supply.{Supply}
-use Rattle.rules.specs.declared.Verdict.{Verdict}
-use Rattle.rules.specs.declared.Verdict.TheVariants.{Reads, Fails}
+use Rattle.rules.specs.Results.{Verdict}
 
 -- ---- the status words (RULES 5.8), SW1 SW2 as one number
 abbrev pub success : ℕ
@@ -57,8 +56,8 @@ must b w = record { holds = b; otherwise = w }
 
 -- where all hold, the supply is read; otherwise the status word is that of the first check that does not
 abbrev pub verdict : Supply → List Check → Verdict
-verdict s [] = Reads s
-verdict s (k ∷ more) = cond k.holds (verdict s more) (Fails k.otherwise)
+verdict s [] = Ok s
+verdict s (k ∷ more) = cond k.holds (verdict s more) (Err k.otherwise)
 
 -- each check holds
 abbrev pub Hold : List Check → Type 0

@@ -120,10 +120,9 @@ pub enum Loss {
     Pending,
 }
 
-// Step 3: the instruction, or which of the two checks fails.
+// Why a class and an instruction byte name no instruction of the card: which of the two checks of step 3 fails.
 #[derive(Clone, Copy)]
-pub enum Named {
-    Known(Instruction),
+pub enum Unnamed {
     WrongClass,
     Unknown,
 }
@@ -201,13 +200,6 @@ pub enum Command {
     Mnemonic(Phrase),
 }
 
-// Step 5: the command, or that its P1 and P2 are not listed.
-#[derive(Clone, Copy)]
-pub enum Choice {
-    Listed(Command),
-    Unlisted,
-}
-
 // A supply: its kind, or 0 for none; how many bytes it has; and whether its first byte is a flag.
 #[derive(Clone, Copy)]
 pub struct Supply {
@@ -217,11 +209,7 @@ pub struct Supply {
 }
 
 // Step 6: the supply that is read where all checks hold, or the status word of the first check that does not.
-#[derive(Clone, Copy)]
-pub enum Verdict {
-    Reads(Supply),
-    Fails(u16),
-}
+pub type Verdict = Result<Supply, u16>;
 
 // What a command's function answers: the status word, how many bytes of response data it wrote from the buffer's start, and the next card.
 #[derive(Clone, Copy)]

@@ -1,22 +1,15 @@
--- Each slot from the index on is tested. Invariant: the test of all of these is the test of those not yet seen.
+-- Each slot from the index on is tested.
 -- Assumes nothing.
-use Rattle.std.proofs.Common.{rules}
-use mathlib.Core.Path.{refl, sym, ◌∙◌}
-use Prim.Native.Nat.{◌-◌}
-use native.Mathlib.Omega.{arith}
-use borrow.Author.Tests.{eq-eqb, ne_eqb}
-use Rattle.card.proofs.Tests.{all-step, all-fail, all_done}
+use Rattle.std.proofs.Common.{rules, tests, ◌∙◌}
+use Rattle.std.proofs.lemmas.Iterator.{YieldsList-from_slice}
+use Rattle.std.proofs.lemmas.Iterator.Search.{all_from_yields_List}
+use Rattle.std.proofs.lemmas.Iterator.Adapters.{YieldsList-from_skip}
 use Rattle.card.specs.Slots.{is_free}
+use Rattle.card_slots.proofs.FreeFacts.{all-of-chain}
 use Rattle.card_slots.proofs.free_from.Goals as goal
 
-pub loop-i-init : goal.loop-i-init
-loop-i-init c = (search rules, refl)
-
-pub returns-then-slot-ne0 : goal.returns-then-slot-ne0
-returns-then-slot-ne0 c = sym (c.loop-i.invariant.1 ∙ all-fail is_free _ c.loop-i.i _ (omega arith) (ne_eqb _ _ c.if-slot-ne0.true))
-
-pub loop-i-preserved : goal.loop-i-preserved
-loop-i-preserved c = (c.loop-i.invariant.0, c.loop-i.invariant.1 ∙ all-step is_free _ c.loop-i.i _ (omega arith) (eq-eqb _ _ c.if-slot-ne0.false))
-
 pub returns : goal.returns
-returns c = sym (c.loop-i.invariant.1 ∙ all_done is_free _ c.loop-i.i (omega arith))
+returns c =
+    all_from_yields_List is_free _ _ _ c.all.ensures.ran (YieldsList-from_skip c.args.first (YieldsList-from_slice c.args.slots cc) (cc))
+    (λ x b q k. search (rules, tests))
+    ∙ all-of-chain is_free _

@@ -6,17 +6,17 @@ use Rattle.command_parts.proofs.SupplyFacts.{within, part-rest}
 use Rattle.command_change.proofs.CheckFacts.{change-long}
 use Rattle.command_change.proofs.change.Goals as goal
 
-pub pin_part-requires : goal.pin_part-requires
-pin_part-requires c =
-    within (change-long _ _ _ c.args.«data».now c.in-Pin.is c.requires) (omega arith)
+pub part-requires : goal.part-requires
+part-requires c =
+    (omega arith, within (change-long _ _ _ c.args.«data».now c.in-Pin.is c.requires) (omega arith))
 
-pub puk_part-requires : goal.puk_part-requires
-puk_part-requires c =
-    within (change-long _ _ _ c.args.«data».now c.in-Puk.is c.requires) (omega arith)
+pub part-requires-in-Puk : goal.part-requires-in-Puk
+part-requires-in-Puk c =
+    (omega arith, within (change-long _ _ _ c.args.«data».now c.in-Puk.is c.requires) (omega arith))
 
-pub key_part-requires : goal.key_part-requires
-key_part-requires c =
-    within (change-long _ _ _ c.args.«data».now c.in-Pairing.is c.requires) (omega arith)
+pub part-requires-in-Pairing : goal.part-requires-in-Pairing
+part-requires-in-Pairing c =
+    (omega arith, within (change-long _ _ _ c.args.«data».now c.in-Pairing.is c.requires) (omega arith))
 
 pub returns-in-Pin : goal.returns-in-Pin
 unfolding change_reply
@@ -28,7 +28,7 @@ returns-in-Pin c =
       c.done.ensures,
       c.with_pins.ensures,
       c.with_pin-changed.ensures,
-      c.pin_part.ensures,
+      c.part.ensures,
       part-rest 0 6 d (change-long _ _ _ d k c.requires),
     )
 
@@ -42,7 +42,7 @@ returns-in-Puk c =
       c.done-in-Puk.ensures,
       c.with_pins-in-Puk.ensures,
       c.with_puk-changed.ensures,
-      c.puk_part.ensures,
+      c.part-in-Puk.ensures,
       part-rest 0 12 d (change-long _ _ _ d k c.requires),
     )
 
@@ -56,6 +56,6 @@ returns-in-Pairing c =
       c.done-in-Pairing.ensures,
       c.with_pairing.ensures,
       c.with_secret-changed.ensures,
-      c.key_part.ensures,
+      c.part-in-Pairing.ensures,
       part-rest 0 32 d (change-long _ _ _ d k c.requires),
     )

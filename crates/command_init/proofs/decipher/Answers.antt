@@ -1,28 +1,27 @@
 -- The padding that was found and the test of what is before it decide as the definition does.
 -- Assumes nothing.
 use mathlib.Core.List.{List}
+use Prim.Native.Nat.{ℕ}
 use mathlib.Core.Path.{sym, ap, ◌∙◌}
-use Prim.Native.Nat.{ℕ, ◌-◌}
-use native.Mathlib.Omega.{arith}
-use Rattle.aes_padding.specs.Padding.{unpad, answer}
-use Rattle.command_init.proofs.InitFacts.{data-within, found-content, found_nothing, found-same}
+use lib.Seq.{length-take-le}
+use Rattle.aes_padding.specs.Padding.{unpad}
+use Rattle.command_init.specs.Content.{right}
+use Rattle.command_init.proofs.InitFacts.{data-within, kept, left-out}
 use Rattle.command_init.proofs.decipher.Goals as goal
 
 pub slice_bounds-is_content-end : goal.slice_bounds-is_content-end
-slice_bounds-is_content-end c =
-    data-within c.cbc_decrypt.new.buf c.in-Bytes.n (sym c.in-Bytes.is ∙ c.find_data.ensures)
+slice_bounds-is_content-end c = let p = c.cbc_decrypt.new.buf in
+    sym (length-take-le c.in_ok-n.n p (data-within p c.in_ok-n.n c.in_ok-n.ensures))
 
-pub returns-in-Bytes : goal.returns-in-Bytes
-returns-in-Bytes c =
-    let p : List ℕ = c.cbc_decrypt.new.buf in
-    let n : ℕ = c.in-Bytes.n in
-    found-same (ap unpad c.cbc_decrypt.ensures)
-    (found-content p n (n - 0) c.is_content.result (sym c.in-Bytes.is ∙ c.find_data.ensures) c.is_content.ensures
-    (omega arith) (c.cbc_decrypt.auto.buf ∙ c.requires))
+pub slice_bounds-bytes-end : goal.slice_bounds-bytes-end
+slice_bounds-bytes-end c = data-within c.cbc_decrypt.new.buf c.in_ok-n.n c.in_ok-n.ensures
 
-pub returns-in-Wrong : goal.returns-in-Wrong
-returns-in-Wrong c =
-    let p : List ℕ = c.cbc_decrypt.new.buf in
-    found_nothing _ p
-    (sym c.in-Wrong.is ∙ c.find_data.ensures ∙ ap (λ (x : List ℕ). answer (unpad x)) c.cbc_decrypt.ensures)
-    (c.cbc_decrypt.auto.buf ∙ c.requires)
+pub returns-then-is_content : goal.returns-then-is_content
+returns-then-is_content c =
+    kept c.cbc_decrypt.new.buf c.in_ok-n.n c.in_ok-n.ensures (sym c.if-is_content.ensures) c.part.ensures
+    ∙ ap (λ (x : List ℕ). right (unpad x)) c.cbc_decrypt.ensures
+
+pub returns-else-is_content : goal.returns-else-is_content
+returns-else-is_content c =
+    left-out c.cbc_decrypt.new.buf c.in_ok-n.n c.in_ok-n.ensures (sym c.if-is_content.ensures)
+    ∙ ap (λ (x : List ℕ). right (unpad x)) c.cbc_decrypt.ensures

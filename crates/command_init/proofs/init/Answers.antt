@@ -8,14 +8,11 @@ use Rattle.command_init.proofs.init.Goals as goal
 
 pub open_init-requires : goal.open_init-requires
 open_init-requires c =
-    (formed-long c.args.«data».now c.requires.0, suits-long init_supply c.args.supply.now refl c.requires.1, refl)
+    (formed-long c.args.«data».now c.requires.0, suits-long init_supply c.args.supply.now refl c.requires.1)
 
-pub returns-then-not-open_init : goal.returns-then-not-open_init
-returns-then-not-open_init c =
-    init-refused c.args.card c.args.«data».now c.args.supply.now c.open_init.result _ c.open_init.ensures
-    (c.if-not-open_init.true) c.failed.ensures
+pub returns-in-Some : goal.returns-in-Some
+returns-in-Some c = let a = c.args in
+    init-replied a.card a.«data».now a.supply.now c.in-Some.content _ c.in-Some.ensures c.initialised_with.ensures c.done.ensures
 
-pub returns : goal.returns
-returns c =
-    init-replied c.args.card c.args.«data».now c.args.supply.now c.open_init.result _ c.open_init.ensures
-    _ (c.if-not-open_init.false) c.initialised_with-initialised.ensures c.done.ensures
+pub returns-in-None : goal.returns-in-None
+returns-in-None c = let a = c.args in init-refused a.card a.«data».now a.supply.now c.in-None.ensures c.failed.ensures

@@ -4,4 +4,4 @@
 use Rattle.command_init.proofs.initialised_with.Goals as goal
 
 pub returns : goal.returns
-returns c = rw (c.pins_with-pins.ensures, c.key_part-secret.ensures)
+returns c = rw (c.pins_with.ensures, c.part-secret.ensures)

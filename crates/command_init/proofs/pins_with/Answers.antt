@@ -4,4 +4,4 @@
 use Rattle.command_init.proofs.pins_with.Goals as goal
 
 pub returns : goal.returns
-returns c = rw (c.pin_part-pin.ensures, c.puk_part-puk.ensures)
+returns c = rw (c.part-pin.ensures, c.part-puk.ensures)

@@ -5,5 +5,5 @@ use Rattle.command_open.proofs.opened_channel.Goals as goal
 
 pub returns : goal.returns
 returns c = let s = c.args.supply.now in
-    opened-is s c.key_part-enc_key.result c.key_part-mac_key.result c.block_part-iv.result
-    c.key_part-enc_key.ensures c.key_part-mac_key.ensures c.block_part-iv.ensures
+    opened-is s c.part-enc_key.result c.part-mac_key.result c.part-iv.result
+    c.part-enc_key.ensures c.part-mac_key.ensures c.part-iv.ensures

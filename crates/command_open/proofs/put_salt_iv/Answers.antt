@@ -8,4 +8,4 @@ use Rattle.command_open.proofs.put_salt_iv.Goals as goal
 
 pub returns : goal.returns
 returns c =
-    wrote-same (ap₂ (λ (l r : List ℕ). l ++ r) c.key_part-salt.ensures c.block_part-iv.ensures) c.put_both.ensures
+    wrote-same (ap₂ (λ (l r : List ℕ). l ++ r) c.part-salt.ensures c.part-iv.ensures) c.put_both.ensures

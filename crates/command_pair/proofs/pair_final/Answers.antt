@@ -13,15 +13,15 @@ returns-in_default c =
     (sym c.in_default.is ∙ c.first_free.ensures.0) c.not_pending-pairing.ensures c.failed.ensures
 
 pub index_byte-requires : goal.index_byte-requires
-index_byte-requires c = sym c.in-At.is ∙ c.first_free.ensures.0
+index_byte-requires c = sym c.in-Some.is ∙ c.first_free.ensures.0
 
-pub key_part-salt-requires : goal.key_part-salt-requires
-key_part-salt-requires c =
-    within (suits-long pair_final_supply c.args.supply.now refl c.requires.0) (omega arith)
+pub part-salt-requires : goal.part-salt-requires
+part-salt-requires c =
+    (omega arith, within (suits-long pair_final_supply c.args.supply.now refl c.requires.0) (omega arith))
 
 pub returns : goal.returns
 returns c =
-    final-replied c.args.card c.args.supply.now c.filled_at-pairing.result _ c.with_pairing-2.ensures c.in-At.i
-    c.index_byte.result c.key_part-salt.result c.with_secret-key.result (sym c.in-At.is ∙ c.first_free.ensures.0)
-    c.index_byte.ensures.0 c.key_part-salt.ensures c.with_secret-key.ensures c.filled_at-pairing.ensures c.put_both-count.ensures
+    final-replied c.args.card c.args.supply.now c.filled_at-pairing.result _ c.with_pairing-2.ensures c.in-Some.i
+    c.index_byte.result c.part-salt.result c.with_secret-key.result (sym c.in-Some.is ∙ c.first_free.ensures.0)
+    c.index_byte.ensures.0 c.part-salt.ensures c.with_secret-key.ensures c.filled_at-pairing.ensures c.put_both-count.ensures
     c.replied.ensures

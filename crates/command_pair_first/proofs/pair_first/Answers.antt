@@ -7,13 +7,13 @@ use Rattle.command_parts.proofs.SupplyFacts.{suits-long, within}
 use Rattle.command_pair_first.proofs.ReplyFacts.{first-replied}
 use Rattle.command_pair_first.proofs.pair_first.Goals as goal
 
-pub key_part-challenge-requires : goal.key_part-challenge-requires
-key_part-challenge-requires c =
-    within (suits-long pair_first_supply c.args.supply.now refl c.requires.supply_value.0) (omega arith)
+pub part-challenge-requires : goal.part-challenge-requires
+part-challenge-requires c =
+    (omega arith, within (suits-long pair_first_supply c.args.supply.now refl c.requires.supply_value.0) (omega arith))
 
 pub returns : goal.returns
 returns c =
-    first-replied c.args.card c.args.«data».now c.args.supply.now c.requires.data_len c.key_part-client.result
-    c.with_secret-cryptogram.result c.key_part-challenge.result c.with_secret-expected.result c.pending_with-pairing.result _ c.key_part-client.ensures
-    c.key_part-challenge.ensures c.with_secret-cryptogram.ensures c.with_secret-expected.ensures c.pending_with-pairing.ensures c.put_both-count.ensures
+    first-replied c.args.card c.args.«data».now c.args.supply.now c.requires.data_len c.part-client.result
+    c.with_secret-cryptogram.result c.part-challenge.result c.with_secret-expected.result c.pending_with-pairing.result _ c.part-client.ensures
+    c.part-challenge.ensures c.with_secret-cryptogram.ensures c.with_secret-expected.ensures c.pending_with-pairing.ensures c.put_both-count.ensures
     c.with_pairing.ensures c.replied.ensures

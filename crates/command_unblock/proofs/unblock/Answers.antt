@@ -12,9 +12,9 @@ pub slice_bounds-same-end : goal.slice_bounds-same-end
 slice_bounds-same-end c =
     sym (length-take-le 12 c.args.«data».now (omega (arith, unblock-long _ _ c.requires)))
 
-pub pin_part-requires : goal.pin_part-requires
-pin_part-requires c =
-    within (unblock-long _ _ c.requires) (omega arith)
+pub part-requires : goal.part-requires
+part-requires c =
+    (omega arith, within (unblock-long _ _ c.requires) (omega arith))
 
 pub returns-then-same : goal.returns-then-same
 unfolding unblock_reply
@@ -24,7 +24,7 @@ returns-then-same c =
       c.done.ensures,
       c.with_pins.ensures,
       c.puk_right-unblocked.ensures,
-      c.pin_part.ensures,
+      c.part.ensures,
       part-rest 12 6 c.args.«data».now (unblock-long _ _ c.requires),
     )
 

@@ -16,4 +16,4 @@ step_6-requires c = let g = c.args in
 
 pub returns : goal.returns
 returns c = let g = c.args in
-    routes-as _ _ _ _ (step5-listed g.i g.cmd.now g.card g.«data».now g.over c.requires.1 c.loss_of-loss.result c.loss_of-loss.ensures c.begun-begun.result c.begun-begun.ensures c.failed-lost.result c.failed-lost.ensures _ (sym c.in-Listed.is ∙ c.choose.ensures)) c.step_6.ensures
+    routes-as _ _ _ _ (step5-listed g.i g.cmd.now g.card g.«data».now g.over c.requires.1 c.loss_of-loss.result c.loss_of-loss.ensures c.begun-begun.result c.begun-begun.ensures c.failed-lost.result c.failed-lost.ensures _ (sym c.in-Some.is ∙ c.choose.ensures)) c.step_6.ensures

@@ -22,14 +22,14 @@ pub slice_bounds-block-end : goal.slice_bounds-block-end
 slice_bounds-block-end c = let g = c.args in
     let o = c.open_command in
     let q = opens_as g.cmd.now g.card g.field.now c.session_of-session.result c.session_of-session.ensures c.requires.0 o.result o.new.plain o.ensures in
-    omega (arith, open-long g.i g.cmd.now g.card g.field.now o.result o.new.plain q _ c.in-Bytes.is)
+    omega (arith, open-long g.i g.cmd.now g.card g.field.now o.result o.new.plain q _ c.in-Some.is)
 
 pub slice_bounds-step_5-end : goal.slice_bounds-step_5-end
 slice_bounds-step_5-end c = let g = c.args in
     let o = c.open_command in
     let q = opens_as g.cmd.now g.card g.field.now c.session_of-session.result c.session_of-session.ensures c.requires.0 o.result o.new.plain o.ensures in
-    let n : ℕ = c.in-Bytes.n in
-    open-within g.i g.cmd.now g.card g.field.now o.result o.new.plain q n c.in-Bytes.is _ (omega (arith, o.auto.plain, length-take 224 g.plain.now, c.requires.1)) (n - 0) (omega arith)
+    let n : ℕ = c.in-Some.n in
+    open-within g.i g.cmd.now g.card g.field.now o.result o.new.plain q n c.in-Some.is _ (omega (arith, o.auto.plain, length-take 224 g.plain.now, c.requires.1)) (n - 0) (omega arith)
 
 pub step_5-requires : goal.step_5-requires
 step_5-requires c = let g = c.args in
@@ -40,8 +40,8 @@ pub returns : goal.returns
 returns c = let g = c.args in
     let o = c.open_command in
     let q = opens_as g.cmd.now g.card g.field.now c.session_of-session.result c.session_of-session.ensures c.requires.0 o.result o.new.plain o.ensures in
-    let n : ℕ = c.in-Bytes.n in
+    let n : ℕ = c.in-Some.n in
     let room : length o.new.plain ≡ 224 = omega (arith, o.auto.plain, length-take 224 g.plain.now, c.requires.1) in
     stored _ _ _ _
-    (routes-as _ _ _ _ (open-goes g.i g.cmd.now g.card g.field.now o.result o.new.plain q n c.in-Bytes.is _ room (n - 0) (omega arith) c.with_mac.result (c.with_mac.ensures ∙ ap (with_mac g.card) c.block-mac.ensures)) c.step_5.ensures)
-    (open-stored g.i g.cmd.now g.card g.field.now o.result o.new.plain q n c.in-Bytes.is _ room (n - 0) (omega arith))
+    (routes-as _ _ _ _ (open-goes g.i g.cmd.now g.card g.field.now o.result o.new.plain q n c.in-Some.is _ room (n - 0) (omega arith) c.with_mac.result (c.with_mac.ensures ∙ ap (with_mac g.card) c.block-mac.ensures)) c.step_5.ensures)
+    (open-stored g.i g.cmd.now g.card g.field.now o.result o.new.plain q n c.in-Some.is _ room (n - 0) (omega arith))

@@ -20,7 +20,6 @@ data-bytes e = omega arith
 pub returns-then-plan-end : goal.returns-then-plan-end
 returns-then-plan-end c = let a = c.args in
     first_short (bare a.flag a.pins a.keys) a.plan.now (omega (arith, c.first_bytes-end.ensures))
-    ∙ c.stopped.ensures a.flag
 
 pub returns-then-not-is_head : goal.returns-then-not-is_head
 returns-then-not-is_head c = let a = c.args in
@@ -28,7 +27,6 @@ returns-then-not-is_head c = let a = c.args in
     first-by-head k a.plan.now (omega (arith, c.first_bytes-end.ensures))
     ∙ ap (λ (h : Bool). after_that k (first_data a.plan.now) (cond h (command_of (ins_of a.plan.now)) none))
     (sym c.is_head.ensures ∙ c.if-not-is_head.true)
-    ∙ c.stopped-then-not-is_head.ensures a.flag
 
 pub returns : goal.returns
 returns c = let a = c.args in

@@ -1,6 +1,6 @@
 -- DERIVE goes where its checks hold, and the current path is new.
 -- Assumes nothing.
-use mathlib.Core.Path.{sym, ap, ◌∙◌}
+use mathlib.Core.Path.{refl, sym, ap, ◌∙◌}
 use mathlib.Core.Option.{Option, some}
 use Rattle.card.specs.declared.Keys.{Keys}
 use Rattle.card.specs.declared.Card.{Card}
@@ -15,7 +15,7 @@ use Rattle.plan_steps.proofs.after_derive.Goals as goal
 pub returns-then-not-holds : goal.returns-then-not-holds
 returns-then-not-holds c = λ flag. let a = c.args in
     let e = ap reads (sym c.derive_verdict.ensures) ∙ sym c.holds.ensures ∙ c.if-not-holds.true in
-    after-derive (bare flag a.pins a.keys) a.«data».now ∙ rw e (c.stopped.ensures flag)
+    after-derive (bare flag a.pins a.keys) a.«data».now ∙ rw e refl
 
 pub path_of-requires : goal.path_of-requires
 path_of-requires c = let a = c.args in
@@ -26,4 +26,4 @@ returns c = λ flag.
     let a = c.args in
     let e = ap reads (sym c.derive_verdict.ensures) ∙ sym c.holds.ensures ∙ c.if-not-holds.false in
     after-derive (bare flag a.pins a.keys) a.«data».now
-    ∙ rw e (ap {B = Option Card} (λ (k : Keys). some (bare flag a.pins k)) (sym (c.with_current-derived.ensures ∙ ap (with_current a.keys) c.path_of.ensures)))
+    ∙ rw e (ap {B = Option Card} (λ (k : Keys). some (bare flag a.pins k)) (sym (c.with_current.ensures ∙ ap (with_current a.keys) c.path_of.ensures)))

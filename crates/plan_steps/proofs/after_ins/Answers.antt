@@ -23,4 +23,3 @@ pub returns-in_default : goal.returns-in_default
 returns-in_default c = λ flag. let a = c.args in let m = c.in_default.in_default-own.rest in
     ap (after_that (bare flag a.pins a.keys) a.«data».now)
     (at_other a.ins (rw (ne_eqb a.ins 0x20 m.0.0.1, ne_eqb a.ins 0xC1 m.0.1, ne_eqb a.ins 0xD1 m.1)))
-    ∙ c.stopped.ensures flag

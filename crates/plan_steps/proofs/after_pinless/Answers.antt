@@ -1,6 +1,6 @@
 -- SET PIN-LESS PATH goes where its checks hold, and the PIN-less path is new.
 -- Assumes nothing.
-use mathlib.Core.Path.{sym, ap, ◌∙◌}
+use mathlib.Core.Path.{refl, sym, ap, ◌∙◌}
 use mathlib.Core.Option.{Option, some}
 use Rattle.card.specs.declared.Keys.{Keys}
 use Rattle.card.specs.declared.Card.{Card}
@@ -15,7 +15,7 @@ use Rattle.plan_steps.proofs.after_pinless.Goals as goal
 pub returns-then-not-holds : goal.returns-then-not-holds
 returns-then-not-holds c = λ flag. let a = c.args in
     let e = ap reads (sym c.pinless_verdict.ensures) ∙ sym c.holds.ensures ∙ c.if-not-holds.true in
-    after-pinless (bare flag a.pins a.keys) a.«data».now ∙ rw e (c.stopped.ensures flag)
+    after-pinless (bare flag a.pins a.keys) a.«data».now ∙ rw e refl
 
 pub path_of-requires : goal.path_of-requires
 path_of-requires c = let a = c.args in
@@ -26,4 +26,4 @@ returns c = λ flag.
     let a = c.args in
     let e = ap reads (sym c.pinless_verdict.ensures) ∙ sym c.holds.ensures ∙ c.if-not-holds.false in
     after-pinless (bare flag a.pins a.keys) a.«data».now
-    ∙ rw e (ap {B = Option Card} (λ (k : Keys). some (bare flag a.pins k)) (sym (c.with_pinless-set.ensures ∙ ap (with_pinless a.keys) c.path_of.ensures)))
+    ∙ rw e (ap {B = Option Card} (λ (k : Keys). some (bare flag a.pins k)) (sym (c.with_pinless.ensures ∙ ap (with_pinless a.keys) c.path_of.ensures)))
