@@ -13,7 +13,7 @@ use Rattle.card.specs.declared.Card.{Card}
 use Rattle.card.specs.Sound.{is_sound}
 use Rattle.card.proofs.Rules.{blank-rules, keys-blank}
 use Rattle.rules.specs.declared.Command.{Command}
-use Rattle.rules.specs.declared.Verdict.{Verdict}
+use Rattle.rules.specs.Results.{Verdict}
 use Rattle.rules.specs.Words.{wrong_parameters, Reply, fails}
 use Rattle.rules.specs.Supplies.{suits}
 use Rattle.rules.specs.Rows.{row_of, offered, is_plain}

@@ -23,7 +23,7 @@ use Rattle.rules.specs.declared.ExportPath.TheVariants as export_path
 use Rattle.rules.specs.declared.ExportPart.TheVariants as export_part
 use Rattle.rules.specs.declared.Command.{Command}
 use Rattle.rules.specs.declared.Command.TheVariants as command
-use Rattle.rules.specs.declared.Verdict.{Verdict}
+use Rattle.rules.specs.Results.{Verdict}
 use Rattle.rules.specs.Words.{Hold, fails}
 use Rattle.rules.specs.Supplies.{suits}
 use Rattle.rules.specs.Commands.{is_verified, exported_path, in_eip1581, export_checks, rule_of}

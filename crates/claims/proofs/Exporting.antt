@@ -1,5 +1,6 @@
 -- A turn with an EXPORT: the law of sealed turns, with the reply of the rule in it; and turns on a card that a list of calls reaches.
 -- Assumes nothing.
+use Rattle.std.specs.Prelude.{Ok}
 use mathlib.Core.Path.{◌≡◌, refl, ap, ap₂, ◌∙◌}
 use mathlib.Core.Bool.{true, false}
 use mathlib.Core.List.{List, [], ◌∷◌, ◌++◌, append_assoc}
@@ -22,14 +23,13 @@ use Rattle.card.specs.Sound.{is_sound}
 use Rattle.card.proofs.Tests.{the_second}
 use Rattle.card.proofs.SoundFacts.{verified-stage}
 use Rattle.rules.specs.declared.Instruction.TheVariants as ins
-use Rattle.rules.specs.declared.Named.TheVariants as named
 use Rattle.rules.specs.declared.ExportPath.{ExportPath}
 use Rattle.rules.specs.declared.ExportPath.TheVariants as export_path
 use Rattle.rules.specs.declared.ExportPart.{ExportPart}
 use Rattle.rules.specs.declared.ExportPart.TheVariants as export_part
 use Rattle.rules.specs.declared.Command.{Command}
 use Rattle.rules.specs.declared.Command.TheVariants as command
-use Rattle.rules.specs.declared.Verdict.{Verdict}
+use Rattle.rules.specs.Results.{Verdict}
 use Rattle.rules.specs.Words.{success, word, Hold, Reply}
 use Rattle.rules.specs.Supplies.{export_supply, suits, says_yes, export_public, export_private}
 use Rattle.rules.specs.Commands.{in_eip1581, export_checks, keys_after_export, export_reply, key_with, rule_of}
@@ -69,7 +69,7 @@ export-sealed = refl
 
 module _ (c : Card) (t : Turn) (which : ExportPath) (what : ExportPart) (sound : is_sound c ≡ true) (w : Typed c) (in2 : c.channel.stage ≡ 2)
     (header : t.header ≡ export_header which what) where
-  name : name_of (is_initialised c) (cla_of t.header) (ins_of t.header) ≡ named.Known ins.Export
+  name : name_of (is_initialised c) (cla_of t.header) (ins_of t.header) ≡ Ok ins.Export
   name = ap (λ (h : List ℕ). name_of (is_initialised c) (cla_of h) (ins_of h)) header
       ∙ known c ins.Export (p1_byte which) (p2_byte what) sound in2 export-sealed
 

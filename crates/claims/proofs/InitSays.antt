@@ -1,6 +1,7 @@
 -- INIT on a card that is not initialised: where ANSWER says 9000, the card that it leaves is initialised, for each other answer has another
 -- status word.
 -- Assumes nothing.
+use Rattle.std.specs.Prelude.{Ok}
 use mathlib.Core.Path.{◌≡◌, refl, ap, ap₂, ◌∙◌}
 use mathlib.Core.Bool.{Bool, true, false, cond}
 use mathlib.Core.List.{List, [], ◌∷◌}
@@ -15,9 +16,8 @@ use Rattle.card.specs.declared.Card.{Card}
 use Rattle.card.specs.Slots.{is_zero}
 use Rattle.card.specs.Sound.{is_sound}
 use Rattle.rules.specs.declared.Instruction.TheVariants as ins
-use Rattle.rules.specs.declared.Named.TheVariants as named
 use Rattle.rules.specs.declared.Command.TheVariants as command
-use Rattle.rules.specs.declared.Verdict.{Verdict}
+use Rattle.rules.specs.Results.{Verdict}
 use Rattle.rules.specs.Words.{Reply}
 use Rattle.rules.specs.Supplies.{suits, says_yes, init_key}
 use Rattle.rules.specs.Commands.{is_init_data, init_checks, is_content, init_content, init_with, init_reply, rule_of}
@@ -66,7 +66,7 @@ module _ (g : Card) where
   choice-says d false b = λ s. other 0x6A 0x86 (λ z. omega arith)
 
   named-init : (cmd : List ℕ) → is_initialised g ≡ false → cla_of cmd ≡ 0x80 → ins_of cmd ≡ 0xFE
-      → name_of (is_initialised g) (cla_of cmd) (ins_of cmd) ≡ named.Known ins.Init
+      → name_of (is_initialised g) (cla_of cmd) (ins_of cmd) ≡ Ok ins.Init
   unfolding name_of
   named-init cmd f a b =
       ap (λ (t : Bool). name_of t (cla_of cmd) (ins_of cmd)) f ∙ ap₂ (λ (x y : ℕ). name_of false x y) a b

@@ -12,9 +12,8 @@ use lib.Dec.{leb, eqb}
 use lib.ListN.{length, get_or}
 use lib.Seq.{take_all}
 use Rattle.sha_rules.specs.Hash.{sha256}
-use Rattle.template_walk.specs.declared.Walked.{Walked}
-use Rattle.template_walk.specs.declared.Walked.TheVariants.{Fields, Refused}
-use Rattle.template_walk.specs.Walk.{walk_of, report, WALK}
+use Rattle.std.specs.Prelude.{Ok, Err}
+use Rattle.template_walk.specs.Walk.{Walked, walk_of, report, WALK}
 use Rattle.refusals.specs.Refusals.{wrong_supply}
 use Rattle.card.specs.declared.Card.{Card}
 use Rattle.card.specs.State.{with_keys}
@@ -130,8 +129,8 @@ module _ (c : Card) (t : Turn) (form : KeyForm) (p : Supposed c t form) where
 -- ---- the place, by form: none where WALK takes the data, WALK's offset where it refuses a template's
 module _ (d : List ℕ) where
   in-it : (w : Walked) → (report w).refusal ≡ 0 → place_in w ≡ 255
-  in-it (Fields n) e = refl
-  in-it (Refused f at) e = absurd (number-not-0 f e)
+  in-it (Ok n) e = refl
+  in-it (Err r) e = absurd (number-not-0 r.fault e)
 
   taken-place : (form : KeyForm) → (WALK d).refusal ≡ 0 → load_place form d ≡ 255
   unfolding load_place

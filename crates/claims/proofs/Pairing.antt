@@ -1,5 +1,6 @@
 -- A pairing with a client that has the secret: PAIR's first step by its rule, its final step by the law of slots, and a cryptogram that is not the expected one.
 -- Assumes nothing.
+use Rattle.std.specs.Prelude.{Err}
 use mathlib.Core.Path.{◌≡◌, refl, sym, ap, ◌∙◌, subst}
 use mathlib.Core.Bool.{Bool, true, false, ◌&&◌, not, cond}
 use mathlib.Core.List.{List, [], ◌∷◌, ◌++◌, append_assoc}
@@ -19,14 +20,12 @@ use Rattle.card.specs.State.{zeros, with_pairing, not_pending, forgotten, closed
 use Rattle.card.specs.Slots.{all_of, some_of, is_free}
 use Rattle.card.specs.Sound.{is_sound}
 use Rattle.card.specs.Shape.{Shaped}
-use Rattle.card_slots.specs.declared.Free.{Free}
-use Rattle.card_slots.specs.declared.Free.TheVariants as free
+use Rattle.std.specs.Prelude.{Option, Some, None}
 use Rattle.card_slots.specs.Free.{first_free}
 use Rattle.card_slots.specs.Free as first-free
 use Rattle.card_slots.proofs.FreeFacts.{first-free-says, found, some-found}
 use Rattle.rules.specs.declared.Instruction.TheVariants as ins
 use Rattle.rules.specs.declared.Command.TheVariants as command
-use Rattle.rules.specs.declared.Verdict.TheVariants.{Fails}
 use Rattle.rules.specs.Words.{success, security_not_met, word, verdict, Hold, Reply, succeeds, fails}
 use Rattle.rules.specs.Supplies.{suits}
 use Rattle.rules.specs.Commands.{pair_first_checks, pair_first_reply, pair_final_checks, rule_of}
@@ -70,9 +69,9 @@ module _ (c : Card) (room : ℕ) (h : CanPair c c.pairing.secret room) where
   some-free : some_of is_free c.pairing.slots ≡ true
   some-free = go (first_free c.pairing.slots) refl (first-free-says c.pairing.slots _ refl).1
     where
-      go : (f : Free) → first_free c.pairing.slots ≡ f → first-free.Says c.pairing.slots f → some_of is_free c.pairing.slots ≡ true
-      go (free.At i) e l = some-found c.pairing.slots ∙ ap found e
-      go free.Full e l = absurd (l h.slot (omega (arith, h.under, h.shaped.slots)) h.free)
+      go : (f : Option ℕ) → first_free c.pairing.slots ≡ f → first-free.Says c.pairing.slots f → some_of is_free c.pairing.slots ≡ true
+      go (Some i) e l = some-found c.pairing.slots ∙ ap found e
+      go None e l = absurd (l h.slot (omega (arith, h.under, h.shaped.slots)) h.free)
 
   -- ---- the first step
   module _ (x y : List ℕ) (x32 : length x ≡ 32) (y32 : length y ≡ 32) where
@@ -157,7 +156,7 @@ module _ (c : Card) (room : ℕ) (h : CanPair c c.pairing.secret room) where
         refl pair-named command.PairFinal refl final-there) refl (final-suits s)
 
     module _ (d s : List ℕ) (d32 : length d ≡ 32) (other : d ≡ hashed secret y → ⊥) where
-      wrong-fails : verdict (supply_of command.PairFinal) (checks_of command.PairFinal (waiting c secret y) d) ≡ Fails security_not_met
+      wrong-fails : verdict (supply_of command.PairFinal) (checks_of command.PairFinal (waiting c secret y) d) ≡ Err security_not_met
       unfolding rule_of pair_final_checks
       wrong-fails = rw (h.closed, d32, unlike d (hashed secret y) other)
 
@@ -165,7 +164,7 @@ module _ (c : Card) (room : ℕ) (h : CanPair c c.pairing.secret room) where
           ≡ answered_at (fault_at command.PairFinal d security_not_met) (plainly (fails (with_pairing c (not_pending c.pairing)) security_not_met))
       wrong-out =
           fails-with (waiting c secret y) (final_step d) d s room ins.Pair (final-supposed d d32) refl pair-named command.PairFinal refl security_not_met
-          (subst (λ (k : Card). verdict (supply_of command.PairFinal) (checks_of command.PairFinal k d) ≡ Fails security_not_met) (sym (final-itself d)) wrong-fails)
+          (subst (λ (k : Card). verdict (supply_of command.PairFinal) (checks_of command.PairFinal k d) ≡ Err security_not_met) (sym (final-itself d)) wrong-fails)
           ∙ ap (λ (k : Card). answered_at (fault_at command.PairFinal d security_not_met) (plainly (fails (forgotten k) security_not_met))) (final-itself d)
 
     own-pairing : (z : List ℕ) → length z ≡ 32 → Pairing c secret x y z room

@@ -12,10 +12,10 @@ use lib.ListN.{length}
 use Rattle.record_rules.specs.Lengths.{write_room}
 use Rattle.channel_rules.specs.declared.Session.{Session}
 use Rattle.channel_rules.specs.Terminal.{seal_out}
+use Rattle.template_walk.specs.declared.Fault.{Fault}
 use Rattle.template_walk.specs.declared.Fault.TheVariants as fault
-use Rattle.template_walk.specs.declared.Walked.{Walked}
-use Rattle.template_walk.specs.declared.Walked.TheVariants as walked
-use Rattle.template_walk.specs.Walk.{walk_of, report}
+use Rattle.std.specs.Prelude as rust
+use Rattle.template_walk.specs.Walk.{Walked, refusal_number, walk_of, report}
 use Rattle.card.specs.declared.Card.{Card}
 use Rattle.card.specs.Sound.{is_sound}
 use Rattle.sound.specs.declared.Answer.{Answer}
@@ -152,13 +152,16 @@ walk-refuses : (s : List ℕ) → WalkRefuses s
 walk-refuses s = record { numbers = numbers (walk_of s); nothing = nothing (walk_of s) }
   where
     numbers : (w : Walked) → ((report w).refusal ≡ 0) ⊎ (((report w).refusal ≡ 4) ⊎ ((report w).refusal ≡ 5))
-    numbers (walked.Fields n) = inl refl
-    numbers (walked.Refused fault.Malformed k) = inr (inl refl)
-    numbers (walked.Refused fault.TooDeep k) = inr (inr refl)
+    numbers (rust.Ok n) = inl refl
+    numbers (rust.Err r) = of-fault r.fault
+      where
+        of-fault : (f : Fault) → (refusal_number f ≡ 0) ⊎ ((refusal_number f ≡ 4) ⊎ (refusal_number f ≡ 5))
+        of-fault fault.Malformed = inr (inl refl)
+        of-fault fault.TooDeep = inr (inr refl)
 
     nothing : (w : Walked) → ((report w).refusal ≡ 0 → ⊥) → (report w).count ≡ 0
-    nothing (walked.Fields n) h = absurd (h refl)
-    nothing (walked.Refused f k) h = refl
+    nothing (rust.Ok n) h = absurd (h refl)
+    nothing (rust.Err r) h = refl
 
 pub refusals : Refusals
 refusals = record {

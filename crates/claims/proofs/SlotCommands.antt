@@ -1,6 +1,7 @@
 -- The plain commands that slots have to do with: SELECT tells how many are free; OPEN looks at the one that P1 names; PAIR fills the first free one.
 -- Each comes past step 4 as it is, to its listing and to its checks.
 -- Assumes nothing.
+use Rattle.std.specs.Prelude.{Err, Ok}
 use mathlib.Core.Path.{◌≡◌, refl, sym, ap, ◌∙◌, subst}
 use mathlib.Core.Bool.{Bool, true, false, ◌&&◌, not, cond, false≢true}
 use mathlib.Core.List.{List, [], ◌∷◌, ◌++◌, append_assoc}
@@ -25,17 +26,14 @@ use Rattle.card.specs.Slots.{some_of, is_zero, is_free}
 use Rattle.card.specs.Shape.{Shaped}
 use Rattle.card.proofs.Tests.{the_second}
 use Rattle.card.proofs.Rules.{After, parts-rules, sound-cases}
-use Rattle.card_slots.specs.declared.Free.{Free}
-use Rattle.card_slots.specs.declared.Free.TheVariants as free
+use Rattle.std.specs.Prelude.{Option as Found, Some, None}
 use Rattle.card_slots.specs.Free.{first_free}
 use Rattle.card_slots.specs.Free as first-free
 use Rattle.card_slots.proofs.FreeFacts.{first-free-says, found, some-found}
 use Rattle.rules.specs.declared.Instruction.{Instruction}
 use Rattle.rules.specs.declared.Instruction.TheVariants as ins
-use Rattle.rules.specs.declared.Named.TheVariants as named
 use Rattle.rules.specs.declared.Command.{Command}
 use Rattle.rules.specs.declared.Command.TheVariants as command
-use Rattle.rules.specs.declared.Verdict.TheVariants.{Fails}
 use Rattle.rules.specs.Words.{success, wrong_parameters, no_space, word, verdict, Hold, Reply, succeeds, fails}
 use Rattle.rules.specs.Supplies.{suits, pair_challenge}
 use Rattle.rules.specs.Commands.{application_id, free_slots, select_checks, select_reply, open_checks, open_reply, with_secret, pair_first_checks, pair_first_reply, pair_final_checks, pair_final_reply, pair_into, with_slot, filled_with, rule_of}
@@ -63,12 +61,12 @@ slot-over k p1 p2 h = by (is_zero p2) _ (rw (le-ltb p1 8 h))
 
 -- ---- a plain command with these data, on an initialised card
 module _ (c : Card) (cmd d s : List ℕ) (room : ℕ) (i : Instruction) (p : Supposed c cmd d room) (plain : is_plain i ≡ true)
-    (name : name_of true (cla_of cmd) (ins_of cmd) ≡ named.Known i) where
+    (name : name_of true (cla_of cmd) (ins_of cmd) ≡ Ok i) where
   abbrev x : Card
   x = step1 cmd c
 
-  name1 : name_of (is_initialised x) (cla_of cmd) (ins_of cmd) ≡ named.Known i
-  name1 = step1-keeps (λ (y : Card). name_of (is_initialised y) (cla_of cmd) (ins_of cmd) ≡ named.Known i) (λ _ h. h) (λ _ h. h) cmd c
+  name1 : name_of (is_initialised x) (cla_of cmd) (ins_of cmd) ≡ Ok i
+  name1 = step1-keeps (λ (y : Card). name_of (is_initialised y) (cla_of cmd) (ins_of cmd) ≡ Ok i) (λ _ h. h) (λ _ h. h) cmd c
       (ap (λ (b : Bool). name_of b (cla_of cmd) (ins_of cmd)) p.initialised ∙ name)
 
   -- P1 and P2 that are not listed
@@ -99,7 +97,7 @@ module _ (c : Card) (cmd d s : List ℕ) (room : ℕ) (i : Instruction) (p : Sup
     unfolding ask_out decide step6
     asks-it r e h = rw (p.sound, le-ltb r 255 e, goes-there, held (supply_of k) (checks_of k at6.card d) h)
 
-    pub fails-with : (w : ℕ) → verdict (supply_of k) (checks_of k at6.card d) ≡ Fails w
+    pub fails-with : (w : ℕ) → verdict (supply_of k) (checks_of k at6.card d) ≡ Err w
         → answer_out c cmd s room ≡ answered_at (fault_at k d w) (plainly (fails at6.lost w))
     unfolding step6 suits tell
     fails-with w v = decided ∙ rw (v, plain)
@@ -124,7 +122,7 @@ step1-slots cmd c = step1-keeps (λ (y : Card). y.pairing.slots ≡ c.pairing.sl
 
 -- ---- SELECT
 module _ (c : Card) (rest s : List ℕ) (room : ℕ) (p : Supposed c (select_command rest) application_id room) where
-  select-named : name_of true 0x00 0xA4 ≡ named.Known ins.Select
+  select-named : name_of true 0x00 0xA4 ≡ Ok ins.Select
   unfolding name_of
   select-named = refl
 
@@ -157,7 +155,7 @@ module _ (c : Card) (rest s : List ℕ) (room : ℕ) (p : Supposed c (select_com
       (select-replies ∙ told_same)
 
 -- ---- OPEN
-open-named : name_of true 0x80 0x10 ≡ named.Known ins.Open
+open-named : name_of true 0x80 0x10 ≡ Ok ins.Open
 unfolding name_of
 open-named = refl
 
@@ -205,7 +203,7 @@ module _ (c : Card) (p1 : ℕ) (rest s d : List ℕ) (room : ℕ) (p : Supposed 
   flag_same : (get_or here.pairing.slots p1 free_slot).filled ≡ flag_at c p1
   flag_same = ap (λ (y : List Slot). (get_or y p1 free_slot).filled) (step1-slots cmd' c)
 
-  open-fails : flag_at c p1 ≡ 0 → verdict (supply_of (command.Open p1)) (checks_of (command.Open p1) here d) ≡ Fails wrong_parameters
+  open-fails : flag_at c p1 ≡ 0 → verdict (supply_of (command.Open p1)) (checks_of (command.Open p1) here d) ≡ Err wrong_parameters
   unfolding rule_of open_checks
   open-fails z = rw (eq-eqb (get_or here.pairing.slots p1 free_slot).filled 0 (flag_same ∙ z))
 
@@ -251,7 +249,7 @@ module _ (c : Card) (p1 : ℕ) (rest s d : List ℕ) (room : ℕ) (p : Supposed 
     )
 
 -- ---- PAIR
-pub pair-named : name_of true 0x80 0x12 ≡ named.Known ins.Pair
+pub pair-named : name_of true 0x80 0x12 ≡ Ok ins.Pair
 unfolding name_of
 pair-named = refl
 
@@ -270,23 +268,23 @@ module _ (c : Card) (rest s d : List ℕ) (room : ℕ) (p : Supposed c (pair_com
   not-2 : there.channel.stage ≡ 2 → ⊥
   not-2 = step1-keeps (λ (y : Card). y.channel.stage ≡ 2 → ⊥) (λ _ _ z. omega (arith, z)) (λ _ h. h) first c n
 
-  some-there : (f : Free) → first_free c.pairing.slots ≡ f → some_of is_free there.pairing.slots ≡ found f
+  some-there : (f : Found ℕ) → first_free c.pairing.slots ≡ f → some_of is_free there.pairing.slots ≡ found f
   some-there f e = ap (some_of is_free) (step1-slots first c) ∙ some-found c.pairing.slots ∙ ap found e
 
   -- none is free
-  full-fails : first_free c.pairing.slots ≡ free.Full → verdict (supply_of command.PairFirst) (checks_of command.PairFirst there d) ≡ Fails no_space
+  full-fails : first_free c.pairing.slots ≡ None → verdict (supply_of command.PairFirst) (checks_of command.PairFirst there d) ≡ Err no_space
   unfolding rule_of pair_first_checks
-  full-fails e = rw (ne_eqb there.channel.stage 2 not-2, long, some-there free.Full e)
+  full-fails e = rw (ne_eqb there.channel.stage 2 not-2, long, some-there None e)
 
-  full-out : first_free c.pairing.slots ≡ free.Full → out.bytes ≡ 0x6A ∷ 0x84 ∷ []
+  full-out : first_free c.pairing.slots ≡ None → out.bytes ≡ 0x6A ∷ 0x84 ∷ []
   full-out e = ap (λ (y : AnswerOut). y.bytes)
       (fails-with c first d s room ins.Pair p refl pair-named command.PairFirst refl no_space (full-fails e))
 
   -- one is free
-  module _ (i : ℕ) (e : first_free c.pairing.slots ≡ free.At i) where
+  module _ (i : ℕ) (e : first_free c.pairing.slots ≡ Some i) where
     room-holds : Hold (checks_of command.PairFirst there d)
     unfolding rule_of pair_first_checks
-    room-holds = (rw (ne_eqb there.channel.stage 2 not-2), (rw long, (some-there (free.At i) e, tt)))
+    room-holds = (rw (ne_eqb there.channel.stage 2 not-2), (rw long, (some-there (Some i) e, tt)))
 
     abbrev Other : AnswerOut → Type 0
     Other y = y.bytes ≡ 0x6A ∷ 0x84 ∷ [] → ⊥
@@ -310,10 +308,10 @@ module _ (c : Card) (rest s d : List ℕ) (room : ℕ) (p : Supposed c (pair_com
   pub pair-full : (out.bytes ≡ 0x6A ∷ 0x84 ∷ []) ↔ ((k : ℕ) → k < 8 → flag_at c k ≡ 0 → ⊥)
   pair-full = by (first_free c.pairing.slots) refl (first-free-says c.pairing.slots _ refl).1
     where
-      by : (f : Free) → first_free c.pairing.slots ≡ f → first-free.Says c.pairing.slots f
+      by : (f : Found ℕ) → first_free c.pairing.slots ≡ f → first-free.Says c.pairing.slots f
           → (out.bytes ≡ 0x6A ∷ 0x84 ∷ []) ↔ ((k : ℕ) → k < 8 → flag_at c k ≡ 0 → ⊥)
-      by (free.At i) e l = (λ z. absurd (room_out i e z), λ g. absurd (g i (omega (arith, l.within, w.slots)) l.free))
-      by free.Full e l = ((λ z k h. l k (omega (arith, h, w.slots))), λ g. full-out e)
+      by (Some i) e l = (λ z. absurd (room_out i e z), λ g. absurd (g i (omega (arith, l.within, w.slots)) l.free))
+      by None e l = ((λ z k h. l k (omega (arith, h, w.slots))), λ g. full-out e)
 
 -- its final step
 module _ (c : Card) (rest salt : List ℕ) (room : ℕ) (p : Supposed c (pair_command 1 rest) c.pairing.expected room) (w : Shaped c)
@@ -346,12 +344,12 @@ module _ (c : Card) (rest salt : List ℕ) (room : ℕ) (p : Supposed c (pair_co
   abbrev filled : ℕ → Reply
   filled i = succeeds (with_pairing c (with_slot (not_pending c.pairing) i (filled_with key))) (i ∷ salt)
 
-  final-replies : (i : ℕ) → first_free c.pairing.slots ≡ free.At i
+  final-replies : (i : ℕ) → first_free c.pairing.slots ≡ Some i
       → reply_of command.PairFinal c c.pairing.expected salt ≡ filled i
   unfolding rule_of pair_final_reply pair_into
   final-replies i e = rw (e, take_all 32 salt (omega (arith, salt32)))
 
-  final-out : (i : ℕ) → first_free c.pairing.slots ≡ free.At i → answer_out c final salt room ≡ answered (plainly (filled i))
+  final-out : (i : ℕ) → first_free c.pairing.slots ≡ Some i → answer_out c final salt room ≡ answered (plainly (filled i))
   final-out i e =
       replies c final c.pairing.expected salt room ins.Pair p refl pair-named command.PairFinal refl
       (subst (λ (y : Card). Hold (checks_of command.PairFinal y c.pairing.expected)) (sym itself) final-holds) final-suits
@@ -361,13 +359,13 @@ module _ (c : Card) (rest salt : List ℕ) (room : ℕ) (p : Supposed c (pair_co
   pub pair-final : Paired c salt key (answer_out c (pair_command 1 rest) salt room)
   pair-final = by (first_free c.pairing.slots) refl (first-free-says c.pairing.slots _ refl).1
     where
-      by : (f : Free) → first_free c.pairing.slots ≡ f → first-free.Says c.pairing.slots f
+      by : (f : Found ℕ) → first_free c.pairing.slots ≡ f → first-free.Says c.pairing.slots f
           → Paired c salt key (answer_out c (pair_command 1 rest) salt room)
-      by (free.At i) e l = record {
+      by (Some i) e l = record {
         index = i;
         under = omega (arith, l.within, w.slots);
         least = l;
         says = says_plain _ (filled i) _ (final-out i e) refl;
         card = ap (λ (y : AnswerOut). y.card) (final-out i e);
       }
-      by free.Full e l = absurd (pending-slot c p.sound n e)
+      by None e l = absurd (pending-slot c p.sound n e)

@@ -25,7 +25,7 @@ use Rattle.rules.specs.declared.Instruction.{Instruction}
 use Rattle.rules.specs.declared.Instruction.TheVariants as ins
 use Rattle.rules.specs.declared.Command.{Command}
 use Rattle.rules.specs.declared.Command.TheVariants as command
-use Rattle.rules.specs.declared.Verdict.{Verdict}
+use Rattle.rules.specs.Results.{Verdict}
 use Rattle.rules.specs.Words.{wrong_parameters, Reply, fails}
 use Rattle.rules.specs.Supplies.{suits, says_yes, init_key}
 use Rattle.rules.specs.Commands.{free_slots, select_reply, is_content, init_content, init_with, init_reply, rule_of}

@@ -1,6 +1,7 @@
 -- GENERATE MNEMONIC that does not come to its channel: outside stage 2, and on a card before INIT, where every instruction of class 80 but INIT is
 -- unknown.
 -- Assumes nothing.
+use Rattle.std.specs.Prelude.{Err, Ok}
 use mathlib.Core.Path.{◌≡◌, refl, ap, ◌∙◌}
 use mathlib.Core.Bool.{Bool, true, false}
 use mathlib.Core.List.{List, [], ◌∷◌}
@@ -15,8 +16,8 @@ use Rattle.card.specs.declared.Card.{Card}
 use Rattle.card.specs.Sound.{is_sound}
 use Rattle.rules.specs.declared.Instruction.{Instruction}
 use Rattle.rules.specs.declared.Instruction.TheVariants as ins
-use Rattle.rules.specs.declared.Named.{Named}
-use Rattle.rules.specs.declared.Named.TheVariants as named
+use Rattle.rules.specs.Results.{Named}
+use Rattle.rules.specs.declared.Unnamed.TheVariants as unnamed
 use Rattle.rules.specs.Words.{conditions_not_met, unknown_instruction, word, fails}
 use Rattle.rules.specs.Rows.{row_of, class80, offered}
 use Rattle.rules.specs.Channel.{plainly}
@@ -38,7 +39,7 @@ stopped c cmd s room w sound l e =
     }
 
 -- ---- step 4, in another stage
-mnemonic-named : name_of true 0x80 0xD2 ≡ named.Known ins.Mnemonic
+mnemonic-named : name_of true 0x80 0xD2 ≡ Ok ins.Mnemonic
 unfolding name_of
 mnemonic-named = refl
 
@@ -50,8 +51,8 @@ no-channel c rest d s room p l = stopped c cmd s room conditions_not_met p.sound
     cmd : List ℕ
     cmd = 0x80 ∷ 0xD2 ∷ rest
 
-    name : name_of (is_initialised (step1 cmd c)) 0x80 0xD2 ≡ named.Known ins.Mnemonic
-    name = step1-keeps (λ (y : Card). name_of (is_initialised y) 0x80 0xD2 ≡ named.Known ins.Mnemonic) (λ _ h. h) (λ _ h. h) cmd c
+    name : name_of (is_initialised (step1 cmd c)) 0x80 0xD2 ≡ Ok ins.Mnemonic
+    name = step1-keeps (λ (y : Card). name_of (is_initialised y) 0x80 0xD2 ≡ Ok ins.Mnemonic) (λ _ h. h) (λ _ h. h) cmd c
         (ap (λ (b : Bool). name_of b 0x80 0xD2) p.initialised ∙ mnemonic-named)
 
     low : (step1 cmd c).channel.stage < 2
@@ -80,14 +81,14 @@ all-hidden = (
   ),
 )
 
-unknown : (b : ℕ) (l : List Instruction) → Hidden l → (b ≡ 0xFE → ⊥) → on_card false (with_byte b l) ≡ named.Unknown
+unknown : (b : ℕ) (l : List Instruction) → Hidden l → (b ≡ 0xFE → ⊥) → on_card false (with_byte b l) ≡ (Err unnamed.Unknown)
 unknown b [] h n = refl
 unknown b (i ∷ more) h n =
-    by-test (λ (x : Named). on_card false x ≡ named.Unknown) (eqb b (row_of i).byte)
+    by-test (λ (x : Named). on_card false x ≡ (Err unnamed.Unknown)) (eqb b (row_of i).byte)
     (λ e. ⊎_elim (λ f. absurd (n (eqb-true b (row_of i).byte e ∙ f))) (λ o. rw o) h.0)
     (λ e. unknown b more h.1 n)
 
-unknown-name : (b : ℕ) → (b ≡ 0xFE → ⊥) → name_of false 0x80 b ≡ named.Unknown
+unknown-name : (b : ℕ) → (b ≡ 0xFE → ⊥) → name_of false 0x80 b ≡ (Err unnamed.Unknown)
 unfolding name_of
 unknown-name b n = unknown b class80 all-hidden n
 
@@ -99,8 +100,8 @@ before-init c b rest d s room sound i n form l = stopped c cmd s room unknown_in
     cmd : List ℕ
     cmd = 0x80 ∷ b ∷ rest
 
-    name : name_of (is_initialised (step1 cmd c)) 0x80 b ≡ named.Unknown
-    name = step1-keeps (λ (y : Card). name_of (is_initialised y) 0x80 b ≡ named.Unknown) (λ _ h. h) (λ _ h. h) cmd c
+    name : name_of (is_initialised (step1 cmd c)) 0x80 b ≡ (Err unnamed.Unknown)
+    name = step1-keeps (λ (y : Card). name_of (is_initialised y) 0x80 b ≡ (Err unnamed.Unknown)) (λ _ h. h) (λ _ h. h) cmd c
         (ap (λ (x : Bool). name_of x 0x80 b) i ∙ unknown-name b n)
 
     there : arrival c cmd ≡ stops (plainly (fails (step1 cmd c) unknown_instruction))

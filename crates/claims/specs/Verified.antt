@@ -1,5 +1,5 @@
 -- Verification ends with the channel (RULES 2.3, 6.2): a new client does not find the PIN verified. Every length is in bytes.
-use Rattle.std.specs.Prelude.{ℕ, ◌≡◌, true, false, List, [], ◌∷◌}
+use Rattle.std.specs.Prelude.{ℕ, ◌≡◌, true, false, List, [], ◌∷◌, Ok}
 use Rattle.std.proofs.Math.Option.{none, some}
 use Rattle.card.specs.declared.Card.{Card}
 use Rattle.card.specs.State.{zeros, fresh_of}
@@ -7,7 +7,6 @@ use Rattle.card.specs.Sound.{is_sound}
 use Rattle.sound.specs.Reset.{reset_answer}
 use Rattle.record_rules.specs.Answers.{read_answer}
 use Rattle.rules.specs.declared.Instruction.{Instruction}
-use Rattle.rules.specs.declared.Named.TheVariants as named
 use Rattle.rules.specs.Commands.{application_id}
 use Rattle.rules.specs.Rows.{is_plain}
 use Rattle.rules.specs.Steps.{data_of, cla_of, ins_of, p1_of, p2_of, name_of, is_initialised, opened_by}
@@ -56,7 +55,7 @@ pub record Verified : Type 0 where
   pub everyselect : (c : Card) (cmd s : List ℕ) (room : ℕ) (field : List ℕ) → data_of cmd ≡ some field → (answer_out c cmd s room).refusal ≡ 0
       → cla_of cmd ≡ 0x00 → ins_of cmd ≡ 0xA4 → p1_of cmd ≡ 0x04 → p2_of cmd ≡ 0x00 → field ≡ application_id → Lost (answer_out c cmd s room).card
   pub everyfailure : (c : Card) (cmd s : List ℕ) (room : ℕ) (field : List ℕ) → data_of cmd ≡ some field → (answer_out c cmd s room).refusal ≡ 0
-      → (i : Instruction) → name_of (is_initialised c) (cla_of cmd) (ins_of cmd) ≡ named.Known i → is_plain i ≡ false → c.channel.stage ≡ 2
+      → (i : Instruction) → name_of (is_initialised c) (cla_of cmd) (ins_of cmd) ≡ Ok i → is_plain i ≡ false → c.channel.stage ≡ 2
       → opened_by c cmd field ≡ none → Lost (answer_out c cmd s room).card
   -- and it can be lost so: OPEN with success, with flag 00 and for a free slot; SELECT; RESET; a command that does not open
   pub opens : Ends 1 (open_with 0 1)

@@ -5,8 +5,7 @@ use Rattle.octets.specs.Bytes.{Bytes}
 use Rattle.template_rules.specs.Template.{is_template}
 use Rattle.template_walk.specs.declared.Fault.{Fault}
 use Rattle.template_walk.specs.declared.Fault.TheVariants.{Malformed, TooDeep}
-use Rattle.template_walk.specs.declared.Walked.TheVariants.{Refused}
-use Rattle.template_walk.specs.Walk.{walk_of, WALK}
+use Rattle.template_walk.specs.Walk.{refused, walk_of, WALK}
 use Rattle.template_answers.specs.Answers.{pre_initialised, application_info, status, signature, exported_public, exported_pair}
 use Rattle.laws_walk.specs.Trees.{Trees, encode, Lawful, Octets, Encodes, Holds}
 use Rattle.laws_walk.specs.Faults.{FirstFault}
@@ -31,7 +30,7 @@ pub record WalkFaults : Type 0 where
   pub toodeepat : (s : List ℕ) (k : ℕ) → (((WALK s).refusal ≡ 5) × ((WALK s).offset ≡ k)) ↔ FirstFault s TooDeep k
   pub nooffset : (s : List ℕ) → (WALK s).refusal ≡ 0 → (WALK s).offset ≡ 0
   -- and its answer, an enum, has that fault and its place
-  pub place : (s : List ℕ) (f : Fault) (k : ℕ) → walk_of s ≡ Refused f k ↔ FirstFault s f k
+  pub place : (s : List ℕ) (f : Fault) (k : ℕ) → walk_of s ≡ refused f k ↔ FirstFault s f k
   -- the place is that of a byte of the input; of a template that is too deep it is that of a template's tag
   pub atbyte : (s : List ℕ) (f : Fault) (k : ℕ) → FirstFault s f k → k < length s
   pub attemplate : (s : List ℕ) (k : ℕ) → FirstFault s TooDeep k → is_template (get_or s k 0) ≡ true

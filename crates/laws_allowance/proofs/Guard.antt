@@ -21,7 +21,7 @@ use Rattle.rules.specs.declared.ExportPath.{ExportPath}
 use Rattle.rules.specs.declared.ExportPart.TheVariants as export_part
 use Rattle.rules.specs.declared.Command.{Command}
 use Rattle.rules.specs.declared.Command.TheVariants as command
-use Rattle.rules.specs.declared.Verdict.{Verdict}
+use Rattle.rules.specs.Results.{Verdict}
 use Rattle.rules.specs.Words.{Hold}
 use Rattle.rules.specs.Rows.{row_of}
 use Rattle.rules.specs.Commands.{is_verified, has_key, is_set, on_pinless_path, sign_checks, export_checks, rule_of}

@@ -13,8 +13,7 @@ use Rattle.refusals.specs.Refusals.{no_refusal, answer_room}
 use Rattle.card.specs.declared.Card.{Card}
 use Rattle.card.specs.State.{closed, reset_of}
 use Rattle.card.specs.Sound.{is_sound}
-use Rattle.card_slots.specs.declared.Free.{Free}
-use Rattle.card_slots.specs.declared.Free.TheVariants as free
+use Rattle.std.specs.Prelude.{Option as Found, Some, None}
 use Rattle.card_slots.specs.Free.{first_free}
 use Rattle.sound.specs.declared.Answer.{Answer}
 use Rattle.sound.specs.Reset.{reset_answer}
@@ -24,7 +23,7 @@ use Rattle.rules.specs.declared.SecretKind.{SecretKind}
 use Rattle.rules.specs.declared.SecretKind.TheVariants as secret
 use Rattle.rules.specs.declared.Command.{Command}
 use Rattle.rules.specs.declared.Command.TheVariants as command
-use Rattle.rules.specs.declared.Verdict.{Verdict}
+use Rattle.rules.specs.Results.{Verdict}
 use Rattle.rules.specs.Words.{wrong_parameters, Reply, fails}
 use Rattle.rules.specs.Supplies.{suits, says_yes, init_key}
 use Rattle.rules.specs.Rows.{row_of, is_plain}
@@ -86,10 +85,10 @@ change-leaves c d secret.Pin = refl
 change-leaves c d secret.Puk = refl
 change-leaves c d secret.Pairing = refl
 
-pair-leaves : (c : Card) (s : List ℕ) (f : Free) → (pair_into c s f).card.initialised ≡ c.initialised
+pair-leaves : (c : Card) (s : List ℕ) (f : Found ℕ) → (pair_into c s f).card.initialised ≡ c.initialised
 unfolding pair_into
-pair-leaves c s (free.At i) = refl
-pair-leaves c s free.Full = refl
+pair-leaves c s (Some i) = refl
+pair-leaves c s None = refl
 
 replies : (k : Command) → Replies k
 unfolding rule_of select_reply open_reply mutual_reply pair_first_reply pair_final_reply unpair_reply verify_reply unblock_reply load_reply derive_reply remove_reply pinless_reply sign_reply export_reply ndef_reply mnemonic_reply

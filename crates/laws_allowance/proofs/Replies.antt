@@ -1,6 +1,7 @@
 -- What each command does with the tries, one line a command: INIT and CHANGE set them where they give 9000, VERIFY and UNBLOCK by how their comparison
 -- came out, and no other command changes them; and no check of a command has the status word 9000.
 -- Assumes nothing.
+use Rattle.std.specs.Prelude.{Err, Ok}
 use mathlib.Core.Path.{◌≡◌, refl, ap}
 use mathlib.Core.Bool.{Bool, true, false, cond, false≢true}
 use mathlib.Core.List.{List, [], ◌∷◌}
@@ -12,8 +13,7 @@ use borrow.Author.Tests.{eqb-true, eqb-false, not-true}
 use Rattle.template_rules.proofs.HeadFacts.{by-test}
 use Rattle.card.specs.declared.Pins.{Pins}
 use Rattle.card.specs.declared.Card.{Card}
-use Rattle.card_slots.specs.declared.Free.{Free}
-use Rattle.card_slots.specs.declared.Free.TheVariants as free
+use Rattle.std.specs.Prelude.{Option as Found, Some, None}
 use Rattle.card_slots.specs.Free.{first_free}
 use Rattle.rules.specs.declared.StatusKind.{StatusKind}
 use Rattle.rules.specs.declared.StatusKind.TheVariants as status
@@ -22,8 +22,7 @@ use Rattle.rules.specs.declared.SecretKind.TheVariants as secret
 use Rattle.rules.specs.declared.Command.{Command}
 use Rattle.rules.specs.declared.Command.TheVariants as command
 use Rattle.rules.specs.declared.Supply.{Supply}
-use Rattle.rules.specs.declared.Verdict.{Verdict}
-use Rattle.rules.specs.declared.Verdict.TheVariants.{Reads, Fails}
+use Rattle.rules.specs.Results.{Verdict}
 use Rattle.rules.specs.Words.{success, Check, verdict, Hold, Reply}
 use Rattle.rules.specs.Supplies.{says_yes, init_key}
 use Rattle.rules.specs.Rules.{Secret, pin, puk}
@@ -154,10 +153,10 @@ unfolding status_reply
 status-kept c status.Application = (refl, refl)
 status-kept c status.Path = (refl, refl)
 
-pair-kept : (c : Card) (s : List ℕ) (f : Free) → Kept c.pins (pair_into c s f).card.pins
+pair-kept : (c : Card) (s : List ℕ) (f : Found ℕ) → Kept c.pins (pair_into c s f).card.pins
 unfolding pair_into
-pair-kept c s (free.At i) = (refl, refl)
-pair-kept c s free.Full = (refl, refl)
+pair-kept c s (Some i) = (refl, refl)
+pair-kept c s None = (refl, refl)
 
 flagged-kept : (p : Pins) (s : List ℕ) (x y : Reply) → Kept p x.card.pins → Kept p y.card.pins
     → Kept p (cond (says_yes s) x y).card.pins
@@ -193,8 +192,8 @@ abbrev pub Errors : List Check → Type 0
 Errors [] = Unit {0}
 Errors (k ∷ more) = (eqb k.otherwise success ≡ false) × Errors more
 
-pub by-verdict-errors : (P : Verdict → Type 0) (s : Supply) (l : List Check) → Errors l → (Hold l → P (Reads s))
-    → ((w : ℕ) → eqb w success ≡ false → P (Fails w)) → P (verdict s l)
+pub by-verdict-errors : (P : Verdict → Type 0) (s : Supply) (l : List Check) → Errors l → (Hold l → P (Ok s))
+    → ((w : ℕ) → eqb w success ≡ false → P (Err w)) → P (verdict s l)
 by-verdict-errors P s [] e h f = h tt
 by-verdict-errors P s (k ∷ more) e h f =
     by-test P k.holds (λ t. by-verdict-errors P s more e.1 (λ x. h (t, x)) f) (λ t. f k.otherwise e.0)

@@ -1,5 +1,6 @@
 -- Where ANSWER is not refused, its answer is one reply told, with the status word that the event reads: no step that stops has the status word 9000.
 -- Assumes nothing.
+use Rattle.std.specs.Prelude.{Err, Ok}
 use mathlib.Core.Path.{◌≡◌, refl, ap, ◌∙◌}
 use mathlib.Core.Bool.{Bool, true, false, cond}
 use mathlib.Core.List.{List}
@@ -14,11 +15,10 @@ use Rattle.card.specs.declared.Card.{Card}
 use Rattle.card.specs.State.{closed}
 use Rattle.card.specs.Sound.{is_sound}
 use Rattle.rules.specs.declared.Instruction.{Instruction}
-use Rattle.rules.specs.declared.Named.{Named}
-use Rattle.rules.specs.declared.Named.TheVariants as named
+use Rattle.rules.specs.Results.{Named}
+use Rattle.rules.specs.declared.Unnamed.TheVariants as unnamed
 use Rattle.rules.specs.declared.Command.{Command}
-use Rattle.rules.specs.declared.Verdict.{Verdict}
-use Rattle.rules.specs.declared.Verdict.TheVariants.{Reads, Fails}
+use Rattle.rules.specs.Results.{Verdict}
 use Rattle.rules.specs.Words.{success, wrong_length, conditions_not_met, security_not_met, wrong_parameters, unknown_instruction, unknown_class, verdict, Reply, fails}
 use Rattle.rules.specs.Supplies.{suits}
 use Rattle.rules.specs.Rows.{row_of, is_plain}
@@ -73,9 +73,9 @@ past-says cmd c = go (data_of cmd) (name_of (is_initialised c) (cla_of cmd) (ins
     go : (o : Option (List ℕ)) (n : Named)
         → Stops (then (by_form c o) (λ field. then (by_name c n) (λ i. then (step4 i cmd c field) (λ y. step5 i cmd y))))
     go none n = plain-says c wrong_length refl
-    go (some field) named.WrongClass = plain-says c unknown_class refl
-    go (some field) named.Unknown = plain-says c unknown_instruction refl
-    go (some field) (named.Known i) = step4-says i cmd c field
+    go (some field) (Err unnamed.WrongClass) = plain-says c unknown_class refl
+    go (some field) (Err unnamed.Unknown) = plain-says c unknown_instruction refl
+    go (some field) (Ok i) = step4-says i cmd c field
 
 -- ---- a command at its checks
 given_word : (k : Command) (w : ℕ) → is_given (given_by k w) ≡ eqb w success
@@ -86,13 +86,13 @@ given_word k w = go (eqb w success)
     go false = refl
 
 verdict-says : (a : Arrived) (s : List ℕ) (v : Verdict) → Says ((by_verdict a v).answer s) (given_by a.command (word_by a s v))
-verdict-says a s (Reads k) = record {
+verdict-says a s (Ok k) = record {
   over = a.over;
   reply = reply_of a.command a.card a.data' s;
   tells = refl;
   word = given_word a.command (reply_of a.command a.card a.data' s).status;
 }
-verdict-says a s (Fails w) = record { over = a.over; reply = fails a.lost w; tells = refl; word = given_word a.command w }
+verdict-says a s (Err w) = record { over = a.over; reply = fails a.lost w; tells = refl; word = given_word a.command w }
 
 finish-says : (y : Step Arrived) → Stops y → (s : List ℕ) → Says ((finish y).answer s) (given_past s y)
 unfolding step6

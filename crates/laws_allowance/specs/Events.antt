@@ -1,12 +1,11 @@
 -- What a call did: the comparison that it made, the command that it gave 9000 for, and whether it left the channel in stage 2. All of it is read
 -- off the call and the card that it was given, by the rulebook's arrival, verdict and reply.
-use Rattle.std.specs.Prelude.{ℕ, Bool, cond, List, [], ◌∷◌, eqb, length}
+use Rattle.std.specs.Prelude.{ℕ, Bool, cond, List, [], ◌∷◌, eqb, length, Err, Ok}
 use Rattle.std.proofs.Math.Option.{Option, none, some}
 use Rattle.refusals.specs.Refusals.{no_refusal}
 use Rattle.card.specs.declared.Card.{Card}
 use Rattle.rules.specs.declared.Command.{Command}
-use Rattle.rules.specs.declared.Verdict.{Verdict}
-use Rattle.rules.specs.declared.Verdict.TheVariants.{Reads, Fails}
+use Rattle.rules.specs.Results.{Verdict}
 use Rattle.rules.specs.Words.{success, verdict}
 use Rattle.rules.specs.Steps.{Step, goes, stops, Arrived, arrival, checks_of, supply_of, reply_of}
 use Rattle.rules.specs.Engine.{answer_out}
@@ -18,8 +17,8 @@ abbrev pub given_by : Command → ℕ → Option Command
 given_by k status = cond (eqb status success) (some k) none
 
 abbrev pub word_by : Arrived → List ℕ → Verdict → ℕ
-word_by a s (Reads k) = (reply_of a.command a.card a.data' s).status
-word_by a s (Fails w) = w
+word_by a s (Ok k) = (reply_of a.command a.card a.data' s).status
+word_by a s (Err w) = w
 
 abbrev pub given_at6 : List ℕ → Arrived → Option Command
 given_at6 s a = given_by a.command (word_by a s (verdict (supply_of a.command) (checks_of a.command a.card a.data')))

@@ -1,6 +1,7 @@
 -- Steps 1 to 5 by cases: where they stop and with what, and what they have established where a command comes to its own checks; and that a sealed
 -- command which each of them passes comes there.
 -- Assumes nothing.
+use Rattle.std.specs.Prelude.{Err, Ok}
 use mathlib.Core.Path.{◌≡◌, refl, sym, ap, ◌∙◌, subst}
 use mathlib.Core.Bool.{Bool, true, false, ◌&&◌, not, false≢true}
 use mathlib.Core.List.{List, [], ◌∷◌, ◌++◌}
@@ -18,8 +19,8 @@ use Rattle.card.specs.State.{closed}
 use Rattle.card.proofs.Tests.{both}
 use Rattle.rules.specs.declared.Instruction.{Instruction}
 use Rattle.rules.specs.declared.Instruction.TheVariants as ins
-use Rattle.rules.specs.declared.Named.{Named}
-use Rattle.rules.specs.declared.Named.TheVariants as named
+use Rattle.rules.specs.Results.{Named}
+use Rattle.rules.specs.declared.Unnamed.TheVariants as unnamed
 use Rattle.rules.specs.declared.Command.{Command}
 use Rattle.rules.specs.Words.{wrong_length, security_not_met, conditions_not_met, wrong_parameters, unknown_instruction, unknown_class, fails}
 use Rattle.rules.specs.Rows.{row_of, class80, offered, is_plain}
@@ -33,7 +34,7 @@ pub record At (cmd : List ℕ) (c : Card) : Type 0 where
   pub instruction : Instruction
   pub opened : Opened
   pub form : data_of cmd ≡ some field
-  pub name : name_of (is_initialised c) (cla_of cmd) (ins_of cmd) ≡ named.Known instruction
+  pub name : name_of (is_initialised c) (cla_of cmd) (ins_of cmd) ≡ Ok instruction
   pub opens : step4 instruction cmd c field ≡ goes opened
 
 -- ---- step 5 by cases
@@ -114,9 +115,9 @@ module _ (P : Step Arrived → Type 0) (cmd : List ℕ) (c : Card) where
       by : (o : Option (List ℕ)) (n : Named) → data_of cmd ≡ o → name_of (is_initialised c) (cla_of cmd) (ins_of cmd) ≡ n
           → P (then (by_form c o) (λ field. then (by_name c n) (λ i. then (step4 i cmd c field) (λ y. step5 i cmd y))))
       by none n e f = stop wrong_length
-      by (some field) named.WrongClass e f = stop unknown_class
-      by (some field) named.Unknown e f = stop unknown_instruction
-      by (some field) (named.Known i) e f = by-step4 P i cmd c field (λ y. step5 i cmd y) stop lost
+      by (some field) (Err unnamed.WrongClass) e f = stop unknown_class
+      by (some field) (Err unnamed.Unknown) e f = stop unknown_instruction
+      by (some field) (Ok i) e f = by-step4 P i cmd c field (λ y. step5 i cmd y) stop lost
           (λ o h. go (record { field = field; instruction = i; opened = o; form = e; name = f; opens = h }))
 
 -- ---- a command that begins with 80 and this byte has it as its instruction byte
@@ -129,14 +130,14 @@ begins-byte n (x ∷ y ∷ more) e =
 
 -- ---- what a name says: the card offers the instruction, and the byte is its own
 abbrev pub Says : Bool → ℕ → Named → Type 0
-Says t b (named.Known i) = (offered (row_of i).offer t ≡ true) × (b ≡ (row_of i).byte)
-Says t b named.WrongClass = Unit {0}
-Says t b named.Unknown = Unit {0}
+Says t b (Ok i) = (offered (row_of i).offer t ≡ true) × (b ≡ (row_of i).byte)
+Says t b (Err unnamed.WrongClass) = Unit {0}
+Says t b (Err unnamed.Unknown) = Unit {0}
 
 abbrev Bears : ℕ → Named → Type 0
-Bears b (named.Known i) = b ≡ (row_of i).byte
-Bears b named.WrongClass = Unit {0}
-Bears b named.Unknown = Unit {0}
+Bears b (Ok i) = b ≡ (row_of i).byte
+Bears b (Err unnamed.WrongClass) = Unit {0}
+Bears b (Err unnamed.Unknown) = Unit {0}
 
 with-byte : (b : ℕ) (l : List Instruction) → Bears b (with_byte b l)
 with-byte b [] = tt
@@ -150,9 +151,9 @@ by-class cla b = by-test (Bears b) (eqb cla 0x80)
     (λ t. eqb-true b (row_of ins.Select).byte (both (eqb cla 0) (eqb b (row_of ins.Select).byte) t).1) (λ t. tt))
 
 on-card : (t : Bool) (b : ℕ) (n : Named) → Bears b n → Says t b (on_card t n)
-on-card t b (named.Known i) h = by-test (Says t b) (offered (row_of i).offer t) (λ e. (e, h)) (λ e. tt)
-on-card t b named.WrongClass h = tt
-on-card t b named.Unknown h = tt
+on-card t b (Ok i) h = by-test (Says t b) (offered (row_of i).offer t) (λ e. (e, h)) (λ e. tt)
+on-card t b (Err unnamed.WrongClass) h = tt
+on-card t b (Err unnamed.Unknown) h = tt
 
 pub name-says : (t : Bool) (cla b : ℕ) → Says t b (name_of t cla b)
 unfolding name_of
@@ -176,7 +177,7 @@ module _ (cmd : List ℕ) (c : Card) (x : At cmd (step1 cmd c)) where
   abbrev behind : Card
   behind = step1 cmd c
 
-  said : Says (is_initialised behind) (ins_of cmd) (named.Known x.instruction)
+  said : Says (is_initialised behind) (ins_of cmd) (Ok x.instruction)
   said = subst (Says (is_initialised behind) (ins_of cmd)) x.name (name-says (is_initialised behind) (cla_of cmd) (ins_of cmd))
 
   not-begun : (n : ℕ) → ((row_of x.instruction).byte ≡ n → ⊥) → (b : Bool) → begins n cmd ≡ b → b ≡ false
@@ -220,7 +221,7 @@ data-filled (a ∷ b ∷ c ∷ d ∷ x ∷ more) l n f e p = absurd (omega arith
 
 -- ---- a sealed command that opens to d, in a stage that it goes in, where step 1 leaves the card x
 pub sealed-arrives : (c x : Card) (cmd field d : List ℕ) (i : Instruction) (k : Command) → step1 cmd c ≡ x → data_of cmd ≡ some field
-    → name_of (is_initialised x) (cla_of cmd) (ins_of cmd) ≡ named.Known i → is_plain i ≡ false → in_stage i x.channel.stage ≡ true
+    → name_of (is_initialised x) (cla_of cmd) (ins_of cmd) ≡ Ok i → is_plain i ≡ false → in_stage i x.channel.stage ≡ true
     → opened_by x cmd field ≡ some d → (row_of i).lists (p1_of cmd) (p2_of cmd) ≡ some k
     → arrival c cmd ≡ goes (arrived_at i cmd (record { card = with_mac x (take 16 field); data' = d }) k)
 unfolding arrival past_step1 step4 step5

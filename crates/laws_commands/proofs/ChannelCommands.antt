@@ -20,8 +20,7 @@ use Rattle.card.specs.Shape.{Shaped}
 use Rattle.card.proofs.Tests.{both}
 use Rattle.card.proofs.Rules.{After, PartsRules, parts-rules, parts-sound, blank-rules, pins-sound, sound-after}
 use Rattle.card.proofs.TapFacts.{tap-blank-sound}
-use Rattle.card_slots.specs.declared.Free.{Free}
-use Rattle.card_slots.specs.declared.Free.TheVariants as free
+use Rattle.std.specs.Prelude.{Option as Found, Some, None}
 use Rattle.card_slots.specs.Free.{first_free}
 use Rattle.template_answers.specs.Answers.{application_fields}
 use Rattle.template_answers.proofs.AnswerFacts.{application-length, application-bytes-le}
@@ -249,9 +248,9 @@ module _ (g c : Card) (f : Fit g c) (i : is_initialised c ≡ true) where
             (length-sha256 (c.pairing.secret ++ pair_challenge s));
       }
 
-  pair-into-fit : (s : List ℕ) → (o : Free) → Fits (pair_into c s o)
+  pair-into-fit : (s : List ℕ) → (o : Found ℕ) → Fits (pair_into c s o)
   unfolding pair_into
-  pair-into-fit s (free.At k) =
+  pair-into-fit s (Some k) =
       let key = with_secret c.pairing (pair_salt s) in
       let p = with_slot (not_pending c.pairing) k (filled_with key) in
       record {
@@ -260,7 +259,7 @@ module _ (g c : Card) (f : Fit g c) (i : is_initialised c ≡ true) where
             pairing-shaped c (f.shaped w) p (f.shaped w).secret (rw length-set (f.shaped w).slots)
             (keys-set c.pairing.slots k (filled_with key) (f.shaped w).keys (length-sha256 (c.pairing.secret ++ pair_salt s))) refl;
       }
-  pair-into-fit s free.Full = forgotten-fit g c f
+  pair-into-fit s None = forgotten-fit g c f
 
   unpair-fit : (k : ℕ) → Fits (unpair_reply c k)
   unfolding unpair_reply
@@ -333,20 +332,20 @@ pair-first-lawful = record {
   fresh = λ e. absurd (false≢true e);
 }
 
-into-short : (c : Card) (s : List ℕ) (o : Free) → Short (pair_into c s o)
+into-short : (c : Card) (s : List ℕ) (o : Found ℕ) → Short (pair_into c s o)
 unfolding pair_into
-into-short c s (free.At i) = omega (arith, part-most 0 32 s)
-into-short c s free.Full = nothing
+into-short c s (Some i) = omega (arith, part-most 0 32 s)
+into-short c s None = nothing
 
-into-blind : (p q : List ℕ) (c : Card) (s : List ℕ) (o : Free) → erase_reply (pair_into c s o) ≡ erase_reply (pair_into (with_secrets p q c) s o)
+into-blind : (p q : List ℕ) (c : Card) (s : List ℕ) (o : Found ℕ) → erase_reply (pair_into c s o) ≡ erase_reply (pair_into (with_secrets p q c) s o)
 unfolding pair_into
-into-blind p q c s (free.At i) = refl
-into-blind p q c s free.Full = refl
+into-blind p q c s (Some i) = refl
+into-blind p q c s None = refl
 
-into-verifies : (right : Bool) (c : Card) (s : List ℕ) (o : Free) → Verifies none right c (pair_into c s o)
+into-verifies : (right : Bool) (c : Card) (s : List ℕ) (o : Found ℕ) → Verifies none right c (pair_into c s o)
 unfolding pair_into
-into-verifies right c s (free.At i) t = (open-two c.channel.stage t, refl)
-into-verifies right c s free.Full t = (open-two c.channel.stage t, refl)
+into-verifies right c s (Some i) t = (open-two c.channel.stage t, refl)
+into-verifies right c s None t = (open-two c.channel.stage t, refl)
 
 pub pair-final-lawful : Lawful ins.Pair command.PairFinal
 unfolding rule_of pair_final_reply pair_final_checks

@@ -1,5 +1,6 @@
 -- What follows where a command's checks hold and its supply has the form: each check, and the lengths of the supply's parts.
 -- Assumes nothing.
+use Rattle.std.specs.Prelude.{Err, Ok}
 use mathlib.Core.Path.{◌≡◌, refl, sym}
 use mathlib.Core.Bool.{Bool, true, false, ◌&&◌, ◌||◌, false≢true}
 use mathlib.Core.List.{List, [], ◌∷◌}
@@ -12,26 +13,25 @@ use borrow.Author.Tests.{eqb-true}
 use Rattle.template_rules.proofs.HeadFacts.{by-test}
 use Rattle.card.proofs.Tests.{both}
 use Rattle.rules.specs.declared.Supply.{Supply}
-use Rattle.rules.specs.declared.Verdict.{Verdict}
-use Rattle.rules.specs.declared.Verdict.TheVariants.{Reads, Fails}
+use Rattle.rules.specs.Results.{Verdict}
 use Rattle.rules.specs.Words.{Check, verdict, Hold}
 use Rattle.rules.specs.Supplies.{suits, part}
 use Rattle.laws_commands.specs.Lawful.{Below}
 
 -- ---- a verdict by cases: each check holds and the supply is read, or a status word of one of them
 module _ (P : Verdict → Type 0) (s : Supply) where
-  pub by-verdict : (l : List Check) → (Hold l → P (Reads s)) → ((w : ℕ) → P (Fails w)) → P (verdict s l)
+  pub by-verdict : (l : List Check) → (Hold l → P (Ok s)) → ((w : ℕ) → P (Err w)) → P (verdict s l)
   by-verdict [] h f = h tt
   by-verdict (k ∷ more) h f = by-test P k.holds (λ e. by-verdict more (λ t. h (e, t)) f) (λ e. f k.otherwise)
 
   -- the same, where every status word is below a number
-  pub by-verdict-below : (n : ℕ) (l : List Check) → Below n l → (Hold l → P (Reads s)) → ((w : ℕ) → w < n → P (Fails w)) → P (verdict s l)
+  pub by-verdict-below : (n : ℕ) (l : List Check) → Below n l → (Hold l → P (Ok s)) → ((w : ℕ) → w < n → P (Err w)) → P (verdict s l)
   by-verdict-below n [] b h f = h tt
   by-verdict-below n (k ∷ more) b h f =
       by-test P k.holds (λ e. by-verdict-below n more b.1 (λ t. h (e, t)) f) (λ e. f k.otherwise b.0)
 
 -- where each check holds, the supply is read
-pub held : (s : Supply) (l : List Check) → Hold l → verdict s l ≡ Reads s
+pub held : (s : Supply) (l : List Check) → Hold l → verdict s l ≡ Ok s
 held s [] h = refl
 held s (k ∷ more) h = rw h.0 (held s more h.1)
 

@@ -8,12 +8,12 @@ use Rattle.card.specs.declared.Card.{Card}
 use Rattle.card.specs.Slots.{some_of, is_zero, is_free}
 use Rattle.card.specs.Sound.{is_sound}
 use Rattle.card.proofs.Rules.{pairing-rules, parts-rules, blank-rules, sound-cases}
-use Rattle.card_slots.specs.declared.Free.TheVariants as free
+use Rattle.std.specs.Prelude.{None}
 use Rattle.card_slots.specs.Free.{first_free}
 use Rattle.card_slots.proofs.FreeFacts.{found, some-found}
 use Rattle.laws_commands.proofs.Changed.{blank-pending}
 
-pub pending-slot : (c : Card) → is_sound c ≡ true → (c.pairing.pending ≡ 0 → ⊥) → first_free c.pairing.slots ≡ free.Full → ⊥
+pub pending-slot : (c : Card) → is_sound c ≡ true → (c.pairing.pending ≡ 0 → ⊥) → first_free c.pairing.slots ≡ None → ⊥
 pending-slot c e n f = ⊎_elim
     (λ b. n (blank-pending c.pairing (blank-rules c b.blank).pairing))
     (λ a.

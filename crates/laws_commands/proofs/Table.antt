@@ -1,5 +1,6 @@
 -- Every instruction is lawful, and so is every command that one lists; and which commands compare. One line an instruction, one a command.
 -- Assumes nothing.
+use Rattle.std.specs.Prelude.{Ok}
 use mathlib.Core.Path.{◌≡◌, refl, sym, ◌∙◌, subst}
 use mathlib.Core.Bool.{true, false, false≢true}
 use mathlib.Core.List.{List, [], ◌∷◌}
@@ -11,7 +12,6 @@ use Rattle.card.specs.State.{slot_count}
 use Rattle.card.specs.Slots.{is_zero}
 use Rattle.rules.specs.declared.Instruction.{Instruction}
 use Rattle.rules.specs.declared.Instruction.TheVariants as ins
-use Rattle.rules.specs.declared.Named.TheVariants as named
 use Rattle.rules.specs.declared.Loss.TheVariants as loss
 use Rattle.rules.specs.declared.StatusKind.TheVariants as status
 use Rattle.rules.specs.declared.SecretKind.TheVariants as secret
@@ -62,7 +62,7 @@ plain_row i p t l = record {
 }
 
 -- ---- a row of an instruction over the channel that gives nothing up
-sealed-row : (i : Instruction) → name_of true 0x80 (row_of i).byte ≡ named.Known i → (row_of i).loss ≡ loss.Nothing → in_stage i 2 ≡ true
+sealed-row : (i : Instruction) → name_of true 0x80 (row_of i).byte ≡ Ok i → (row_of i).loss ≡ loss.Nothing → in_stage i 2 ≡ true
     → ((p1 p2 : ℕ) → Each (Lawful i) ((row_of i).lists p1 p2)) → LawfulRow i
 sealed-row i n e t l = record { known = λ _. n; begins = λ _ c. rw e; fails = λ _ p1 c h. rw e; stage = t; lists = l }
 

@@ -1,7 +1,7 @@
 -- What the theorems about the engine need of a command's rule, and of an instruction's row: nothing else about a single command is used above.
 -- Each command's proof of it is in proofs/ChannelCommands, PinCommands or KeyCommands, and proofs/Table has one line an instruction.
 -- Every length is in bytes.
-use Rattle.std.specs.Prelude.{◌≡◌, Bool, true, false, List, [], ◌∷◌, ℕ, ◌≤◌, ◌<◌, length}
+use Rattle.std.specs.Prelude.{◌≡◌, Bool, true, false, List, [], ◌∷◌, ℕ, ◌≤◌, ◌<◌, length, Ok}
 use Rattle.std.proofs.Math.Option.{Option, none, some}
 use Rattle.octets.specs.Bytes.{Bytes}
 use Rattle.card.specs.declared.Pins.{Pins}
@@ -10,7 +10,6 @@ use Rattle.card.specs.State.{with_secrets}
 use Rattle.card.specs.Sound.{is_sound}
 use Rattle.card.specs.Shape.{Shaped}
 use Rattle.rules.specs.declared.Instruction.{Instruction}
-use Rattle.rules.specs.declared.Named.TheVariants as named
 use Rattle.rules.specs.declared.Command.{Command}
 use Rattle.rules.specs.Words.{Check, Hold, Reply}
 use Rattle.rules.specs.Supplies.{suits, flag_of}
@@ -113,7 +112,7 @@ Each P none = Unit {0}
 Each P (some k) = P k
 
 pub record LawfulRow (i : Instruction) : Type 0 where
-  pub known : is_plain i ≡ false → name_of true 0x80 (row_of i).byte ≡ named.Known i
+  pub known : is_plain i ≡ false → name_of true 0x80 (row_of i).byte ≡ Ok i
   pub begins : is_plain i ≡ false → (c : Card) → begun (row_of i).loss c ≡ c
   pub fails : is_plain i ≡ false → (p1 : ℕ) (c : Card) → c.channel.stage ≡ 2 → failed (row_of i).loss p1 c ≡ c
   pub stage : in_stage i 2 ≡ true

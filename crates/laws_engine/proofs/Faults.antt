@@ -9,18 +9,17 @@ use Prim.Native.Nat.{ℕ}
 use native.Mathlib.Omega.{arith}
 use lib.Dec.{eqb}
 use Rattle.template_rules.proofs.HeadFacts.{by-test}
-use Rattle.template_walk.specs.declared.Walked.{Walked}
-use Rattle.template_walk.specs.declared.Walked.TheVariants.{Fields, Refused}
+use Rattle.std.specs.Prelude.{Ok, Err}
 use Rattle.template_walk.specs.declared.Fault.{Fault}
 use Rattle.template_walk.specs.declared.Fault.TheVariants.{Malformed, TooDeep}
-use Rattle.template_walk.specs.Walk.{walk_of, refusal_number, report, WALK}
+use Rattle.template_walk.specs.Walk.{Walked, walk_of, refusal_number, report, WALK}
 use Rattle.template_keypair.specs.Keypair.{keypair}
 use Rattle.template_keypair.proofs.Walks.{keypair-walks}
 use Rattle.card.specs.declared.Card.{Card}
 use Rattle.rules.specs.declared.KeyForm.{KeyForm}
 use Rattle.rules.specs.declared.KeyForm.TheVariants as key
 use Rattle.rules.specs.declared.Command.TheVariants as command
-use Rattle.rules.specs.declared.Verdict.{Verdict}
+use Rattle.rules.specs.Results.{Verdict}
 use Rattle.rules.specs.Words.{wrong_data, fails}
 use Rattle.rules.specs.Rules.{no_fault}
 use Rattle.rules.specs.Commands.{is_verified, load_checks, place_in, load_place, rule_of}
@@ -32,7 +31,7 @@ use Rattle.laws_commands.proofs.Arrival.{by-step5, by-past_step1}
 use Rattle.laws_engine.specs.Faults.{LoadFault, offset_of}
 
 -- ---- a template that WALK refuses
-fields-accepted : (w : Walked) (n : ℕ) → w ≡ Fields n → (report w).refusal ≡ 0
+fields-accepted : (w : Walked) (n : ℕ) → w ≡ Ok n → (report w).refusal ≡ 0
 fields-accepted w n e = ap (λ (x : Walked). (report x).refusal) e
 
 pub not-keypair : (chain : Bool) (d : List ℕ) → ((WALK d).refusal ≡ 0 → ⊥) → keypair chain d ≡ false
@@ -53,8 +52,8 @@ pub extended-not-seed : key.Extended ≡ key.Seed → ⊥
 extended-not-seed e = let z : ◌≡◌ {A = ℕ} 0 1 = cc in omega arith
 
 pub place-told : (w : Walked) → ((report w).refusal ≡ 0 → ⊥) → place_in w ≡ (report w).offset
-place-told (Fields m) n = absurd (n refl)
-place-told (Refused f at) n = refl
+place-told (Ok m) n = absurd (n refl)
+place-told (Err r) n = refl
 
 -- ---- LOAD at its checks: 6A80, and the offset of the first fault
 module _ (a : Arrived) (verified : is_verified a.card.pins ≡ true) (refused : (WALK a.data').refusal ≡ 0 → ⊥) where
@@ -95,15 +94,15 @@ module _ (c : Card) (cmd : List ℕ) where
       where
         go : (b : Bool) → is_verified a.card.pins ≡ b → (w : Walked) → walk_of a.data' ≡ w → Told (step6 a).fault_offset
         go false v w e = inl (not-verified v)
-        go true v (Fields m) e = inl (no_place a (placed (place (Fields m) e)))
-        go true v (Refused f at) e = inr (record {
+        go true v (Ok m) e = inl (no_place a (placed (place (Ok m) e)))
+        go true v (Err r) e = inr (record {
           arrived = a;
           form = form;
           there = there;
           asks = asks;
           template = n;
           verified = v;
-          refused = λ z. number-not-0 f (sym (ap (λ (x : Walked). (report x).refusal) e) ∙ z);
+          refused = λ z. number-not-0 r.fault (sym (ap (λ (x : Walked). (report x).refusal) e) ∙ z);
         })
 
     load_told : Told (step6 a).fault_offset

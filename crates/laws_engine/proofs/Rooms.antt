@@ -19,7 +19,7 @@ use Rattle.card.specs.Sound.{is_sound}
 use Rattle.card.specs.Shape.{Shaped}
 use Rattle.rules.specs.declared.Instruction.{Instruction}
 use Rattle.rules.specs.declared.Command.{Command}
-use Rattle.rules.specs.declared.Verdict.{Verdict}
+use Rattle.rules.specs.Results.{Verdict}
 use Rattle.rules.specs.Words.{wrong_parameters, word, Reply, fails}
 use Rattle.rules.specs.Supplies.{suits}
 use Rattle.rules.specs.Rows.{row_of, is_plain}

@@ -12,8 +12,7 @@ use Rattle.refusals.specs.Refusals.{answer_room}
 use Rattle.card.specs.declared.Card.{Card}
 use Rattle.card.specs.State.{tap_of, closed}
 use Rattle.card.specs.Sound.{is_sound, is_ndef}
-use Rattle.card_slots.specs.declared.Free.{Free}
-use Rattle.card_slots.specs.declared.Free.TheVariants as free
+use Rattle.std.specs.Prelude.{Option as Found, Some, None}
 use Rattle.card_slots.specs.Free.{first_free}
 use Rattle.rules.specs.declared.StatusKind.{StatusKind}
 use Rattle.rules.specs.declared.StatusKind.TheVariants as status
@@ -21,7 +20,7 @@ use Rattle.rules.specs.declared.SecretKind.{SecretKind}
 use Rattle.rules.specs.declared.SecretKind.TheVariants as secret
 use Rattle.rules.specs.declared.Command.{Command}
 use Rattle.rules.specs.declared.Command.TheVariants as command
-use Rattle.rules.specs.declared.Verdict.{Verdict}
+use Rattle.rules.specs.Results.{Verdict}
 use Rattle.rules.specs.Words.{wrong_parameters, Hold, Reply, fails}
 use Rattle.rules.specs.Supplies.{suits, says_yes, init_key}
 use Rattle.rules.specs.Rules.{pin, puk, right_by}
@@ -45,10 +44,10 @@ module _ (c : Card) (d s : List ℕ) where
   init-with none = refl
   init-with (some x) = by-test Keeps (is_content x) (λ _. refl) (λ _. refl)
 
-  pair-into : (f : Free) → Keeps (pair_into c s f)
+  pair-into : (f : Found ℕ) → Keeps (pair_into c s f)
   unfolding pair_into
-  pair-into (free.At i) = refl
-  pair-into free.Full = refl
+  pair-into (Some i) = refl
+  pair-into None = refl
 
   status-keeps : (which : StatusKind) → Keeps (status_reply c which)
   unfolding status_reply

@@ -1,6 +1,7 @@
 -- A command over the channel that comes to its own checks: in stage 2 it loses nothing on the way, and ANSWER seals its outcome; so does it
 -- with MUTUAL's success in stage 1.
 -- Assumes nothing.
+use Rattle.std.specs.Prelude.{Err}
 use mathlib.Core.Path.{◌≡◌, sym, ap, ◌∙◌, subst}
 use mathlib.Core.Bool.{Bool, true, false, ◌&&◌, not, cond, false≢true}
 use mathlib.Core.List.{List}
@@ -16,8 +17,7 @@ use Rattle.card.specs.State.{with_channel, closed}
 use Rattle.card.specs.Sound.{is_sound}
 use Rattle.rules.specs.declared.Instruction.{Instruction}
 use Rattle.rules.specs.declared.Command.{Command}
-use Rattle.rules.specs.declared.Verdict.{Verdict}
-use Rattle.rules.specs.declared.Verdict.TheVariants.{Fails}
+use Rattle.rules.specs.Results.{Verdict}
 use Rattle.rules.specs.Words.{Hold, Reply, fails}
 use Rattle.rules.specs.Supplies.{suits}
 use Rattle.rules.specs.Rows.{row_of, is_plain}
@@ -141,5 +141,5 @@ module _ (c : Card) (cmd s : List ℕ) (room : ℕ) (sound : is_sound c ≡ true
         ≡ answered_at (fault_by at6.command at6.data' v) (tell at6.over (outcome_by at6.command at6.card at6.data' s v)))
         (supply_of at6.command)
         (checks_of at6.command at6.card at6.data') (λ h. rw (right h))
-        (λ w. ap (λ (y : Card). answered_at (fault_by at6.command at6.data' (Fails w)) (tell at6.over (fails y w))) (arrived-in2 c cmd in2 x).lost)
+        (λ w. ap (λ (y : Card). answered_at (fault_by at6.command at6.data' (Err w)) (tell at6.over (fails y w))) (arrived-in2 c cmd in2 x).lost)
         ∙ ap (answered_at (fault_of at6.command at6.card at6.data')) (sealed-in-2 at6.over result x.over (ap (λ (k : Channel). k.stage) result-channel ∙ in2))

@@ -1,5 +1,6 @@
 -- SEAL, ANSWER and UNSEAL in turn, from the laws of each.
 -- Assumes nothing.
+use Rattle.std.specs.Prelude.{Ok}
 use mathlib.Core.Path.{◌≡◌, refl, sym, ap, ap₂, ◌∙◌, subst}
 use mathlib.Core.Bool.{Bool, true, false, ◌&&◌, not}
 use mathlib.Core.List.{List, [], ◌∷◌, ◌++◌}
@@ -23,7 +24,6 @@ use Rattle.card.specs.Sound.{is_sound}
 use Rattle.card.specs.Shape.{Shaped}
 use Rattle.rules.specs.declared.Instruction.{Instruction}
 use Rattle.rules.specs.declared.Instruction.TheVariants as ins
-use Rattle.rules.specs.declared.Named.TheVariants as named
 use Rattle.rules.specs.declared.Command.{Command}
 use Rattle.rules.specs.declared.Command.TheVariants as command
 use Rattle.rules.specs.Words.{wrong_parameters, success, word, Hold, Reply, fails}
@@ -128,7 +128,7 @@ module _ (c : Card) (t : Turn) (w : Typed c) (sound : is_sound c ≡ true) (open
 
   -- its header names an instruction over the channel
   module _ (n : Names c t.header) where
-    name' : name_of (is_initialised c) (cla_of command') (ins_of command') ≡ named.Known n.instruction
+    name' : name_of (is_initialised c) (cla_of command') (ins_of command') ≡ Ok n.instruction
     name' = named' ∙ n.name
 
     listed' : (row_of n.instruction).lists (p1_of command') (p2_of command') ≡ listed c t.header n
@@ -264,7 +264,7 @@ module _ (c : Card) (t : Turn) (sound : is_sound c ≡ true) (w : Typed c) (in1 
   sealed1 : is_plain ins.Mutual ≡ false
   sealed1 = refl
 
-  name1 : name_of (is_initialised c) (cla_of t.header) (ins_of t.header) ≡ named.Known ins.Mutual
+  name1 : name_of (is_initialised c) (cla_of t.header) (ins_of t.header) ≡ Ok ins.Mutual
   name1 = ap (λ (h : List ℕ). name_of (is_initialised c) (cla_of h) (ins_of h)) header
       ∙ ap (λ (m : ℕ). name_of (not (is_zero m)) 0x80 0x11) (is-after c sound open1).flag ∙ (row_lawful ins.Mutual).known sealed1
 
@@ -348,7 +348,7 @@ module _ (c : Card) (t : Turn) (sound : is_sound c ≡ true) (w : Typed c) (in1 
 
 -- ---- headers: in stage 2 an instruction over the channel, with any P1 and P2
 module _ (c : Card) (i : Instruction) (p1 p2 : ℕ) (sound : is_sound c ≡ true) (in2 : c.channel.stage ≡ 2) (e : is_plain i ≡ false) where
-  pub known : name_of (is_initialised c) 0x80 (row_of i).byte ≡ named.Known i
+  pub known : name_of (is_initialised c) 0x80 (row_of i).byte ≡ Ok i
   known = ap (λ (m : ℕ). name_of (not (is_zero m)) 0x80 (row_of i).byte) (is-after c sound (λ z. omega (arith, in2))).flag ∙ (row_lawful i
       ).known e
 

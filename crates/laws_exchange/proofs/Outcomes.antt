@@ -19,7 +19,7 @@ use Rattle.card.proofs.Tests.{both}
 use Rattle.card.proofs.Rules.{pins-rules, parts-rules, blank-rules, sound-cases}
 use Rattle.rules.specs.declared.Instruction.{Instruction}
 use Rattle.rules.specs.declared.Command.{Command}
-use Rattle.rules.specs.declared.Verdict.{Verdict}
+use Rattle.rules.specs.Results.{Verdict}
 use Rattle.rules.specs.Words.{word, Reply}
 use Rattle.rules.specs.Rows.{is_plain}
 use Rattle.rules.specs.Channel.{plain_text}

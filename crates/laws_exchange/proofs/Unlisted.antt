@@ -1,6 +1,7 @@
 -- A sealed command whose P1 and P2 name no command: step 5 stops with 6A86 after the opening, and in stage 2 ANSWER seals it and the card is the
 -- one of the opening.
 -- Assumes nothing.
+use Rattle.std.specs.Prelude.{Ok}
 use mathlib.Core.Path.{◌≡◌, refl, ap, ◌∙◌}
 use mathlib.Core.Bool.{true, false}
 use mathlib.Core.List.{List}
@@ -11,7 +12,6 @@ use lib.ListN.{take}
 use Rattle.card.specs.declared.Card.{Card}
 use Rattle.card.specs.Sound.{is_sound}
 use Rattle.rules.specs.declared.Instruction.{Instruction}
-use Rattle.rules.specs.declared.Named.TheVariants as named
 use Rattle.rules.specs.Words.{wrong_parameters, fails}
 use Rattle.rules.specs.Supplies.{suits}
 use Rattle.rules.specs.Rows.{row_of, is_plain}
@@ -24,7 +24,7 @@ use Rattle.laws_exchange.proofs.Answers.{sealed-in-2}
 
 -- ---- steps 1 to 5, where step 1 leaves the card x and the field opens to d
 module _ (c x : Card) (cmd field d : List ℕ) (i : Instruction) (same : step1 cmd c ≡ x) (form : data_of cmd ≡ some field)
-    (name : name_of (is_initialised x) (cla_of cmd) (ins_of cmd) ≡ named.Known i) (over : is_plain i ≡ false)
+    (name : name_of (is_initialised x) (cla_of cmd) (ins_of cmd) ≡ Ok i) (over : is_plain i ≡ false)
     (staged : in_stage i x.channel.stage ≡ true) (opens : opened_by x cmd field ≡ some d)
     (unlisted : (row_of i).lists (p1_of cmd) (p2_of cmd) ≡ none) where
   abbrev here : Card

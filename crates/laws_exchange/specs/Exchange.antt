@@ -1,6 +1,6 @@
 -- Terminal and card together (RULES 11.2): SEAL makes a command, ANSWER answers it, UNSEAL opens the
 -- answer, the terminal starting with the card's own session. What each gives is their own definition. Every length and room is in bytes.
-use Rattle.std.specs.Prelude.{ℕ, ◌≤◌, ◌≡◌, true, false, List, [], ◌∷◌, ◌++◌, ◌↔◌, length, take, drop}
+use Rattle.std.specs.Prelude.{ℕ, ◌≤◌, ◌≡◌, true, false, List, [], ◌∷◌, ◌++◌, ◌↔◌, length, take, drop, Ok}
 use Rattle.std.proofs.Math.Option.{Option, none, some}
 use Rattle.octets.specs.Bytes.{Bytes}
 use Rattle.channel_rules.specs.declared.Session.{Session}
@@ -10,7 +10,6 @@ use Rattle.card.specs.declared.Card.{Card}
 use Rattle.card.specs.Sound.{is_sound}
 use Rattle.card.specs.Shape.{Shaped}
 use Rattle.rules.specs.declared.Instruction.{Instruction}
-use Rattle.rules.specs.declared.Named.TheVariants as named
 use Rattle.rules.specs.declared.Command.{Command}
 use Rattle.rules.specs.declared.Command.TheVariants as command
 use Rattle.rules.specs.Words.{success, word, Hold, Reply}
@@ -64,7 +63,7 @@ pub record SealOpens (s : Session) (t : Turn) (sent : Out) : Type 0 where
 -- ---- the header names an instruction over the channel on this card, in a stage that it goes in; P1 and P2 are any
 pub record Names (c : Card) (header : List ℕ) : Type 0 where
   pub instruction : Instruction
-  pub name : name_of (is_initialised c) (cla_of header) (ins_of header) ≡ named.Known instruction
+  pub name : name_of (is_initialised c) (cla_of header) (ins_of header) ≡ Ok instruction
   pub sealed : is_plain instruction ≡ false
   pub stage : in_stage instruction c.channel.stage ≡ true
 

@@ -1,14 +1,12 @@
 -- A command over the channel that opens (RULES 5.4), one that comes to its own checks, and what its definition then answers (RULES 5.6); and what
 -- the rules answer to every command that opens (RULES 5.5, 5.6).
 -- Every length is in bytes.
-use Rattle.std.specs.Prelude.{ℕ, ◌≡◌, true, false, List}
+use Rattle.std.specs.Prelude.{ℕ, ◌≡◌, true, false, List, Err, Ok}
 use Rattle.std.proofs.Math.Option.{Option, none, some}
 use Rattle.card.specs.declared.Card.{Card}
 use Rattle.rules.specs.declared.Instruction.{Instruction}
-use Rattle.rules.specs.declared.Named.TheVariants as named
 use Rattle.rules.specs.declared.Command.{Command}
-use Rattle.rules.specs.declared.Verdict.{Verdict}
-use Rattle.rules.specs.declared.Verdict.TheVariants.{Reads, Fails}
+use Rattle.rules.specs.Results.{Verdict}
 use Rattle.rules.specs.Words.{wrong_parameters, verdict, Reply, fails}
 use Rattle.rules.specs.Rules.{no_fault}
 use Rattle.rules.specs.Rows.{is_plain}
@@ -21,7 +19,7 @@ pub record PastStep4 (c : Card) (cmd : List ℕ) : Type 0 where
   pub instruction : Instruction
   pub opened : Opened
   pub form : data_of cmd ≡ some field
-  pub name : name_of (is_initialised (step1 cmd c)) (cla_of cmd) (ins_of cmd) ≡ named.Known instruction
+  pub name : name_of (is_initialised (step1 cmd c)) (cla_of cmd) (ins_of cmd) ≡ Ok instruction
   pub sealed : is_plain instruction ≡ false
   pub opens : step4 instruction cmd (step1 cmd c) field ≡ goes opened
 
@@ -35,8 +33,8 @@ pub record Opens (c : Card) (cmd : List ℕ) : Type 0 where
 
 -- step 6 where an error leaves the card as it is there: the reply, or the status word of the first check that does not hold
 abbrev pub outcome_by : Command → Card → List ℕ → List ℕ → Verdict → Reply
-outcome_by k c d s (Reads x) = reply_of k c d s
-outcome_by k c d s (Fails w) = fails c w
+outcome_by k c d s (Ok x) = reply_of k c d s
+outcome_by k c d s (Err w) = fails c w
 
 abbrev pub outcome : Command → Card → List ℕ → List ℕ → Reply
 outcome k c d s = outcome_by k c d s (verdict (supply_of k) (checks_of k c d))
@@ -48,8 +46,8 @@ reply_to (some k) c d s = outcome k c d s
 
 -- and the fault offset beside it (RULES 5.9)
 abbrev pub fault_by : Command → List ℕ → Verdict → ℕ
-fault_by k d (Reads x) = no_fault
-fault_by k d (Fails w) = fault_at k d w
+fault_by k d (Ok x) = no_fault
+fault_by k d (Err w) = fault_at k d w
 
 abbrev pub fault_of : Command → Card → List ℕ → ℕ
 fault_of k c d = fault_by k d (verdict (supply_of k) (checks_of k c d))

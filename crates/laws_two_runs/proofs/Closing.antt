@@ -1,6 +1,7 @@
 -- The ways to lose the channel, for every card and command: OPEN past step 3, SELECT that succeeds, and a command over the channel that does not
 -- open. Where ANSWER is not refused, the next card is not in stage 2, and so the PIN is not verified.
 -- Assumes nothing.
+use Rattle.std.specs.Prelude.{Ok}
 use mathlib.Core.Path.{◌≡◌, refl, sym, ap, ◌∙◌, subst}
 use mathlib.Core.Bool.{Bool, true, false, ◌&&◌, not}
 use mathlib.Core.List.{List}
@@ -18,9 +19,8 @@ use Rattle.card.specs.State.{with_channel, closed}
 use Rattle.card.specs.Sound.{is_sound}
 use Rattle.rules.specs.declared.Instruction.{Instruction}
 use Rattle.rules.specs.declared.Instruction.TheVariants as ins
-use Rattle.rules.specs.declared.Named.{Named}
-use Rattle.rules.specs.declared.Named.TheVariants as named
-use Rattle.rules.specs.declared.Verdict.{Verdict}
+use Rattle.rules.specs.Results.{Named}
+use Rattle.rules.specs.Results.{Verdict}
 use Rattle.rules.specs.Words.{wrong_parameters, Reply, fails}
 use Rattle.rules.specs.Supplies.{suits}
 use Rattle.rules.specs.Rules.{outcome_of}
@@ -44,10 +44,10 @@ tell-stage over r =
     by-test (λ (t : Outgoing). t.card.channel.stage ≡ r.card.channel.stage) (over && eqb r.card.channel.stage 2) (λ _. refl) (λ _. refl)
 
 -- step 1 leaves an initialised card initialised
-step1-named : (c : Card) (cmd : List ℕ) (i : Instruction) → name_of (is_initialised c) (cla_of cmd) (ins_of cmd) ≡ named.Known i
-    → name_of (is_initialised (step1 cmd c)) (cla_of cmd) (ins_of cmd) ≡ named.Known i
+step1-named : (c : Card) (cmd : List ℕ) (i : Instruction) → name_of (is_initialised c) (cla_of cmd) (ins_of cmd) ≡ Ok i
+    → name_of (is_initialised (step1 cmd c)) (cla_of cmd) (ins_of cmd) ≡ Ok i
 step1-named c cmd i e =
-    step1-keeps (λ (x : Card). name_of (is_initialised x) (cla_of cmd) (ins_of cmd) ≡ named.Known i) (λ _ h. h) (λ _ h. h) cmd c e
+    step1-keeps (λ (x : Card). name_of (is_initialised x) (cla_of cmd) (ins_of cmd) ≡ Ok i) (λ _ h. h) (λ _ h. h) cmd c e
 
 -- ---- what the order of checks leaves
 module _ (c : Card) (cmd field : List ℕ) (sound : is_sound c ≡ true) (form : data_of cmd ≡ some field) where
@@ -55,7 +55,7 @@ module _ (c : Card) (cmd field : List ℕ) (sound : is_sound c ≡ true) (form :
   x = step1 cmd c
 
   -- OPEN: its checks and its reply get the closed card
-  module _ (name : name_of (is_initialised c) (cla_of cmd) (ins_of cmd) ≡ named.Known ins.Open) where
+  module _ (name : name_of (is_initialised c) (cla_of cmd) (ins_of cmd) ≡ Ok ins.Open) where
     abbrev o : Opened
     o = record { card = x; data' = field }
 
@@ -79,7 +79,7 @@ module _ (c : Card) (cmd field : List ℕ) (sound : is_sound c ≡ true) (form :
         (λ w t. omega (arith, tell-stage false (fails (closed x) w), t))))
 
   -- SELECT with the application's name
-  select-out : name_of (is_initialised c) (cla_of cmd) (ins_of cmd) ≡ named.Known ins.Select → p1_of cmd ≡ 0x04 → p2_of cmd ≡ 0x00
+  select-out : name_of (is_initialised c) (cla_of cmd) (ins_of cmd) ≡ Ok ins.Select → p1_of cmd ≡ 0x04 → p2_of cmd ≡ 0x00
       → field ≡ application_id → (s : List ℕ) → ((decide c cmd).answer s).card.channel.stage ≡ 2 → ⊥
   unfolding decide arrival past_step1 step4 step5 step6 rule_of select_checks select_reply tell
   select-out name p1 p2 id s t = omega (arith, sym t ∙ closes)
@@ -88,7 +88,7 @@ module _ (c : Card) (cmd field : List ℕ) (sound : is_sound c ≡ true) (form :
       closes = rw (form, step1-named c cmd ins.Select name, p1, p2, id)
 
   -- a command over the channel in stage 2 whose field does not open
-  unopened-out : (i : Instruction) → name_of (is_initialised c) (cla_of cmd) (ins_of cmd) ≡ named.Known i → is_plain i ≡ false → c.channel.stage ≡ 2
+  unopened-out : (i : Instruction) → name_of (is_initialised c) (cla_of cmd) (ins_of cmd) ≡ Ok i → is_plain i ≡ false → c.channel.stage ≡ 2
       → opened_by c cmd field ≡ none → (s : List ℕ) → ((decide c cmd).answer s).card.channel.stage ≡ 2 → ⊥
   unfolding decide arrival past_step1 step4
   unopened-out i name over in2 shut s t = omega (arith, sym t ∙ closes)
@@ -145,6 +145,6 @@ module _ (c : Card) (cmd s : List ℕ) (room : ℕ) where
     unfolding name_of
     select-loses cla b p1 p2 id = lost-by z (select-out c cmd field (taken-sound z) form (rw (cla, b)) p1 p2 id s)
 
-    pub unopened-loses : (i : Instruction) → name_of (is_initialised c) (cla_of cmd) (ins_of cmd) ≡ named.Known i → is_plain i ≡ false
+    pub unopened-loses : (i : Instruction) → name_of (is_initialised c) (cla_of cmd) (ins_of cmd) ≡ Ok i → is_plain i ≡ false
         → c.channel.stage ≡ 2 → opened_by c cmd field ≡ none → Lost out.card
     unopened-loses i name over in2 shut = lost-by z (unopened-out c cmd field (taken-sound z) form i name over in2 shut s)

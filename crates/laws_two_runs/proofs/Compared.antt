@@ -16,7 +16,7 @@ use Rattle.card.specs.declared.Card.{Card}
 use Rattle.card.specs.Sound.{is_sound}
 use Rattle.rules.specs.declared.Instruction.{Instruction}
 use Rattle.rules.specs.declared.Command.{Command}
-use Rattle.rules.specs.declared.Verdict.{Verdict}
+use Rattle.rules.specs.Results.{Verdict}
 use Rattle.rules.specs.Words.{Hold}
 use Rattle.rules.specs.Supplies.{no_supply, suits}
 use Rattle.rules.specs.Rules.{Secret, pin, puk, right_by, no_fault}

@@ -1,6 +1,7 @@
 -- What RULES 6.3 says of comparisons is what the rulebook's `comparison` gives: VERIFY and UNBLOCK are the two commands whose rules compare,
 -- and their checks are those that RULES names.
 -- Assumes nothing.
+use Rattle.std.specs.Prelude.{Err, Ok}
 use mathlib.Core.Path.{◌≡◌, refl, sym, ap, ◌∙◌, subst}
 use mathlib.Core.Bool.{Bool, true, false}
 use mathlib.Core.List.{List}
@@ -11,8 +12,7 @@ use Rattle.card.specs.declared.Card.{Card}
 use Rattle.card.specs.Slots.{is_zero}
 use Rattle.rules.specs.declared.Command.{Command}
 use Rattle.rules.specs.declared.Command.TheVariants as command
-use Rattle.rules.specs.declared.Verdict.{Verdict}
-use Rattle.rules.specs.declared.Verdict.TheVariants.{Reads, Fails}
+use Rattle.rules.specs.Results.{Verdict}
 use Rattle.rules.specs.Words.{verdict}
 use Rattle.rules.specs.Rules.{Secret, pin, puk}
 use Rattle.rules.specs.Commands.{verify_checks, is_unblocking, unblock_checks, rule_of}
@@ -38,8 +38,8 @@ module _ (a : Arrived) where
   none-at6 p e = go (verdict (supply_of a.command) (checks_of a.command a.card a.data'))
     where
       go : (v : Verdict) → compared_by p a v ≡ none
-      go (Reads s) = ap (λ (o : Option Secret). compared o p a.data') e
-      go (Fails w) = refl
+      go (Ok s) = ap (λ (o : Option Secret). compared o p a.data') e
+      go (Err w) = refl
 
   abbrev p : Pins
   p = a.card.pins

@@ -2,6 +2,7 @@
 -- read, and the answers are the same where the comparison, if one is made, comes out alike: no step looks at PIN and PUK, and no rule does but
 -- for how the comparison came out.
 -- Assumes nothing.
+use Rattle.std.specs.Prelude.{Err, Ok}
 use mathlib.Core.Path.{◌≡◌, refl, sym, ap, ◌∙◌}
 use mathlib.Core.Bool.{Bool, true, false, ◌&&◌, not, cond}
 use mathlib.Core.List.{List}
@@ -13,13 +14,12 @@ use Rattle.card.specs.declared.Pins.{Pins}
 use Rattle.card.specs.declared.Card.{Card}
 use Rattle.card.specs.State.{with_secrets, unverified}
 use Rattle.rules.specs.declared.Instruction.{Instruction}
-use Rattle.rules.specs.declared.Named.{Named}
-use Rattle.rules.specs.declared.Named.TheVariants as named
+use Rattle.rules.specs.Results.{Named}
+use Rattle.rules.specs.declared.Unnamed.TheVariants as unnamed
 use Rattle.rules.specs.declared.Loss.{Loss}
 use Rattle.rules.specs.declared.Loss.TheVariants as loss
 use Rattle.rules.specs.declared.Command.{Command}
-use Rattle.rules.specs.declared.Verdict.{Verdict}
-use Rattle.rules.specs.declared.Verdict.TheVariants.{Reads, Fails}
+use Rattle.rules.specs.Results.{Verdict}
 use Rattle.rules.specs.Words.{wrong_parameters, conditions_not_met, verdict, Reply, fails}
 use Rattle.rules.specs.Rules.{Secret, pin, puk, right_by, outcome_of}
 use Rattle.rules.specs.Rows.{row_of, is_plain}
@@ -64,8 +64,8 @@ compared-unverified none p d = refl
 compared-unverified (some s) p d = ap (λ (b : Bool). some (record { of = s; right = b })) (right-unverified s p d)
 
 by-unverified : (p : Pins) (a : Arrived) (v : Verdict) → compared_by (unverified p) a v ≡ compared_by p a v
-by-unverified p a (Reads s) = compared-unverified (rule_of a.command).compares p a.data'
-by-unverified p a (Fails w) = refl
+by-unverified p a (Ok s) = compared-unverified (rule_of a.command).compares p a.data'
+by-unverified p a (Err w) = refl
 
 past-unverified : (p : Pins) (x : Step Arrived) → compared_past (unverified p) x ≡ compared_past p x
 past-unverified p (goes a) = by-unverified p a (verdict (supply_of a.command) (checks_of a.command a.card a.data'))
@@ -170,9 +170,9 @@ module _ (p q : List ℕ) where
 
         go : (o : Option (List ℕ)) (n : Named) → by (swap c) o n ≡ swap_step (by c o n)
         go none n = refl
-        go (some field) named.WrongClass = refl
-        go (some field) named.Unknown = refl
-        go (some field) (named.Known i) = step4-swap i field
+        go (some field) (Err unnamed.WrongClass) = refl
+        go (some field) (Err unnamed.Unknown) = refl
+        go (some field) (Ok i) = step4-swap i field
 
   pub arrival-swap : (c : Card) (cmd : List ℕ) → arrival (swap c) cmd ≡ swap_step (arrival c cmd)
   unfolding arrival
@@ -189,7 +189,7 @@ module _ (p q : List ℕ) where
   module _ (a : Arrived) (i : Instruction) (l : Lawful i a.command) where
     verdict-both : (v : Verdict)
         → Both (by_verdict a v) (by_verdict (swap_at a) v) (compared_by a.card.pins a v) (compared_by (swap a.card).pins (swap_at a) v)
-    verdict-both (Reads k) = (
+    verdict-both (Ok k) = (
       record {
         supply = refl;
         data' = refl;
@@ -201,7 +201,7 @@ module _ (p q : List ℕ) where
       },
       secret-same (rule_of a.command).compares a.card.pins (swap a.card).pins a.data',
     )
-    verdict-both (Fails w) = (
+    verdict-both (Err w) = (
       record {
         supply = refl;
         data' = refl;

@@ -1,6 +1,7 @@
 -- A command that is not plain, at step 6: its data are what the field opens to, and the card is that of step 1 with the command's MAC, since only
 -- OPEN, which is plain, begins by closing the channel.
 -- Assumes nothing.
+use Rattle.std.specs.Prelude.{Err, Ok}
 use mathlib.Core.Path.{◌≡◌, refl, sym, ◌∙◌, subst}
 use mathlib.Core.Bool.{Bool, true, false, ◌||◌, false≢true}
 use mathlib.Core.List.{List, [], ◌∷◌}
@@ -13,8 +14,8 @@ use Rattle.card.specs.declared.Card.{Card}
 use Rattle.card.specs.Slots.{all_of}
 use Rattle.card.proofs.Tests.{both}
 use Rattle.rules.specs.declared.Instruction.{Instruction}
-use Rattle.rules.specs.declared.Named.{Named}
-use Rattle.rules.specs.declared.Named.TheVariants as named
+use Rattle.rules.specs.Results.{Named}
+use Rattle.rules.specs.declared.Unnamed.TheVariants as unnamed
 use Rattle.rules.specs.declared.Loss.{Loss}
 use Rattle.rules.specs.declared.Loss.TheVariants as loss
 use Rattle.rules.specs.Rows.{row_of, class80, offered, is_plain}
@@ -34,9 +35,9 @@ abbrev plain_or_keeps : Instruction → Bool
 plain_or_keeps i = is_plain i || keeps (row_of i).loss
 
 abbrev Passes : Named → Type 0
-Passes (named.Known i) = plain_or_keeps i ≡ true
-Passes named.WrongClass = Unit {0}
-Passes named.Unknown = Unit {0}
+Passes (Ok i) = plain_or_keeps i ≡ true
+Passes (Err unnamed.WrongClass) = Unit {0}
+Passes (Err unnamed.Unknown) = Unit {0}
 
 class80-passes : all_of plain_or_keeps class80 ≡ true
 unfolding all_of

@@ -2,6 +2,7 @@
 -- stages 1 and 2; VERIFY and LOAD reach the key kinds 1 and 2. Plain commands are computed, sealed ones open by the law of sealed messages;
 -- nothing of AES is computed.
 -- Assumes nothing.
+use Rattle.std.specs.Prelude.{Ok}
 use mathlib.Core.Path.{◌≡◌, refl, sym, ap, ◌∙◌, subst}
 use mathlib.Core.Bool.{true, false}
 use mathlib.Core.List.{List, [], ◌∷◌, ◌++◌}
@@ -36,7 +37,6 @@ use Rattle.rules.specs.declared.Supply.{Supply}
 use Rattle.rules.specs.declared.KeyForm.TheVariants as key
 use Rattle.rules.specs.declared.Instruction.{Instruction}
 use Rattle.rules.specs.declared.Instruction.TheVariants as ins
-use Rattle.rules.specs.declared.Named.TheVariants as named
 use Rattle.rules.specs.declared.Command.{Command}
 use Rattle.rules.specs.declared.Command.TheVariants as command
 use Rattle.rules.specs.Words.{Hold, success, word, Reply, succeeds}
@@ -260,7 +260,7 @@ session-keyed iv h = record { enc = under-keyed.enc; mac = under-keyed.mac; iv =
 
 -- one sealed command, from a card in stage n to one in stage 2: 80 b p1 00 with the data d and the supply u
 module _ (n verified : ℕ) (keys : Keys) (b p1 : ℕ) (b-byte : b < 256) (p1-byte : p1 < 256) (d u : List ℕ) (bytes : Bytes d) (fits : length d ≤ 223)
-    (i : Instruction) (k : Command) (name : name_of true 0x80 b ≡ named.Known i) (plain : is_plain i ≡ false) (staged : in_stage i n ≡ true)
+    (i : Instruction) (k : Command) (name : name_of true 0x80 b ≡ Ok i) (plain : is_plain i ≡ false) (staged : in_stage i n ≡ true)
     (listed : (row_of i).lists p1 0 ≡ some k) (suited : suits (supply_of k) u ≡ true)
     (sound : (iv : List ℕ) → is_sound (in_channel n iv verified keys) ≡ true)
     (first : (iv more : List ℕ) → step1 (0x80 ∷ b ∷ more) (in_channel n iv verified keys) ≡ in_channel n iv verified keys)

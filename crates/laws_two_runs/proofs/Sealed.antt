@@ -1,6 +1,7 @@
 -- A command that the terminal sealed for a card in stage 2 gets past step 5 with its data, and VERIFY and UNBLOCK then compare. The field
 -- opens by the law of sealed messages; nothing of AES is computed.
 -- Assumes nothing.
+use Rattle.std.specs.Prelude.{Ok}
 use mathlib.Core.Path.{◌≡◌, refl, ap, ◌∙◌}
 use mathlib.Core.Bool.{Bool, true, false, ◌&&◌, not, cond}
 use mathlib.Core.List.{List, [], ◌∷◌}
@@ -24,7 +25,6 @@ use Rattle.card.specs.Slots.{is_zero}
 use Rattle.card.specs.Sound.{is_sound}
 use Rattle.rules.specs.declared.Instruction.{Instruction}
 use Rattle.rules.specs.declared.Instruction.TheVariants as ins
-use Rattle.rules.specs.declared.Named.TheVariants as named
 use Rattle.rules.specs.declared.Command.{Command}
 use Rattle.rules.specs.declared.Command.TheVariants as command
 use Rattle.rules.specs.Rules.{Secret, pin, puk, right_by}
@@ -53,7 +53,7 @@ data-filled a b p1 p2 f h =
 
 -- ---- steps 1 to 5 on a command that opens to d, in a stage that it goes in, where step 1 leaves the card x
 pub sealed-arrives : (c x : Card) (cmd field d : List ℕ) (i : Instruction) (k : Command) → step1 cmd c ≡ x → data_of cmd ≡ some field
-    → name_of (is_initialised x) (cla_of cmd) (ins_of cmd) ≡ named.Known i → is_plain i ≡ false → in_stage i x.channel.stage ≡ true
+    → name_of (is_initialised x) (cla_of cmd) (ins_of cmd) ≡ Ok i → is_plain i ≡ false → in_stage i x.channel.stage ≡ true
     → opened_by x cmd field ≡ some d → (row_of i).lists (p1_of cmd) (p2_of cmd) ≡ some k
     → arrival c cmd ≡ goes (arrived_at i cmd (record { card = with_mac x (take 16 field); data' = d }) k)
 unfolding arrival past_step1 step4 step5
@@ -86,7 +86,7 @@ sealed_for c b d = sealed_command (session_of c.channel) (header_with b) d
 -- the instruction byte b names a command that is sealed in stage 2 and lists P1 00
 record Names (b : ℕ) (i : Instruction) (k : Command) : Type 0 where
   pub byte : b < 256
-  pub name : name_of true 0x80 b ≡ named.Known i
+  pub name : name_of true 0x80 b ≡ Ok i
   pub plain : is_plain i ≡ false
   pub staged : in_stage i 2 ≡ true
   pub listed : (row_of i).lists 0 0 ≡ some k

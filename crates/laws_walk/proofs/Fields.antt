@@ -10,38 +10,37 @@ use lib.ListN.{length, take, drop, length-append}
 use lib.Seq.{take-append-le, take-length, drop-append_seam}
 use borrow.Author.Tests.{lt-ltb, le-ltb}
 use Rattle.template_rules.specs.declared.Head.{Head}
-use Rattle.template_rules.specs.declared.Head.TheVariants.{Of, Unreadable}
-use Rattle.template_rules.specs.Template.{read_head, tag_of, is_template, field_head, field, HeadSays}
+use Rattle.std.specs.Prelude.{Option, Some, None}
+use Rattle.template_rules.specs.Template.{head_of, read_head, tag_of, is_template, field_head, field, HeadSays}
 use Rattle.template_rules.proofs.HeadFacts.{read_length, length-read}
 use Rattle.template_walk.specs.declared.Fault.{Fault}
 use Rattle.template_walk.specs.declared.Fault.TheVariants.{Malformed, TooDeep}
-use Rattle.template_walk.specs.declared.Walked.{Walked}
-use Rattle.template_walk.specs.declared.Walked.TheVariants.{Fields, Refused}
-use Rattle.template_walk.specs.Walk.{plus}
+use Rattle.std.specs.Prelude.{Ok}
+use Rattle.template_walk.specs.Walk.{Walked, refused, plus}
 use Rattle.laws_walk.proofs.Finding.{into, within, step, found}
 
 -- the reader gives w for s, whatever the number of steps that it may take, if that is enough
 abbrev pub Finds : ℕ → List ℕ → Walked → Type 0
 Finds levels s w = (fuel : ℕ) → length s ≤ fuel → found fuel levels s ≡ w
 
-pub finds-none : (levels : ℕ) → Finds levels [] (Fields 0)
+pub finds-none : (levels : ℕ) → Finds levels [] (Ok 0)
 unfolding found
 finds-none levels zero p = refl
 finds-none levels (suc fuel) p = refl
 
 -- ---- no head
-no-head : (s : List ℕ) (r : Head) → read_head s ≡ r → HeadSays s Unreadable → read_head s ≡ Unreadable
-no-head s Unreadable e h = e
-no-head s (Of k n) e h = absurd (let l = length-read s k n e in h (tag_of s) n (drop k s) l.0 l.2)
+no-head : (s : List ℕ) (r : Option Head) → read_head s ≡ r → HeadSays s None → read_head s ≡ None
+no-head s None e h = e
+no-head s (Some r) e h = absurd (let l = length-read s r.head_bytes r.value_bytes e in h (tag_of s) r.value_bytes (drop r.head_bytes s) l.0 l.2)
 
-pub finds-head : (levels : ℕ) (s : List ℕ) → 1 ≤ length s → HeadSays s Unreadable → Finds levels s (Refused Malformed 0)
+pub finds-head : (levels : ℕ) (s : List ℕ) → 1 ≤ length s → HeadSays s None → Finds levels s (refused Malformed 0)
 unfolding found
 finds-head levels s l h zero p = absurd (omega arith)
 finds-head levels [] l h (suc fuel) p = absurd (omega arith)
 finds-head levels (x ∷ s) l h (suc fuel) p = rw (no-head (x ∷ s) (read_head (x ∷ s)) refl h)
 
 -- ---- an end behind that of the list
-pub finds-over : (levels tag n : ℕ) (rest : List ℕ) → n < 256 → length rest < n → Finds levels (field_head tag n ++ rest) (Refused Malformed 0)
+pub finds-over : (levels tag n : ℕ) (rest : List ℕ) → n < 256 → length rest < n → Finds levels (field_head tag n ++ rest) (refused Malformed 0)
 unfolding found
 finds-over levels tag n rest b l zero p = absurd (omega arith)
 finds-over levels tag n rest b l (suc fuel) p =
@@ -74,7 +73,7 @@ module _ (tag : ℕ) (v rest : List ℕ) (brief : length v < 256) where
   unfolding s
   grouped = append_assoc (field_head tag (length v)) v rest
 
-  head-is : read_head s ≡ Of h (length v)
+  head-is : read_head s ≡ head_of h (length v)
   unfolding h
   head-is = ap read_head grouped ∙ read_length tag (length v) (v ++ rest) brief
 
@@ -104,7 +103,7 @@ module _ (tag : ℕ) (v rest : List ℕ) (brief : length v < 256) where
       opened (found fuel) levels ∙ rw (t, r fuel (omega (arith, shorter)), long)
 
   -- a template whose value is read, and then what follows
-  pub finds-template : (levels c : ℕ) (w : Walked) → is_template tag ≡ true → Finds levels v (Fields c) → Finds (suc levels) rest w
+  pub finds-template : (levels c : ℕ) (w : Walked) → is_template tag ≡ true → Finds levels v (Ok c) → Finds (suc levels) rest w
       → Finds (suc levels) (field tag v ++ rest) (plus c (length (field tag v)) w)
   unfolding found s
   finds-template levels c w t i r zero p = absurd (omega arith)
@@ -113,14 +112,14 @@ module _ (tag : ℕ) (v rest : List ℕ) (brief : length v < 256) where
       ∙ rw (t, i fuel (omega (arith, shorter)), r fuel (omega (arith, shorter)), long)
 
   -- a template whose value has a fault
-  pub finds-inside : (levels : ℕ) (f : Fault) (k : ℕ) → is_template tag ≡ true → Finds levels v (Refused f k)
-      → Finds (suc levels) (field tag v ++ rest) (Refused f (length (field_head tag (length v)) + k))
+  pub finds-inside : (levels : ℕ) (f : Fault) (k : ℕ) → is_template tag ≡ true → Finds levels v (refused f k)
+      → Finds (suc levels) (field tag v ++ rest) (refused f (length (field_head tag (length v)) + k))
   unfolding found s h
   finds-inside levels f k t i zero p = absurd (omega arith)
   finds-inside levels f k t i (suc fuel) p = opened (found fuel) (suc levels) ∙ rw (t, i fuel (omega (arith, shorter)))
 
   -- a template where none may stand
-  pub finds-deep : is_template tag ≡ true → Finds 0 (field tag v ++ rest) (Refused TooDeep 0)
+  pub finds-deep : is_template tag ≡ true → Finds 0 (field tag v ++ rest) (refused TooDeep 0)
   unfolding found s
   finds-deep t zero p = absurd (omega arith)
   finds-deep t (suc fuel) p = opened (found fuel) 0 ∙ rw t
@@ -128,15 +127,19 @@ module _ (tag : ℕ) (v rest : List ℕ) (brief : length v < 256) where
 -- ---- a field is written in one way: equal bytes that begin with a field have the same tag, value and rest
 module _ (tag : ℕ) (v rest : List ℕ) (tag' : ℕ) (v' rest' : List ℕ) (b : length v < 256) (b' : length v' < 256)
     (e : field tag v ++ rest ≡ field tag' v' ++ rest') where
-  same_head : Of (length (field_head tag (length v))) (length v) ≡ Of (length (field_head tag' (length v'))) (length v')
+  same_head : head_of (length (field_head tag (length v))) (length v) ≡ head_of (length (field_head tag' (length v'))) (length v')
   unfolding h s
   same_head = sym (head-is tag v rest b) ∙ ap read_head e ∙ head-is tag' v' rest' b'
 
+  same_parts : ◌≡◌ {A = Head} (record { head_bytes = length (field_head tag (length v)); value_bytes = length v })
+      (record { head_bytes = length (field_head tag' (length v')); value_bytes = length v' })
+  same_parts = cc same_head
+
   same_length : length v ≡ length v'
-  same_length = cc same_head
+  same_length = ap (λ (x : Head). x.value_bytes) same_parts
 
   same_start : length (field_head tag (length v)) ≡ length (field_head tag' (length v'))
-  same_start = cc same_head
+  same_start = ap (λ (x : Head). x.head_bytes) same_parts
 
   pub same_tag : tag ≡ tag'
   same_tag = ap tag_of e

@@ -12,14 +12,13 @@ use lib.ListN.{length, take, drop, length-append, length-take, length-drop, take
 use lib.Seq.{length-take-le, drop-drop}
 use borrow.Author.Tests.{ltb-true, ltb-false}
 use Rattle.template_rules.specs.declared.Head.{Head}
-use Rattle.template_rules.specs.declared.Head.TheVariants.{Of, Unreadable}
-use Rattle.template_rules.specs.Template.{read_head, tag_of, is_template, field_head, field, HeadSays}
+use Rattle.std.specs.Prelude.{Option, Some, None}
+use Rattle.template_rules.specs.Template.{head_of, read_head, tag_of, is_template, field_head, field, HeadSays}
 use Rattle.template_rules.proofs.HeadFacts.{by-test, Within, head-within, head-says}
 use Rattle.template_walk.specs.declared.Fault.{Fault}
 use Rattle.template_walk.specs.declared.Fault.TheVariants.{TooDeep}
-use Rattle.template_walk.specs.declared.Walked.{Walked}
-use Rattle.template_walk.specs.declared.Walked.TheVariants.{Fields, Refused}
-use Rattle.template_walk.specs.Walk.{plus}
+use Rattle.std.specs.Prelude.{Ok, Err}
+use Rattle.template_walk.specs.Walk.{Walked, refused, plus}
 use Rattle.template_walk.proofs.WalkFacts.{plus_none, plus-plus}
 use Rattle.template_walk.proofs.Joining.{in_field}
 use Rattle.laws_walk.specs.Trees.{Trees, none, leaf, template, encode, leaves, Lawful, deepest, Shallow}
@@ -39,10 +38,10 @@ module _ (levels c : ℕ) (x : List ℕ) (ts : Trees) (rest : List ℕ) (w : Wal
       ∙ ap (λ (n : ℕ). plus (c + leaves ts) n w) (sym (length-append x (encode ts)))
 
 -- trees alone, from trees before nothing
-alone : (ts : Trees) (levels : ℕ) → Finds levels (encode ts ++ []) (plus (leaves ts) (length (encode ts)) (Fields 0))
-    → Finds levels (encode ts) (Fields (leaves ts))
+alone : (ts : Trees) (levels : ℕ) → Finds levels (encode ts ++ []) (plus (leaves ts) (length (encode ts)) (Ok 0))
+    → Finds levels (encode ts) (Ok (leaves ts))
 alone ts levels r fuel p =
-    ap (found fuel levels) (sym (append-nil (encode ts))) ∙ r fuel (rw append-nil p) ∙ ap Fields (add-zero (leaves ts))
+    ap (found fuel levels) (sym (append-nil (encode ts))) ∙ r fuel (rw append-nil p) ∙ ap Ok (add-zero (leaves ts))
 
 finds-trees : (ts : Trees) (d levels : ℕ) → d + levels ≡ suc deepest → Lawful ts → Shallow d ts → (rest : List ℕ) (w : Walked)
     → Finds levels rest w → Finds levels (encode ts ++ rest) (plus (leaves ts) (length (encode ts)) w)
@@ -53,18 +52,18 @@ finds-trees (leaf tag v ts) d levels e l sh rest w r =
     (finds-trees ts d levels e l.2 sh rest w r))
 finds-trees (template tag is ts) d zero e l sh rest w r = absurd (omega (arith, sh.0))
 finds-trees (template tag is ts) d (suc levels) e l sh rest w r =
-    let inner = finds-trees is (suc d) levels (omega arith) l.2 sh.1 [] (Fields 0) (finds-none levels) in
+    let inner = finds-trees is (suc d) levels (omega arith) l.2 sh.1 [] (Ok 0) (finds-none levels) in
     joins (suc levels) (leaves is) (field tag (encode is)) ts rest w
     (finds-template tag (encode is) (encode ts ++ rest) l.1 levels (leaves is) (plus (leaves ts) (length (encode ts)) w) l.0
     (alone is levels inner) (finds-trees ts d (suc levels) e l.3 sh.2 rest w r))
 
 pub finds-encoding : (ts : Trees) (d levels : ℕ) → d + levels ≡ suc deepest → Lawful ts → Shallow d ts
-    → Finds levels (encode ts) (Fields (leaves ts))
-finds-encoding ts d levels e l sh = alone ts levels (finds-trees ts d levels e l sh [] (Fields 0) (finds-none levels))
+    → Finds levels (encode ts) (Ok (leaves ts))
+finds-encoding ts d levels e l sh = alone ts levels (finds-trees ts d levels e l sh [] (Ok 0) (finds-none levels))
 
 -- ---- a fault
 pub finds-fault : {d : ℕ} {s : List ℕ} {f : Fault} {k : ℕ} → FaultAt d s f k → (levels : ℕ) → d + levels ≡ suc deepest
-    → Finds levels s (Refused f k)
+    → Finds levels s (refused f k)
 finds-fault (head {s = s} l h) levels e = finds-head levels s l h
 finds-fault (over tag n rest b l) levels e = finds-over levels tag n rest b l
 finds-fault (deep tag v rest b t g) zero e = finds-deep tag v rest b t
@@ -73,12 +72,12 @@ finds-fault (inside tag v rest b t g x) zero e = absurd (omega arith)
 finds-fault (inside {f = f} {k = k} tag v rest b t g x) (suc levels) e =
     finds-inside tag v rest b levels f k t (finds-fault x levels (omega arith))
 finds-fault (after {d = d} {f = f} {k = k} ts rest l sh x) levels e =
-    finds-trees ts d levels e l sh rest (Refused f k) (finds-fault x levels e)
+    finds-trees ts d levels e l sh rest (refused f k) (finds-fault x levels e)
 
 -- ---- what each answer says
 abbrev pub Says : ℕ → List ℕ → Walked → Type 0
-Says d s (Fields n) = (ts : Trees) × Lawful ts × Shallow d ts × (encode ts ≡ s) × (leaves ts ≡ n)
-Says d s (Refused f k) = FaultAt d s f k
+Says d s (Ok n) = (ts : Trees) × Lawful ts × Shallow d ts × (encode ts ≡ s) × (leaves ts ≡ n)
+Says d s (Err r) = FaultAt d s r.fault r.place
 
 -- the same list and place, written otherwise
 moved : {d : ℕ} {s t : List ℕ} {f : Fault} {j k : ℕ} → s ≡ t → k ≡ j → FaultAt d t f j → FaultAt d s f k
@@ -91,7 +90,7 @@ behind d ts x rest s f k b l sh e g q fault =
     moved (q ∙ ap (λ (y : List ℕ). y ++ rest) (sym e)) (ap (λ (m : ℕ). m + k) (sym g ∙ ap length (sym e))) (after ts rest l sh fault)
 
 -- the field that begins s, where its head is read and its end is within s
-module _ (d : ℕ) (s : List ℕ) (h n : ℕ) (said : HeadSays s (Of h n)) (ends : h + n ≤ length s) where
+module _ (d : ℕ) (s : List ℕ) (h n : ℕ) (said : HeadSays s (head_of h n)) (ends : h + n ≤ length s) where
   tag : ℕ
   tag = tag_of s
 
@@ -125,23 +124,23 @@ module _ (d : ℕ) (s : List ℕ) (h n : ℕ) (said : HeadSays s (Of h n)) (ends
 
   -- no template
   says-leaf : is_template tag ≡ false → (w : Walked) → Says d rest w → Says d s (plus 1 (h + n) w)
-  says-leaf t (Fields m) (ts, l, sh, e, c) =
+  says-leaf t (Ok m) (ts, l, sh, e, c) =
       (leaf tag v ts, (t, brief, l), sh, ap (λ (r : List ℕ). field tag v ++ r) e ∙ sym split, ap (λ (k : ℕ). 1 + k) c)
-  says-leaf t (Refused f k) x =
-      behind d (leaf tag v none) (field tag v) rest s f k (h + n) (t, brief, tt) tt (append-nil (field tag v)) bytes split x
+  says-leaf t (Err r) x =
+      behind d (leaf tag v none) (field tag v) rest s r.fault r.place (h + n) (t, brief, tt) tt (append-nil (field tag v)) bytes split x
 
   -- a template whose value is the encoding of trees
-  says-template : is_template tag ≡ true → d ≤ deepest → (c : ℕ) → Says (suc d) v (Fields c) → (w : Walked) → Says d rest w
+  says-template : is_template tag ≡ true → d ≤ deepest → (c : ℕ) → Says (suc d) v (Ok c) → (w : Walked) → Says d rest w
       → Says d s (plus c (h + n) w)
-  says-template t g c (is, li, shi, ei, ci) (Fields m) (ts, l, sh, e, q) = (
+  says-template t g c (is, li, shi, ei, ci) (Ok m) (ts, l, sh, e, q) = (
     template tag is ts,
     (t, rw ei brief, li, l),
     (g, shi, sh),
     ap (λ (r : List ℕ). field tag r ++ encode ts) ei ∙ ap (λ (r : List ℕ). field tag v ++ r) e ∙ sym split,
     rw (ci, q),
   )
-  says-template t g c (is, li, shi, ei, ci) (Refused f k) x =
-      behind d (template tag is none) (field tag v) rest s f k (h + n) (t, rw ei brief, li, tt) (g, shi, tt)
+  says-template t g c (is, li, shi, ei, ci) (Err r) x =
+      behind d (template tag is none) (field tag v) rest s r.fault r.place (h + n) (t, rw ei brief, li, tt) (g, shi, tt)
       (append-nil (field tag (encode is)) ∙ ap (field tag) ei) bytes split x
 
   says-inside : is_template tag ≡ true → d ≤ deepest → (f : Fault) (k : ℕ) → FaultAt (suc d) v f k → FaultAt d s f (h + k)
@@ -154,13 +153,13 @@ module _ (d : ℕ) (s : List ℕ) (h n : ℕ) (said : HeadSays s (Of h n)) (ends
 module _ (again : ℕ → List ℕ → Walked) (s : List ℕ) (some : 1 ≤ length s)
     (ih : (d levels : ℕ) (t : List ℕ) → d + levels ≡ suc deepest → suc (length t) ≤ length s → Says d t (again levels t)) where
   -- a template, by what its value came to
-  by_value : (d h n : ℕ) (said : HeadSays s (Of h n)) (ends : h + n ≤ length s) → is_template (tag_of s) ≡ true → d ≤ deepest
+  by_value : (d h n : ℕ) (said : HeadSays s (head_of h n)) (ends : h + n ≤ length s) → is_template (tag_of s) ≡ true → d ≤ deepest
       → (u w : Walked) → Says (suc d) (take n (drop h s)) u → Says d (drop (h + n) s) w → Says d s (into (in_field h u) (h + n) w)
   unfolding tag v rest
-  by_value d h n said ends t g (Fields c) w x y = says-template d s h n said ends t g c x w y
-  by_value d h n said ends t g (Refused f k) w x y = says-inside d s h n said ends t g f k x
+  by_value d h n said ends t g (Ok c) w x y = says-template d s h n said ends t g c x w y
+  by_value d h n said ends t g (Err r) w x y = says-inside d s h n said ends t g r.fault r.place x
 
-  by-levels : (d levels h n : ℕ) → d + levels ≡ suc deepest → (said : HeadSays s (Of h n)) (ends : h + n ≤ length s) → 2 ≤ h
+  by-levels : (d levels h n : ℕ) → d + levels ≡ suc deepest → (said : HeadSays s (head_of h n)) (ends : h + n ≤ length s) → 2 ≤ h
       → is_template (tag_of s) ≡ true → Says d s (into (within again levels h (take n (drop h s))) (h + n) (again levels (drop (h + n) s)))
   unfolding tag
   by-levels d zero h n e said ends two t = says-deep d s h n said ends t (omega arith)
@@ -169,10 +168,12 @@ module _ (again : ℕ → List ℕ → Walked) (s : List ℕ) (some : 1 ≤ leng
       (ih (suc d) levels (take n (drop h s)) (omega arith) (simp (length-take, length-drop) (omega arith)))
       (ih d (suc levels) (drop (h + n) s) e (simp length-drop (omega arith)))
 
-  by-head : (d levels : ℕ) (r : Head) → d + levels ≡ suc deepest → HeadSays s r → Within s r → Says d s (step again levels s r)
+  by-head : (d levels : ℕ) (r : Option Head) → d + levels ≡ suc deepest → HeadSays s r → Within s r → Says d s (step again levels s r)
   unfolding tag rest
-  by-head d levels Unreadable e said w = head some said
-  by-head d levels (Of h n) e said w =
+  by-head d levels None e said w = head some said
+  by-head d levels (Some hd) e said w =
+      let h = hd.head_bytes in
+      let n = hd.value_bytes in
       by-test (Says d s) (ltb (length s) (h + n))
       (λ o. moved said.2 refl
       (over (tag_of s) n (drop h s) said.0 (simp length-drop (omega (arith, ltb-true (length s) (h + n) o, w)))))

@@ -1,7 +1,6 @@
 -- The first fault from the left (RULES 9.3, 9.8), and where the tag of its field is: by rules that read nothing, only take the input apart.
 -- Every length and offset is a number of bytes; depth is counted in templates, a template at the top being at depth 1.
-use Rattle.std.specs.Prelude.{◌≡◌, true, List, ◌++◌, ℕ, suc, ◌+◌, ◌≤◌, ◌<◌, length}
-use Rattle.template_rules.specs.declared.Head.TheVariants.{Unreadable}
+use Rattle.std.specs.Prelude.{None, ◌≡◌, true, List, ◌++◌, ℕ, suc, ◌+◌, ◌≤◌, ◌<◌, length}
 use Rattle.template_rules.specs.Template.{is_template, field_head, field, HeadSays}
 use Rattle.template_walk.specs.declared.Fault.{Fault}
 use Rattle.template_walk.specs.declared.Fault.TheVariants.{Malformed, TooDeep}
@@ -10,7 +9,7 @@ use Rattle.laws_walk.specs.Trees.{Trees, encode, Lawful, deepest, Shallow}
 -- s is a value that fields are read from, at depth d; its first fault is f, in the field whose tag is k bytes from the start of s
 pub data FaultAt : ℕ → List ℕ → Fault → ℕ → Type 0 where
   -- the field begins s, and no tag with a form of a length does: the head is malformed or cut
-  head : {d : ℕ} {s : List ℕ} → 1 ≤ length s → HeadSays s Unreadable → FaultAt d s Malformed 0
+  head : {d : ℕ} {s : List ℕ} → 1 ≤ length s → HeadSays s None → FaultAt d s Malformed 0
   -- the field begins s, and announces more bytes than follow: its end passes that of s
   over : {d : ℕ} (tag n : ℕ) (rest : List ℕ) → n < 256 → length rest < n → FaultAt d (field_head tag n ++ rest) Malformed 0
   -- the field begins s, ends within s, and is a template that is too deep
