@@ -4,118 +4,179 @@
 // in the crates below.
 #![tactic(auto)]
 
-mod file;
-mod report;
+mod entry;
 mod trial;
 
-use std::io;
+use entry::Section;
+use std::ops::Add;
 use std::rt::Files;
-use text_hex::text;
+use std::{fmt, io};
+use trial::{Mode, Tally, Trials};
+
+const FILE_MAX_BYTES: usize = 262144;
+
+// One file, its mode, and the entries that its two sections should have.
+#[derive(Clone, Copy)]
+struct Vectors {
+    name: &'static str,
+    mode: Mode,
+    encrypt: u64,
+    decrypt: u64,
+}
+
+impl Vectors {
+    fn new(name: &'static str, mode: Mode, encrypt: u64, decrypt: u64) -> Self {
+        Vectors {
+            name,
+            mode,
+            encrypt,
+            decrypt,
+        }
+    }
+}
 
 // The entries that passed and that should be there, and the faults: files and lines that cannot be read, and sections with another
 // number of entries than they should have.
-#[derive(Clone, Copy)]
+#[derive(Clone, Copy, Default)]
 struct Sum {
     passed: u64,
     wanted: u64,
     faults: u64,
 }
 
-fn plus(a: Sum, b: Sum) -> Sum {
-    Sum {
-        passed: std::num::wrapping_add_u64(a.passed, b.passed),
-        wanted: std::num::wrapping_add_u64(a.wanted, b.wanted),
-        faults: std::num::wrapping_add_u64(a.faults, b.faults),
+impl Add for Sum {
+    type Output = Sum;
+
+    fn add(self, other: Sum) -> Sum {
+        Sum {
+            passed: self.passed.wrapping_add(other.passed),
+            wanted: self.wanted.wrapping_add(other.wanted),
+            faults: self.faults.wrapping_add(other.faults),
+        }
     }
+}
+
+// How many entries of a section passed, out of how many there should be.
+#[derive(Clone, Copy)]
+struct Passed {
+    section: Section,
+    passed: u64,
+    wanted: u64,
+}
+
+impl fmt::Display for Passed {
+    fn fmt<W: fmt::Write>(&self, f: &mut fmt::Formatter<W>) -> fmt::Result {
+        let Passed {
+            section,
+            passed,
+            wanted,
+        } = self;
+        if *wanted == 0 {
+            write!(f, "{section}       none")
+        } else {
+            write!(f, "{section} {passed:>3} of {wanted:>3}")
+        }
+    }
+}
+
+// Tries every entry of the file.
+fn try_file(rt: &(impl Print + Files), v: &Vectors) -> io::Result<Tally> {
+    let mut trials = Trials {
+        rt,
+        name: v.name,
+        mode: v.mode,
+        tally: Tally::default(),
+    };
+    let mut buf = [0; FILE_MAX_BYTES];
+    match vector_files::read_file(rt, v.name, &mut buf) {
+        Ok(text) => trials.run(text)?,
+        Err(fault) => {
+            trials.tally.add_fault();
+            println!(rt; "{}: {fault}", v.name)?;
+        }
+    }
+    Ok(trials.tally)
 }
 
 // Whether a section has as many entries as it should; where not, that is reported.
 fn is_whole(
     rt: &impl Print,
-    name: &[u8],
-    section: u8,
+    name: &str,
+    section: Section,
     found: u64,
     wanted: u64,
 ) -> io::Result<bool> {
     if found == wanted {
         return Ok(true);
     }
-    report::say_found(rt, name, section, found, wanted)?;
+    println!(rt; "{name}: {section} has {found} entries and should have {wanted}")?;
     Ok(false)
 }
 
-// One file, its mode, and the entries that its two sections should have.
-fn run(
-    rt: &(impl Print + Files),
-    name: &[u8],
-    mode: u8,
-    encrypt: u64,
-    decrypt: u64,
-) -> io::Result<Sum> {
-    let t = file::run_file(rt, name, mode)?;
-    let encrypt_whole = is_whole(rt, name, text::ENCRYPT, t.encrypt_found, encrypt)?;
-    let decrypt_whole = is_whole(rt, name, text::DECRYPT, t.decrypt_found, decrypt)?;
-    report::say_in_column(rt, name)?;
-    report::say_passed(rt, text::ENCRYPT, t.encrypt_passed, encrypt)?;
-    report::say_passed(rt, text::DECRYPT, t.decrypt_passed, decrypt)?;
-    text_print::say(rt, b"\n")?;
+fn run(rt: &(impl Print + Files), v: &Vectors) -> io::Result<Sum> {
+    let mut t = try_file(rt, v)?;
+    if !is_whole(rt, v.name, Section::Encrypt, t.encrypt.found, v.encrypt)? {
+        t.add_fault();
+    }
+    if !is_whole(rt, v.name, Section::Decrypt, t.decrypt.found, v.decrypt)? {
+        t.add_fault();
+    }
+    let encrypt = Passed {
+        section: Section::Encrypt,
+        passed: t.encrypt.passed,
+        wanted: v.encrypt,
+    };
+    let decrypt = Passed {
+        section: Section::Decrypt,
+        passed: t.decrypt.passed,
+        wanted: v.decrypt,
+    };
+    println!(rt; "{:<20}   {encrypt}   {decrypt}", v.name)?;
     Ok(Sum {
-        passed: std::num::wrapping_add_u64(t.encrypt_passed, t.decrypt_passed),
-        wanted: std::num::wrapping_add_u64(encrypt, decrypt),
-        faults: file::more(file::more(t.faults, !encrypt_whole), !decrypt_whole),
+        passed: t.encrypt.passed.wrapping_add(t.decrypt.passed),
+        wanted: v.encrypt.wrapping_add(v.decrypt),
+        faults: t.faults,
     })
 }
 
-fn run_standards(rt: &(impl Print + Files)) -> io::Result<Sum> {
-    let c3 = run(rt, b"FIPS197-C3.rsp", trial::ECB, 1, 1)?;
-    let f25 = run(rt, b"SP800-38A-F25.rsp", trial::CBC, 1, 0)?;
-    let f26 = run(rt, b"SP800-38A-F26.rsp", trial::CBC, 0, 1)?;
-    Ok(plus(c3, plus(f25, f26)))
-}
-
-fn run_ecb(rt: &(impl Print + Files)) -> io::Result<Sum> {
-    let a = run(rt, b"ECBGFSbox256.rsp", trial::ECB, 5, 5)?;
-    let b = run(rt, b"ECBKeySbox256.rsp", trial::ECB, 16, 16)?;
-    let c = run(rt, b"ECBVarKey256.rsp", trial::ECB, 256, 256)?;
-    let d = run(rt, b"ECBVarTxt256.rsp", trial::ECB, 128, 128)?;
-    Ok(plus(plus(a, b), plus(c, d)))
-}
-
-fn run_cbc(rt: &(impl Print + Files)) -> io::Result<Sum> {
-    let a = run(rt, b"CBCGFSbox256.rsp", trial::CBC, 5, 5)?;
-    let b = run(rt, b"CBCKeySbox256.rsp", trial::CBC, 16, 16)?;
-    let c = run(rt, b"CBCVarKey256.rsp", trial::CBC, 256, 256)?;
-    let d = run(rt, b"CBCVarTxt256.rsp", trial::CBC, 128, 128)?;
-    Ok(plus(plus(a, b), plus(c, d)))
-}
-
 fn say_total(rt: &impl Print, sum: Sum) -> io::Result<()> {
-    report::say_in_column(rt, b"total")?;
-    text_print::say(rt, b"   ")?;
-    text_print::say_number(rt, sum.passed)?;
-    text_print::say(rt, b" of ")?;
-    text_print::say_number(rt, sum.wanted)?;
-    text_print::say(rt, b" entries passed; faults in the files: ")?;
-    text_print::say_number(rt, sum.faults)?;
-    text_print::say(rt, b"\n")?;
-    if sum.passed == sum.wanted && sum.faults == 0 {
-        text_print::say(rt, b"Every vector passed.\n")
+    let Sum {
+        passed,
+        wanted,
+        faults,
+    } = sum;
+    println!(rt;
+        "{:<20}   {passed} of {wanted} entries passed; faults in the files: {faults}",
+        "total"
+    )?;
+    if passed == wanted && faults == 0 {
+        println!(rt; "Every vector passed.")
     } else {
-        text_print::say(rt, b"FAILED: not every vector passed.\n")
+        println!(rt; "FAILED: not every vector passed.")
     }
 }
 
 fn main(rt: HostRuntime) -> io::Result<()> {
-    text_print::say(
-        &rt,
-        b"AES-256, keys of 32 bytes, blocks of 16 bytes. An entry passes where encrypting gives its ciphertext\n",
+    println!(&rt;
+        "AES-256, keys of 32 bytes, blocks of 16 bytes. An entry passes where encrypting gives its ciphertext"
     )?;
-    text_print::say(
-        &rt,
-        b"and decrypting gives back its plaintext. Entries that passed:\n",
-    )?;
-    let standards = run_standards(&rt)?;
-    let ecb = run_ecb(&rt)?;
-    let cbc = run_cbc(&rt)?;
-    say_total(&rt, plus(standards, plus(ecb, cbc)))
+    println!(&rt; "and decrypting gives back its plaintext. Entries that passed:")?;
+    let files = [
+        Vectors::new("FIPS197-C3.rsp", Mode::Ecb, 1, 1),
+        Vectors::new("SP800-38A-F25.rsp", Mode::Cbc, 1, 0),
+        Vectors::new("SP800-38A-F26.rsp", Mode::Cbc, 0, 1),
+        Vectors::new("ECBGFSbox256.rsp", Mode::Ecb, 5, 5),
+        Vectors::new("ECBKeySbox256.rsp", Mode::Ecb, 16, 16),
+        Vectors::new("ECBVarKey256.rsp", Mode::Ecb, 256, 256),
+        Vectors::new("ECBVarTxt256.rsp", Mode::Ecb, 128, 128),
+        Vectors::new("CBCGFSbox256.rsp", Mode::Cbc, 5, 5),
+        Vectors::new("CBCKeySbox256.rsp", Mode::Cbc, 16, 16),
+        Vectors::new("CBCVarKey256.rsp", Mode::Cbc, 256, 256),
+        Vectors::new("CBCVarTxt256.rsp", Mode::Cbc, 128, 128),
+    ];
+    let mut sum = Sum::default();
+    for v in &files {
+        sum = sum + run(&rt, v)?;
+    }
+    say_total(&rt, sum)
 }

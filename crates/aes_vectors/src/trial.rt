@@ -1,16 +1,16 @@
 // One entry of a file: its texts read, enciphered by each of the two engines and deciphered, and compared.
 // A key has 32 bytes, an IV 16 bytes, a text 16 to 64 bytes in whole blocks of 16 bytes.
 ghost use Rattle.std.specs.Prelude.{◌≡◌, ◌≤◌, length};
+ghost use Rattle.std.specs.Option.{IfSome};
 
-use crate::report;
-use octets::BLOCK_BYTES;
-use std::io;
-use text_hex::text;
-use text_hex::text::{DECRYPT, ENCRYPT, TextSpan};
+use crate::entry::{Entry, Section};
+use std::{fmt, io};
+use text_hex::hex;
+use text_print::Hex;
+use vector_files::{Count, Entries, Found};
 
-pub const ECB: u8 = 0;
-
-pub const CBC: u8 = 1;
+// A block of AES, in bytes.
+const BLOCK_BYTES: usize = 16;
 
 const TEXT_MAX_BYTES: usize = 64;
 
@@ -19,241 +19,262 @@ const OTHER_KEY: [u8; 32] = [0x5a; 32];
 
 const OTHER_HEAD: [u8; 16] = [0xa5; 16];
 
-// A third way beside ENCRYPT and DECRYPT: enciphering by the engine from tables.
-const ENCRYPT_BY_TABLES: u8 = 255;
-
-// Where the values of an entry are in the file.
 #[derive(Clone, Copy)]
-pub struct Entry {
-    pub section: u8,
-    pub count: TextSpan,
-    pub key: TextSpan,
-    pub iv: TextSpan,
-    pub plain: TextSpan,
-    pub cipher: TextSpan,
+pub enum Mode {
+    Ecb,
+    Cbc,
 }
 
-pub fn no_entry(section: u8) -> Entry {
-    let none = text::no_span();
-    Entry {
-        section: section,
-        count: none,
-        key: none,
-        iv: none,
-        plain: none,
-        cipher: none,
+// The engine that is tried, and its direction.
+#[derive(Clone, Copy)]
+enum Way {
+    Encrypt,
+    EncryptByTables,
+    Decrypt,
+}
+
+impl fmt::Display for Way {
+    fn fmt<W: fmt::Write>(&self, f: &mut fmt::Formatter<W>) -> fmt::Result {
+        match self {
+            Way::Encrypt => write!(f, "encrypting"),
+            Way::EncryptByTables => write!(f, "encrypting by tables"),
+            Way::Decrypt => write!(f, "decrypting"),
+        }
     }
 }
 
-pub fn is_empty(e: Entry) -> bool {
-    text::is_none(e.count)
-        & text::is_none(e.key)
-        & text::is_none(e.iv)
-        & text::is_none(e.plain)
-        & text::is_none(e.cipher)
+// What is wrong with an entry.
+#[derive(Clone, Copy)]
+enum Fault {
+    Plaintext,
+    Malformed,
+    Answer(Way),
 }
 
-// The length in bytes of a text that the entry may have; 0 where it may not.
-fn text_bytes(mode: u8, x: TextSpan) -> usize
-    ensures { result ≤ 64 }
-{
-    if x.end < x.start {
-        return 0;
+impl fmt::Display for Fault {
+    fn fmt<W: fmt::Write>(&self, f: &mut fmt::Formatter<W>) -> fmt::Result {
+        match self {
+            Fault::Plaintext => write!(
+                f,
+                "the plaintext is missing or has another length than whole blocks of 16 bytes"
+            ),
+            Fault::Malformed => write!(f, "the entry is malformed"),
+            Fault::Answer(way) => write!(f, "{way} gives a wrong answer"),
+        }
     }
-    let n = (x.end - x.start) / 2;
-    if n > TEXT_MAX_BYTES {
-        return 0;
+}
+
+// A mode, with the IV that it takes.
+#[derive(Clone, Copy)]
+enum Chaining {
+    Ecb,
+    Cbc([u8; 16]),
+}
+
+impl Chaining {
+    // An ECB entry has no IV, a CBC entry one of 16 bytes.
+    fn new(mode: Mode, iv: Option<&[u8]>) -> Option<Self> {
+        match (mode, iv) {
+            (Mode::Ecb, None) => Some(Chaining::Ecb),
+            (Mode::Cbc, Some(iv)) => Some(Chaining::Cbc(hex::bytes(iv)?)),
+            _ => None,
+        }
     }
-    if mode == ECB && n != BLOCK_BYTES {
-        return 0;
-    }
-    if n % BLOCK_BYTES == 0 { n } else { 0 }
 }
 
-fn ecb_encrypt(key: &[u8; 32], buf: &mut [u8])
-    requires { length buf.old ≡ 16 }
+// The length in bytes of a text that the entry may have.
+fn text_bytes(mode: Mode, text: &[u8]) -> Option<usize>
+    ensures { IfSome result (λ n. n ≤ 64) }
 {
-    let c = aes_engines::encrypt_plainly(key, octets::block(buf));
-    octets::put(buf, 0, &c);
+    let n = text.len() / 2;
+    let fits = match mode {
+        Mode::Ecb => n == BLOCK_BYTES,
+        Mode::Cbc => 0 < n && n <= TEXT_MAX_BYTES && n % BLOCK_BYTES == 0,
+    };
+    if fits { Some(n) } else { None }
 }
 
-fn ecb_encrypt_by_tables(key: &[u8; 32], buf: &mut [u8])
-    requires { length buf.old ≡ 16 }
-{
-    let c = aes_engines::encrypt_by_tables(key, octets::block(buf));
-    octets::put(buf, 0, &c);
-}
-
-fn ecb_decrypt(key: &[u8; 32], buf: &mut [u8])
-    requires { length buf.old ≡ 16 }
-{
+fn decrypt_block(key: &[u8; 32], block: [u8; 16]) -> [u8; 16] {
     let table = aes_bytes::sbox_table();
     let w = aes_keys::key_expansion(&table, key);
     let inverse = aes_bytes::inv_sbox_table();
-    let p = aes_decrypt::decrypt_block(&inverse, &w, octets::block(buf));
-    octets::put(buf, 0, &p);
+    aes_decrypt::decrypt_block(&inverse, &w, block)
 }
 
-// Enciphers or deciphers one block.
-fn run_ecb(way: u8, key: &[u8; 32], buf: &mut [u8]) {
-    if buf.len() != BLOCK_BYTES {
-        return;
+// A key, and a mode with its IV.
+#[derive(Clone, Copy)]
+struct Cipher {
+    key: [u8; 32],
+    chaining: Chaining,
+}
+
+impl Cipher {
+    // Enciphers or deciphers one block.
+    fn run_ecb(&self, way: Way, buf: &mut [u8]) {
+        let Ok(block) = <[u8; 16]>::try_from(&*buf) else {
+            return;
+        };
+        let answer = match way {
+            Way::Encrypt => aes_engines::encrypt_plainly(&self.key, block),
+            Way::EncryptByTables => aes_engines::encrypt_by_tables(&self.key, block),
+            Way::Decrypt => decrypt_block(&self.key, block),
+        };
+        buf.copy_from_slice(&answer);
     }
-    if way == ENCRYPT {
-        ecb_encrypt(key, buf);
-    } else if way == ENCRYPT_BY_TABLES {
-        ecb_encrypt_by_tables(key, buf);
+
+    // Enciphers or deciphers whole blocks.
+    fn run_cbc(&self, way: Way, iv: [u8; 16], buf: &mut [u8]) {
+        if buf.len() % BLOCK_BYTES != 0 {
+            return;
+        }
+        match way {
+            Way::Encrypt => aes_cbc::cbc_encrypt(&self.key, iv, buf),
+            Way::EncryptByTables => {
+                aes_word_seal::cbc_encrypt_and_mac(&self.key, iv, &OTHER_KEY, OTHER_HEAD, buf);
+            }
+            Way::Decrypt => aes_cbc::cbc_decrypt(&self.key, iv, buf),
+        }
+    }
+
+    // Puts what one way makes of `given` into `got`.
+    fn run(&self, way: Way, given: &[u8], got: &mut [u8])
+        requires { length given.now ≡ length got.old }
+    {
+        got.copy_from_slice(given);
+        match self.chaining {
+            Chaining::Ecb => self.run_ecb(way, got),
+            Chaining::Cbc(iv) => self.run_cbc(way, iv, got),
+        }
+    }
+}
+
+// The cipher of an entry; its texts are put into the two slices, which have their length.
+fn read(mode: Mode, e: Entry, plaintext: &mut [u8], ciphertext: &mut [u8]) -> Option<Cipher> {
+    e.count?;
+    let key = hex::bytes(e.key?)?;
+    let chaining = Chaining::new(mode, e.iv)?;
+    if hex::read(e.plaintext?, plaintext) && hex::read(e.ciphertext?, ciphertext) {
+        Some(Cipher { key, chaining })
     } else {
-        ecb_decrypt(key, buf);
+        None
     }
 }
 
-// Enciphers or deciphers whole blocks.
-fn run_cbc(way: u8, key: &[u8; 32], iv: [u8; 16], buf: &mut [u8]) {
-    if buf.len() % BLOCK_BYTES != 0 {
-        return;
+// The entries of the two sections, and the faults of the file: lines that are not understood, and entries in no section.
+#[derive(Clone, Copy, Default)]
+pub struct Tally {
+    pub encrypt: Count,
+    pub decrypt: Count,
+    pub faults: u64,
+}
+
+impl Tally {
+    pub fn add_fault(&mut self) {
+        self.faults = self.faults.wrapping_add(1);
     }
-    if way == ENCRYPT {
-        aes_cbc::cbc_encrypt(key, iv, buf);
-    } else if way == ENCRYPT_BY_TABLES {
-        aes_word_seal::cbc_encrypt_and_mac(key, iv, &OTHER_KEY, OTHER_HEAD, buf);
-    } else {
-        aes_cbc::cbc_decrypt(key, iv, buf);
+
+    fn add(&mut self, section: Option<Section>, passed: bool) {
+        match section {
+            Some(Section::Encrypt) => self.encrypt.add(passed),
+            Some(Section::Decrypt) => self.decrypt.add(passed),
+            None => self.add_fault(),
+        }
     }
 }
 
-// An ECB entry has no IV, a CBC entry one of 16 bytes.
-fn read_iv(s: &[u8], mode: u8, x: TextSpan, iv: &mut [u8; 16]) -> bool {
-    if mode == ECB {
-        return text::is_none(x);
-    }
-    text::read_hex(s, x, iv)
+// The trials of one file's entries: what is wrong with one is written to standard output.
+#[derive(Drop)]
+pub struct Trials<'a, P> {
+    pub rt: &'a P,
+    pub name: &'a str,
+    pub mode: Mode,
+    pub tally: Tally,
 }
 
-// Puts what one direction makes of `given` into `got`.
-fn run(way: u8, mode: u8, key: &[u8; 32], iv: [u8; 16], given: &[u8], got: &mut [u8])
-    requires { length given.now ≡ length got.old }
-{
-    octets::put(got, 0, given);
-    if mode == ECB {
-        run_ecb(way, key, got);
-    } else {
-        run_cbc(way, key, iv, got);
+impl<'a, P: Print> Trials<'a, P> {
+    fn report(&self, e: Entry, fault: Fault) -> io::Result<()> {
+        let rt = self.rt;
+        let name = self.name;
+        match e.section {
+            Some(section) => print!(rt; "{name} {section} COUNT = ")?,
+            None => print!(rt; "{name} [no section] COUNT = ")?,
+        }
+        rt.write_all(e.count.unwrap_or(b""))?;
+        println!(rt; ": {fault}")
     }
-}
 
-// Whether one direction gave what was expected; where not, that is reported.
-fn judge(
-    rt: &impl Print,
-    name: &[u8],
-    s: &[u8],
-    section: u8,
-    count: TextSpan,
-    way: u8,
-    expected: &[u8],
-    got: &[u8],
-) -> io::Result<bool> {
-    if octets::same(expected, got) {
-        return Ok(true);
+    // Whether one way gave what was expected; where not, that is reported.
+    fn judge(&self, e: Entry, way: Way, expected: &[u8], got: &[u8]) -> io::Result<bool> {
+        if expected == got {
+            return Ok(true);
+        }
+        let rt = self.rt;
+        self.report(e, Fault::Answer(way))?;
+        println!(rt; "  expected {} ({} bytes)", Hex(expected), expected.len())?;
+        println!(rt; "  got      {} ({} bytes)", Hex(got), got.len())?;
+        Ok(false)
     }
-    report::say_entry(rt, name, section, s, count)?;
-    if way == ENCRYPT {
-        text_print::say(rt, b"encrypting gives a wrong answer\n")?;
-    } else if way == ENCRYPT_BY_TABLES {
-        text_print::say(rt, b"encrypting by tables gives a wrong answer\n")?;
-    } else {
-        text_print::say(rt, b"decrypting gives a wrong answer\n")?;
-    }
-    report::say_difference(rt, expected, got)?;
-    Ok(false)
-}
 
-// Tries both directions, and encryption by the tables, each with its answer in `got`.
-fn try_both(
-    rt: &impl Print,
-    name: &[u8],
-    s: &[u8],
-    mode: u8,
-    e: Entry,
-    key: &[u8; 32],
-    iv: [u8; 16],
-    plain: &[u8],
-    cipher: &[u8],
-    got: &mut [u8],
-) -> io::Result<bool>
-    requires plain_len { length plain.now ≡ length got.old }
-    requires cipher_len { length cipher.now ≡ length got.old }
-{
-    run(ENCRYPT, mode, key, iv, plain, got);
-    let encrypts = judge(rt, name, s, e.section, e.count, ENCRYPT, cipher, got)?;
-    run(ENCRYPT_BY_TABLES, mode, key, iv, plain, got);
-    let encrypts_by_tables = judge(
-        rt,
-        name,
-        s,
-        e.section,
-        e.count,
-        ENCRYPT_BY_TABLES,
-        cipher,
-        got,
-    )?;
-    run(DECRYPT, mode, key, iv, cipher, got);
-    let decrypts = judge(rt, name, s, e.section, e.count, DECRYPT, plain, got)?;
-    Ok(encrypts & encrypts_by_tables & decrypts)
-}
-
-// Tries an entry whose texts have the length of the three slices.
-fn try_texts(
-    rt: &impl Print,
-    name: &[u8],
-    s: &[u8],
-    mode: u8,
-    e: Entry,
-    plain: &mut [u8],
-    cipher: &mut [u8],
-    got: &mut [u8],
-) -> io::Result<bool>
-    requires plain_len { length plain.old ≡ length got.old }
-    requires cipher_len { length cipher.old ≡ length got.old }
-{
-    let mut key = [0u8; 32];
-    let mut iv = [0u8; 16];
-    let key_read = text::read_hex(s, e.key, &mut key);
-    let iv_read = read_iv(s, mode, e.iv, &mut iv);
-    let plain_read = text::read_hex(s, e.plain, plain);
-    let cipher_read = text::read_hex(s, e.cipher, cipher);
-    let is_counted = !text::is_none(e.count);
-    let is_read = is_counted & key_read & iv_read & plain_read & cipher_read;
-    if !is_read {
-        report::say_entry(rt, name, e.section, s, e.count)?;
-        text_print::say(rt, b"the entry is malformed\n")?;
-        return Ok(false);
+    // Tries an entry whose texts have the length of the three slices: both directions, and encryption by the tables.
+    fn try_texts(
+        &self,
+        e: Entry,
+        plaintext: &mut [u8],
+        ciphertext: &mut [u8],
+        got: &mut [u8],
+    ) -> io::Result<bool>
+        requires plaintext_len { length plaintext.old ≡ length got.old }
+        requires ciphertext_len { length ciphertext.old ≡ length got.old }
+    {
+        let Some(cipher) = read(self.mode, e, plaintext, ciphertext) else {
+            self.report(e, Fault::Malformed)?;
+            return Ok(false);
+        };
+        cipher.run(Way::Encrypt, plaintext, got);
+        let encrypts = self.judge(e, Way::Encrypt, ciphertext, got)?;
+        cipher.run(Way::EncryptByTables, plaintext, got);
+        let encrypts_by_tables = self.judge(e, Way::EncryptByTables, ciphertext, got)?;
+        cipher.run(Way::Decrypt, ciphertext, got);
+        let decrypts = self.judge(e, Way::Decrypt, plaintext, got)?;
+        Ok(encrypts && encrypts_by_tables && decrypts)
     }
-    try_both(rt, name, s, mode, e, &key, iv, plain, cipher, got)
-}
 
-// Whether an entry is well formed and right in both directions and by both engines; where not, that is reported.
-pub fn try_entry(rt: &impl Print, name: &[u8], s: &[u8], mode: u8, e: Entry) -> io::Result<bool> {
-    let n = text_bytes(mode, e.plain);
-    if n == 0 {
-        report::say_entry(rt, name, e.section, s, e.count)?;
-        text_print::say(
-            rt,
-            b"the plaintext is missing or has another length than whole blocks of 16 bytes\n",
-        )?;
-        return Ok(false);
+    // Whether an entry is well formed and right in both directions and by both engines; where not, that is reported.
+    fn passes(&self, e: Entry) -> io::Result<bool> {
+        let Some(n) = text_bytes(self.mode, e.plaintext.unwrap_or(b"")) else {
+            self.report(e, Fault::Plaintext)?;
+            return Ok(false);
+        };
+        let mut plaintext = [0; TEXT_MAX_BYTES];
+        let mut ciphertext = [0; TEXT_MAX_BYTES];
+        let mut got = [0; TEXT_MAX_BYTES];
+        self.try_texts(e, &mut plaintext[..n], &mut ciphertext[..n], &mut got[..n])
     }
-    let mut plain = [0u8; TEXT_MAX_BYTES];
-    let mut cipher = [0u8; TEXT_MAX_BYTES];
-    let mut got = [0u8; TEXT_MAX_BYTES];
-    try_texts(
-        rt,
-        name,
-        s,
-        mode,
-        e,
-        &mut plain[..n],
-        &mut cipher[..n],
-        &mut got[..n],
-    )
+
+    fn entry(&mut self, e: Entry) -> io::Result<()> {
+        let passed = self.passes(e)?;
+        self.tally.add(e.section, passed);
+        Ok(())
+    }
+
+    fn bad_line(&mut self, at: usize) -> io::Result<()> {
+        self.tally.add_fault();
+        let rt = self.rt;
+        println!(rt;
+            "{}: the line at byte {at} has no name that is known, or a value that is there already",
+            self.name
+        )
+    }
+
+    // Tries every entry of the file's text.
+    pub fn run(&mut self, text: &[u8]) -> io::Result<()> {
+        for found in Entries::<Entry>::new(text) {
+            match found {
+                Found::Entry(e) => self.entry(e)?,
+                Found::BadLine(at) => self.bad_line(at)?,
+                Found::Nothing => {}
+            }
+        }
+        Ok(())
+    }
 }

@@ -7,12 +7,14 @@
 
 ghost use Rattle.std.specs.Prelude.{◌≡◌, length};
 
-mod file;
+mod entry;
 mod trial;
 
-use file::Tally;
 use std::io;
 use std::rt::Files;
+use trial::{Tally, Trials};
+
+const FILE_MAX_BYTES: usize = 16384;
 
 // The digest of a million bytes 61, the third example of the standard's publisher.
 const MILLION_DIGEST: [u8; 32] = [
@@ -32,55 +34,62 @@ fn million_passes(rt: &impl Print) -> io::Result<bool> {
     let message = million_bytes();
     let expected = MILLION_DIGEST;
     let got = sha_hash::sha256(&message);
-    trial::judge(rt, b"a million bytes 61", &expected, &got)
+    trial::judge(rt, "a million bytes 61", &expected, &got)
+}
+
+// Tries every entry of the file of that name.
+fn try_file<'a>(rt: &'a (impl Print + Files), name: &'a str) -> io::Result<Tally> {
+    let mut trials = Trials {
+        rt,
+        name,
+        tally: Tally::default(),
+    };
+    let mut buf = [0; FILE_MAX_BYTES];
+    match vector_files::read_file(rt, name, &mut buf) {
+        Ok(text) => trials.run(text)?,
+        Err(fault) => {
+            trials.tally.add_fault();
+            println!(rt; "{name}: {fault}")?;
+        }
+    }
+    Ok(trials.tally)
 }
 
 // The entries that passed, out of those that should be there.
-fn say_passed(rt: &impl Print, name: &[u8], passed: u64, wanted: u64) -> io::Result<()> {
-    text_print::say(rt, name)?;
-    text_print::say(rt, b": ")?;
-    text_print::say_number(rt, passed)?;
-    text_print::say(rt, b" of ")?;
-    text_print::say_number(rt, wanted)?;
-    text_print::say(rt, b"\n")
+fn say_passed(rt: &impl Print, name: &str, passed: u64, wanted: u64) -> io::Result<()> {
+    println!(rt; "{name}: {passed} of {wanted}")
 }
 
 // One file and the entries that it should have. A file with another number of entries has a fault.
-fn run(rt: &(impl Print + Files), name: &[u8], wanted: u64) -> io::Result<Tally> {
-    let t = file::run_file(rt, name)?;
-    say_passed(rt, name, t.passed, wanted)?;
-    if t.found == wanted {
-        return Ok(t);
+fn run(rt: &(impl Print + Files), name: &str, wanted: u64) -> io::Result<Tally> {
+    let mut t = try_file(rt, name)?;
+    say_passed(rt, name, t.entries.passed, wanted)?;
+    if t.entries.found != wanted {
+        println!(rt; "{name} has {} entries", t.entries.found)?;
+        t.add_fault();
     }
-    text_print::say(rt, name)?;
-    text_print::say(rt, b" has ")?;
-    text_print::say_number(rt, t.found)?;
-    text_print::say(rt, b" entries\n")?;
-    Ok(file::with_fault(t))
+    Ok(t)
 }
 
 fn say_total(rt: &impl Print, passed: u64, wanted: u64, faults: u64) -> io::Result<()> {
-    say_passed(rt, b"total", passed, wanted)?;
-    text_print::say(rt, b"faults in the files: ")?;
-    text_print::say_number(rt, faults)?;
-    text_print::say(rt, b"\n")?;
+    say_passed(rt, "total", passed, wanted)?;
+    println!(rt; "faults in the files: {faults}")?;
     if passed == wanted && faults == 0 {
-        text_print::say(rt, b"Every vector passed.\n")
+        println!(rt; "Every vector passed.")
     } else {
-        text_print::say(rt, b"FAILED: not every vector passed.\n")
+        println!(rt; "FAILED: not every vector passed.")
     }
 }
 
 fn main(rt: HostRuntime) -> io::Result<()> {
-    text_print::say(
-        &rt,
-        b"SHA-256, messages of whole bytes, digests of 32 bytes. An entry passes where the digest is its own.\n",
+    println!(&rt;
+        "SHA-256, messages of whole bytes, digests of 32 bytes. An entry passes where the digest is its own."
     )?;
-    let a = run(&rt, b"FIPS180.rsp", 2)?;
-    let b = run(&rt, b"SHA256ShortMsg.rsp", 65)?;
-    let m = file::more(0, million_passes(&rt)?);
-    say_passed(&rt, b"a million bytes 61", m, 1)?;
-    let files = std::num::wrapping_add_u64(a.passed, b.passed);
-    let faults = std::num::wrapping_add_u64(a.faults, b.faults);
-    say_total(&rt, std::num::wrapping_add_u64(files, m), 68, faults)
+    let a = run(&rt, "FIPS180.rsp", 2)?;
+    let b = run(&rt, "SHA256ShortMsg.rsp", 65)?;
+    let m = u64::from(million_passes(&rt)?);
+    say_passed(&rt, "a million bytes 61", m, 1)?;
+    let passed = a.entries.passed.wrapping_add(b.entries.passed);
+    let faults = a.faults.wrapping_add(b.faults);
+    say_total(&rt, passed.wrapping_add(m), 68, faults)
 }

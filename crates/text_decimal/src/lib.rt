@@ -8,47 +8,35 @@ ghost use Rattle.text_decimal.specs.Decimal.{digit_of, number_of};
 // The largest number.
 pub const MOST: usize = 1024;
 
-// What a word that is no number is read as.
-pub const NO_NUMBER: usize = 9999;
-
 // The most digits.
 const MOST_DIGITS: usize = 4;
 
-// What a character is worth as a digit; 10 where it is none.
-fn digit(c: u8) -> usize
+// What a character is worth as a digit, where it is one.
+#[tactic(auto, unfolding(crate::specs::Decimal::is_digit))]
+fn digit(c: u8) -> Option<usize>
     ensures { result ≡ digit_of c }
 {
-    if c < b'0' {
-        return 10;
+    match c {
+        b'0'..=b'9' => Some((c - b'0') as usize),
+        _ => None,
     }
-    if b'9' < c {
-        return 10;
-    }
-    (c - b'0') as usize
 }
 
-// The number that a word spells, or NO_NUMBER.
-pub fn number(w: &[u8]) -> usize
+// The number that a word spells, where it is one.
+#[tactic(auto, using(crate::proofs::Facts::read_over))]
+pub fn number(w: &[u8]) -> Option<usize>
     ensures { result ≡ number_of w.now }
 {
-    if w.len() == 0 {
-        return NO_NUMBER;
-    }
-    if w.len() > MOST_DIGITS {
-        return NO_NUMBER;
+    if w.is_empty() || w.len() > MOST_DIGITS {
+        return None;
     }
     let mut n = 0;
-    let mut i = 0;
-    while i < w.len() {
-        let d = digit(w[i]);
-        if d > 9 {
-            return NO_NUMBER;
-        }
+    for c in w {
+        let d = digit(*c)?;
         n = n * 10 + d;
         if n > MOST {
-            return NO_NUMBER;
+            return None;
         }
-        i += 1;
     }
-    n
+    Some(n)
 }

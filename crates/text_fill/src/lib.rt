@@ -17,11 +17,9 @@ pub fn fill(buf: &mut [u8], first: u8, step: u8)
     ensures { buf.new ≡ stepped first step (length buf.old) }
 {
     let mut b = first;
-    let mut i = 0;
-    while i < buf.len() {
-        buf[i] = b;
-        b = std::num::wrapping_add_u8(b, step);
-        i += 1;
+    for x in buf.iter_mut() {
+        *x = b;
+        b = b.wrapping_add(step);
     }
 }
 
@@ -36,5 +34,5 @@ pub fn bounded(n: usize, buf: &[u8]) -> usize
     ensures prefix_len { IsPrefixLen result buf.now }
     ensures value { result ≡ min n (length buf.now) }
 {
-    if n < buf.len() { n } else { buf.len() }
+    n.min(buf.len())
 }

@@ -1,79 +1,90 @@
 // Lines of standard input, for the soft card.
 // Every length is in bytes.
-// Proved: every function is safe and ends.
+// Proved: every function is safe and ends, and a line that is read has no more bytes than it may have.
 #![tactic(auto)]
 
-use std::io;
+ghost use Rattle.std.specs.Prelude.{◌≤◌, length, IfOk, IfSome};
+
+use std::alloc::{AllocError, AllocFailed, Global};
+use std::error::Error;
 use std::io::Read;
+use std::{fmt, io};
 
-// What was read: whether there was a line at all, its length, and whether more of it was dropped.
-#[derive(Clone, Copy)]
-pub struct Line {
-    pub found: bool,
-    pub len: usize,
-    pub dropped: bool,
+// Why a line is not read: it has more bytes than it may have, or the input or the memory failed.
+#[derive(Debug, Drop)]
+pub enum LineError {
+    TooLong,
+    Io(io::Error),
 }
 
-// The next byte of the input, where there is one.
-#[derive(Clone, Copy)]
-struct Next {
-    found: bool,
-    byte: u8,
-}
-
-fn next_byte(input: &mut impl Read) -> io::Result<Next> {
-    let mut one = [0u8; 1];
-    let got = input.read(&mut one)?;
-    Ok(Next {
-        found: got == 1,
-        byte: one[0],
-    })
-}
-
-// Puts a byte into buf where there is room for it, and tells whether there was.
-fn keep(buf: &mut [u8], at: usize, b: u8) -> bool {
-    if at < buf.len() {
-        buf[at] = b;
-        return true;
+impl fmt::Display for LineError {
+    fn fmt<W: fmt::Write>(&self, f: &mut fmt::Formatter<W>) -> fmt::Result {
+        match self {
+            LineError::TooLong => f.write_str("the line is too long"),
+            LineError::Io(error) => write!(f, "{error}"),
+        }
     }
-    false
 }
 
-// Reads a line of the input, up to its line feed, and drops what buf has no room for.
+impl Error for LineError {}
+
+impl From<io::Error> for LineError {
+    fn from(error: io::Error) -> LineError {
+        LineError::Io(error)
+    }
+}
+
+impl From<AllocFailed<u8>> for LineError {
+    fn from(error: AllocFailed<u8>) -> LineError {
+        LineError::Io(io::Error::from(AllocError::from(error)))
+    }
+}
+
+// Reads a line of the input, without the line feed that ends it; None where the input has ended.
+// A line of more than `most_bytes` is read to its end and dropped.
 // The input is read byte by byte, so nothing behind the line feed is taken from it.
-// After a read that failed, buf holds what was read of the line before it.
-pub fn read_line(input: &mut impl Read, buf: &mut [u8]) -> io::Result<Line> {
-    let mut len = 0;
+pub fn read_line(
+    alloc: Global,
+    input: &mut impl Read,
+    most_bytes: usize,
+) -> Result<Option<Vec<u8>>, LineError>
+    ensures { IfOk result (λ read. IfSome read (λ line. length line.items ≤ most_bytes)) }
+{
+    let mut line = Vec::new(alloc);
     let mut found = false;
-    let mut dropped = false;
-    let mut left = usize::MAX;
-    while left > 0 {
-        let next = next_byte(input)?;
-        if !next.found {
-            return Ok(Line {
-                found,
-                len,
-                dropped,
-            });
-        }
+    let mut long = false;
+    for byte in input.bytes() {
+        let byte = byte?;
         found = true;
-        if next.byte == b'\n' {
-            return Ok(Line {
-                found,
-                len,
-                dropped,
-            });
+        if byte == b'\n' {
+            break;
         }
-        if keep(buf, len, next.byte) {
-            len = std::num::wrapping_add_usize(len, 1);
+        if line.len() < most_bytes {
+            line.push(byte)?;
         } else {
-            dropped = true;
+            long = true;
         }
-        left -= 1;
     }
-    Ok(Line {
-        found,
-        len,
-        dropped,
-    })
+    if long {
+        return Err(LineError::TooLong);
+    }
+    Ok(found.then_some(line))
+}
+
+#[cfg(test)]
+mod tests {
+    use super::*;
+    use std::test::Fail;
+
+    // Two lines, the second with no line feed and too long, and then the end.
+    #[test]
+    fn lines_are_read(rt: HostRuntime) -> Result<(), Fail> {
+        let mut input: &[u8] = b"ab\nlonger";
+        let line = read_line(rt.alloc(), &mut input, 2)?;
+        assert_eq!(rt; line.map(|line| line.len()), Some(2));
+        let long = read_line(rt.alloc(), &mut input, 2);
+        assert!(rt; matches!(&long, Err(LineError::TooLong)));
+        assert!(rt; read_line(rt.alloc(), &mut input, 2)?.is_none());
+        Ok(())
+    }
 }

@@ -1,76 +1,57 @@
-// What the programs write, to standard output: words, numbers, lengths and bytes.
+// What the programs write of lengths and bytes.
 // Lengths are in bytes; bytes are written in hexadecimal, two digits each, in capitals.
-// Each function writes all that it says, or answers with the error of the write that failed.
-// Proved: every function is safe and ends.
+// Proved: what bytes and lengths are written as.
 #![tactic(auto)]
 
-use std::io;
+ghost use Rattle.std.specs.Prelude.{Some};
+ghost use Rattle.text_print.specs.Text.{hex, length_text, bytes_text};
 
-pub fn say(rt: &impl Print, words: &[u8]) -> io::Result<()> {
-    rt.write_all(words)
-}
+use std::fmt;
 
-pub fn say_number(rt: &impl Print, n: u64) -> io::Result<()> {
-    rt.print(n)
-}
+// Bytes in hexadecimal.
+#[derive(Clone, Copy)]
+pub struct Hex<'a>(pub &'a [u8]);
 
-fn wide(b: u8) -> u64 {
-    b as u64
-}
+impl<'a> fmt::Display for Hex<'a> {
+    ghost output = { λ x. Some (hex x.0.now) };
 
-fn long(n: usize) -> u64 {
-    n as u64
-}
-
-pub fn say_byte_number(rt: &impl Print, b: u8) -> io::Result<()> {
-    say_number(rt, wide(b))
-}
-
-pub fn say_size(rt: &impl Print, n: usize) -> io::Result<()> {
-    say_number(rt, long(n))
-}
-
-// A length, with its unit.
-pub fn say_length(rt: &impl Print, n_bytes: usize) -> io::Result<()> {
-    say_size(rt, n_bytes)?;
-    if n_bytes == 1 {
-        say(rt, b" byte")
-    } else {
-        say(rt, b" bytes")
+    fn fmt<W: fmt::Write>(&self, f: &mut fmt::Formatter<W>) -> fmt::Result {
+        for b in self.0 {
+            let b = *b;
+            write!(f, "{b:02X}")?;
+        }
+        Ok(())
     }
 }
 
-// A number below 16 as a digit.
-fn digit(n: u8) -> u8 {
-    if n < 10 {
-        std::num::wrapping_add_u8(n, 48)
-    } else {
-        std::num::wrapping_add_u8(n, 55)
+// A length in bytes, with its unit.
+#[derive(Clone, Copy)]
+pub struct Length(pub usize);
+
+impl fmt::Display for Length {
+    ghost output = { λ x. Some (length_text x.0) };
+
+    fn fmt<W: fmt::Write>(&self, f: &mut fmt::Formatter<W>) -> fmt::Result {
+        let n = self.0;
+        let unit = if n == 1 { "byte" } else { "bytes" };
+        write!(f, "{n} {unit}")
     }
 }
 
-fn say_byte(rt: &impl Print, b: u8) -> io::Result<()> {
-    let two = [digit(b >> 4), digit(b & 15)];
-    say(rt, &two)
-}
+// Bytes with their number before them; where there are none, the number alone.
+#[derive(Clone, Copy)]
+pub struct Bytes<'a>(pub &'a [u8]);
 
-pub fn say_hex(rt: &impl Print, bytes: &[u8]) -> io::Result<()> {
-    let mut i = 0;
-    while i < bytes.len() {
-        say_byte(rt, bytes[i])?;
-        i += 1;
-    }
-    Ok(())
-}
+impl<'a> fmt::Display for Bytes<'a> {
+    ghost output = { λ x. Some (bytes_text x.0.now) };
 
-// A line with a name, a length and the bytes.
-pub fn say_bytes(rt: &impl Print, name: &[u8], bytes: &[u8]) -> io::Result<()> {
-    say(rt, name)?;
-    say(rt, b" ")?;
-    say_length(rt, bytes.len())?;
-    if bytes.len() > 0 {
-        say(rt, b": ")?;
-        say_hex(rt, bytes)?;
+    fn fmt<W: fmt::Write>(&self, f: &mut fmt::Formatter<W>) -> fmt::Result {
+        let bytes = self.0;
+        let length = Length(bytes.len());
+        if bytes.is_empty() {
+            return write!(f, "{length}");
+        }
+        let hex = Hex(bytes);
+        write!(f, "{length}: {hex}")
     }
-    say(rt, b"\n")
 }

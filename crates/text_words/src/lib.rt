@@ -1,17 +1,9 @@
 // A line of text for the soft card: its words, which have spaces or tabs between them.
-// Every place and length is in bytes.
 // Proved: words, their number and whether a line is a comment are as defined, for any bytes.
 #![tactic(auto)]
 
-ghost use Rattle.std.specs.Prelude.{◌≡◌, cond, ◌+◌, ◌-◌, ◌≤◌, length, take, drop};
-ghost use Rattle.text_words.specs.Words.{is_blank, blanks, letters, word_of, word_count, is_comment, line_bytes};
-
-// A part of a line: from byte `start` up to byte `end`, which is not in it.
-#[derive(Clone, Copy)]
-pub struct WordSpan {
-    pub start: usize,
-    pub end: usize,
-}
+ghost use Rattle.std.specs.Prelude.{◌≡◌, take, drop};
+ghost use Rattle.text_words.specs.Words.{is_blank, letters, from_word, word_of, word_count, is_comment, line_bytes};
 
 fn is_blank(c: u8) -> bool
     ensures { result ≡ is_blank c }
@@ -19,68 +11,50 @@ fn is_blank(c: u8) -> bool
     c == b' ' || c == b'\t'
 }
 
-// How many bytes a line has without a carriage return at its end.
-pub fn trimmed(s: &[u8]) -> usize
-    ensures { result ≡ line_bytes s.now }
+// A line without the blanks that it begins with.
+fn from_word(s: &[u8]) -> &[u8]
+    ensures { result.now ≡ from_word s.now }
 {
-    let n = s.len();
-    if n == 0 {
-        return 0;
+    for (i, c) in s.iter().enumerate() {
+        if !is_blank(*c) {
+            return &s[i..];
+        }
     }
-    let last = n - 1;
-    if s[last] == b'\r' { last } else { n }
+    &[]
 }
 
-// The place after the blanks that begin at `at`.
-fn behind_blanks(s: &[u8], at: usize) -> usize
-    requires { at ≤ length s.now }
-    ensures { (result ≡ at + blanks (drop at s.now)) × (result ≤ length s.now) }
+// The characters that a line begins with up to a blank, and the line after them.
+fn split_word(s: &[u8]) -> (&[u8], &[u8])
+    ensures word { result.0.now ≡ take (letters s.now) s.now }
+    ensures rest { result.1.now ≡ drop (letters s.now) s.now }
 {
-    let mut i = at;
-    while i < s.len() {
-        if !is_blank(s[i]) {
-            return i;
+    for (i, c) in s.iter().enumerate() {
+        if is_blank(*c) {
+            return s.split_at(i);
         }
-        i += 1;
     }
-    i
+    (s, &[])
 }
 
-// The place after the word that begins at `at`.
-fn behind_word(s: &[u8], at: usize) -> usize
-    requires { at ≤ length s.now }
-    ensures { (result ≡ at + letters (drop at s.now)) × (result ≤ length s.now) }
+// A line without a carriage return at its end.
+pub fn without_return(s: &[u8]) -> &[u8]
+    ensures { result.now ≡ take (line_bytes s.now) s.now }
 {
-    let mut i = at;
-    while i < s.len() {
-        if is_blank(s[i]) {
-            return i;
-        }
-        i += 1;
+    match s {
+        [front @ .., b'\r'] => front,
+        _ => s,
     }
-    i
 }
 
 // Word number k of a line, from 0; where there are fewer, none of its bytes.
-pub fn word(s: &[u8], k: usize) -> WordSpan
-    ensures start_le_end { (result.start ≤ result.end) × (result.end ≤ length s.now) }
-    ensures s_value { take (result.end - result.start) (drop result.start s.now) ≡ word_of k s.now }
+pub fn nth_word(s: &[u8], k: usize) -> &[u8]
+    ensures { result.now ≡ word_of k s.now }
 {
-    let mut at = behind_blanks(s, 0);
-    let mut i = 0;
-    while i < k {
-        let end = behind_word(s, at);
-        at = behind_blanks(s, end);
-        i += 1;
+    let mut rest = from_word(s);
+    for _i in 0..k {
+        rest = from_word(split_word(rest).1);
     }
-    let end = behind_word(s, at);
-    WordSpan { start: at, end }
-}
-
-fn one(b: bool) -> usize
-    ensures { (result ≡ cond b 1 0) × (result ≤ 1) }
-{
-    if b { 1 } else { 0 }
+    split_word(rest).0
 }
 
 // How many words a line has.
@@ -89,12 +63,12 @@ pub fn count(s: &[u8]) -> usize
 {
     let mut n = 0;
     let mut blank_before = true;
-    let mut i = 0;
-    while i < s.len() {
-        let blank = is_blank(s[i]);
-        n += one(blank_before & !blank);
+    for c in s {
+        let blank = is_blank(*c);
+        if blank_before && !blank {
+            n += 1;
+        }
         blank_before = blank;
-        i += 1;
     }
     n
 }
@@ -103,6 +77,5 @@ pub fn count(s: &[u8]) -> usize
 pub fn is_comment(s: &[u8]) -> bool
     ensures { result ≡ is_comment s.now }
 {
-    let at = behind_blanks(s, 0);
-    if at < s.len() { s[at] == b'#' } else { false }
+    matches!(from_word(s), [b'#', ..])
 }

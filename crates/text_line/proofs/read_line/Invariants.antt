@@ -1,6 +1,8 @@
--- `read_line` is safe and ends. The measure is the number of turns left.
+-- `read_line`: invariant: the line has no more bytes than it may have.
 -- Assumes nothing.
+use Prim.Native.Nat.{◌≤◌}
+use lib.ListN.{length}
 use Rattle.text_line.proofs.read_line.Given as goal
 
-abbrev pub decreases-loop-left : goal.decreases-loop-left
-decreases-loop-left g l = l.left
+abbrev pub invariant-loop-byte : goal.invariant-loop-byte
+invariant-loop-byte g l = length l.line.items ≤ l.most_bytes

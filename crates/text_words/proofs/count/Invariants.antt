@@ -1,13 +1,11 @@
--- `count` meets its contract. Invariant: the words counted and those that begin from the place on are all words.
+-- `count` meets its contract. The loop's invariant: the words counted and those that begin later are all words.
 -- Assumes nothing.
-use Rattle.text_words.proofs.count.Given as goal
-use mathlib.Core.Path.{◌≡◌}
-use Prim.Native.Nat.{◌+◌, ◌-◌, ◌≤◌}
-use lib.ListN.{length, drop}
+use Rattle.std.proofs.Common.{◌≡◌, ◌+◌, ◌≤◌, drop}
 use Rattle.text_words.specs.Words.{words_behind, word_count}
+use Rattle.text_words.proofs.count.Given as goal
 
-abbrev pub invariant-loop-i : goal.invariant-loop-i
-invariant-loop-i l = (word_count l.s ≡ l.n + words_behind l.blank_before (drop l.i l.s)) × ((l.n ≤ l.i) × (l.i ≤ length l.s))
-
-abbrev pub decreases-loop-i : goal.decreases-loop-i
-decreases-loop-i l = length l.s - l.i
+abbrev pub invariant-loop-c : goal.invariant-loop-c
+invariant-loop-c l = record {
+  left : word_count l.s ≡ l.n + words_behind l.blank_before (drop l.c-index l.s);
+  most : l.n ≤ l.c-index;
+}
