@@ -4,21 +4,15 @@ use Rattle.std.specs.Prelude.{ℕ, ◌≡◌, List, length}
 use Rattle.octets.specs.Bytes.{written}
 use Rattle.sound.specs.declared.Answer.{Answer}
 use Rattle.channel_rules.specs.Terminal.{Out}
-use Rattle.record_write.specs.declared.Written.{Written}
 use Rattle.rules.specs.Engine as rules
 use Rattle.soft_card_bytes.specs.Flat.{card_flat, session_flat}
 use Rattle.soft_byte_calls.specs.declared.CardGiven.{CardGiven}
 use Rattle.soft_byte_calls.specs.declared.CardAnswered.{CardAnswered}
 use Rattle.soft_byte_calls.specs.declared.Sealed.{Sealed}
-use Rattle.soft_byte_calls.specs.declared.CountAnswered.{CountAnswered}
 
 -- RESET and READ write no bytes
 abbrev pub answer_flat : Answer → CardGiven
 answer_flat a = record { refusal = a.refusal; card = card_flat a.card }
-
--- WRITE: what is told, as the operation over a card tells it
-abbrev pub written_of : CountAnswered → Written
-written_of r = record { refusal = r.refusal; count = r.count }
 
 -- ANSWER: refusal, count, fault offset, next card, and every byte of the buffer
 abbrev pub report_flat : rules.AnswerOut → CardAnswered

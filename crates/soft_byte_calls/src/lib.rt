@@ -16,12 +16,15 @@ ghost use Rattle.rules.specs.Engine.{ask_out, answer_out};
 ghost use Rattle.rules.specs.Reports.{AskDid};
 ghost use Rattle.soft_card_bytes.specs.Flat.{card_flat};
 ghost use Rattle.soft_card_bytes.specs.Places.{card_at, session_at};
-ghost use Rattle.soft_byte_calls.specs.Calls.{answer_flat, written_of, CardDid, SessionDid};
+ghost use Rattle.soft_byte_calls.specs.Calls.{answer_flat, CardDid, SessionDid};
 
 use card::Card;
+use record_write::Written;
 use rules::Asked;
 use soft_card_bytes::{CARD_BYTES, SESSION_BYTES};
 
+// The reports below have a number beside what they tell, and are no Result: on a refusal too the engine tells the next card or session,
+// and `answer_flat`, `CardDid` and `SessionDid` say which.
 // What RESET and READ give: the refusal's number or 0, the next card.
 #[derive(Clone, Copy)]
 pub struct CardGiven {
@@ -44,13 +47,6 @@ pub struct Sealed {
     pub refusal: u8,
     pub count: usize,
     pub session: [u8; SESSION_BYTES],
-}
-
-// What WRITE gives: the refusal's number or 0, the bytes written.
-#[derive(Clone, Copy)]
-pub struct CountAnswered {
-    pub refusal: u8,
-    pub count: usize,
 }
 
 // What WALK gives: the refusal's number or 0, the fields counted, the fault offset or 0.
@@ -112,15 +108,11 @@ pub fn answer(bytes: [u8; CARD_BYTES], cmd: &[u8], supply: &[u8], buf: &mut [u8]
     }
 }
 
-pub fn write(bytes: [u8; CARD_BYTES], buf: &mut [u8]) -> CountAnswered
-    ensures { WroteRecord (card_at bytes) (written_of result) buf.old buf.new }
+pub fn write(bytes: [u8; CARD_BYTES], buf: &mut [u8]) -> Written
+    ensures { WroteRecord (card_at bytes) result buf.old buf.new }
 {
     let found = soft_card_bytes::card_of(bytes);
-    let r = record_write::write(found, buf);
-    CountAnswered {
-        refusal: r.refusal,
-        count: r.count,
-    }
+    record_write::write(found, buf)
 }
 
 pub fn read(stored: &[u8]) -> CardGiven

@@ -12,9 +12,10 @@ ghost use Rattle.soft_card_bytes.specs.Flat.{card_flat, session_flat};
 ghost use Rattle.soft_card_bytes.specs.Places.{identity_at, pins_at, pairing_at, path_at, keys_at, channel_at, tap_at, card_at, session_at};
 
 pub use card::{CARD_BYTES, SESSION_BYTES};
-use card::{Card, Channel, Identity, Keys, Pairing, Path, Pins, SLOTS_BYTES, Tap};
+use card::{Card, Channel, Identity, Keys, Pairing, Path, Pins, Tap};
 use channel_rules::Session;
 pub use parts::fill;
+use parts::part;
 
 // Where the parts of the record begin, each after the part before it, and the fields after the first of their part.
 pub const IDENTITY_AT: usize = 1;
@@ -61,23 +62,18 @@ pub const SESSION_IV_AT: usize = SESSION_MAC_KEY_AT + card::KEY_BYTES;
 fn identity_of(s: [u8; CARD_BYTES]) -> Identity
     ensures { result ≡ identity_at s }
 {
-    let mut uid = [0u8; card::UID_BYTES];
-    let mut public_key = [0u8; card::PUBLIC_KEY_BYTES];
-    fill(&mut uid, &s, IDENTITY_AT);
-    fill(&mut public_key, &s, IDENTITY_AT + card::UID_BYTES);
-    Identity { uid, public_key }
+    Identity {
+        uid: part(&s, IDENTITY_AT),
+        public_key: part(&s, IDENTITY_AT + card::UID_BYTES),
+    }
 }
 
 fn pins_of(s: [u8; CARD_BYTES]) -> Pins
     ensures { result ≡ pins_at s }
 {
-    let mut pin = [0u8; card::PIN_BYTES];
-    let mut puk = [0u8; card::PUK_BYTES];
-    fill(&mut pin, &s, PINS_AT);
-    fill(&mut puk, &s, PINS_AT + card::PIN_BYTES);
     Pins {
-        pin,
-        puk,
+        pin: part(&s, PINS_AT),
+        puk: part(&s, PINS_AT + card::PIN_BYTES),
         pin_tries: s[PIN_TRIES_AT],
         puk_tries: s[PUK_TRIES_AT],
         verified: s[VERIFIED_AT],
@@ -87,18 +83,11 @@ fn pins_of(s: [u8; CARD_BYTES]) -> Pins
 fn pairing_of(s: [u8; CARD_BYTES]) -> Pairing
     ensures { result ≡ pairing_at s }
 {
-    let mut secret = [0u8; card::KEY_BYTES];
-    let mut content = [0u8; SLOTS_BYTES];
-    let mut expected = [0u8; card::KEY_BYTES];
-    fill(&mut secret, &s, PAIRING_AT);
-    fill(&mut content, &s, SLOTS_AT);
-    fill(&mut expected, &s, PENDING_AT + 1);
-    let slots = record_spans::slots_from(content);
     Pairing {
-        secret,
-        slots,
+        secret: part(&s, PAIRING_AT),
+        slots: record_spans::slots_from(part(&s, SLOTS_AT)),
         pending: s[PENDING_AT],
-        expected,
+        expected: part(&s, PENDING_AT + 1),
     }
 }
 
@@ -106,51 +95,40 @@ fn path_of(s: [u8; CARD_BYTES], at: usize) -> Path
     requires { at + whole_path_bytes ≤ card_bytes }
     ensures { result ≡ path_at at s }
 {
-    let mut bytes = [0u8; card::PATH_MAX_BYTES];
-    fill(&mut bytes, &s, at + 1);
-    Path { len: s[at], bytes }
+    Path {
+        len: s[at],
+        bytes: part(&s, at + 1),
+    }
 }
 
 fn keys_of(s: [u8; CARD_BYTES]) -> Keys
     ensures { result ≡ keys_at s }
 {
-    let mut uid = [0u8; card::KEY_BYTES];
-    fill(&mut uid, &s, KEYS_AT + 1);
-    let current = path_of(s, CURRENT_AT);
-    let pinless = path_of(s, PINLESS_AT);
     Keys {
         kind: s[KEYS_AT],
-        uid,
-        current,
-        pinless,
+        uid: part(&s, KEYS_AT + 1),
+        current: path_of(s, CURRENT_AT),
+        pinless: path_of(s, PINLESS_AT),
     }
 }
 
 fn channel_of(s: [u8; CARD_BYTES]) -> Channel
     ensures { result ≡ channel_at s }
 {
-    let mut enc_key = [0u8; card::KEY_BYTES];
-    let mut mac_key = [0u8; card::KEY_BYTES];
-    let mut iv = [0u8; card::IV_BYTES];
-    fill(&mut enc_key, &s, ENC_KEY_AT);
-    fill(&mut mac_key, &s, MAC_KEY_AT);
-    fill(&mut iv, &s, IV_AT);
     Channel {
         stage: s[CHANNEL_AT],
-        enc_key,
-        mac_key,
-        iv,
+        enc_key: part(&s, ENC_KEY_AT),
+        mac_key: part(&s, MAC_KEY_AT),
+        iv: part(&s, IV_AT),
     }
 }
 
 fn tap_of(s: [u8; CARD_BYTES]) -> Tap
     ensures { result ≡ tap_at s }
 {
-    let mut bytes = [0u8; card::TAP_MAX_BYTES];
-    fill(&mut bytes, &s, TAP_AT + 1);
     Tap {
         len: s[TAP_AT],
-        bytes,
+        bytes: part(&s, TAP_AT + 1),
     }
 }
 
@@ -158,21 +136,14 @@ fn tap_of(s: [u8; CARD_BYTES]) -> Tap
 pub fn card_of(bytes: [u8; CARD_BYTES]) -> Card
     ensures { (card_flat result ≡ bytes) × (result ≡ card_at bytes) }
 {
-    let initialised = bytes[0];
-    let identity = identity_of(bytes);
-    let pins = pins_of(bytes);
-    let pairing = pairing_of(bytes);
-    let keys = keys_of(bytes);
-    let channel = channel_of(bytes);
-    let tap = tap_of(bytes);
     Card {
-        initialised,
-        identity,
-        pins,
-        pairing,
-        keys,
-        channel,
-        tap,
+        initialised: bytes[0],
+        identity: identity_of(bytes),
+        pins: pins_of(bytes),
+        pairing: pairing_of(bytes),
+        keys: keys_of(bytes),
+        channel: channel_of(bytes),
+        tap: tap_of(bytes),
     }
 }
 
@@ -180,15 +151,9 @@ pub fn card_of(bytes: [u8; CARD_BYTES]) -> Card
 pub fn session_of(bytes: [u8; SESSION_BYTES]) -> Session
     ensures { (session_flat result ≡ bytes) × (result ≡ session_at bytes) }
 {
-    let mut enc_key = [0u8; card::KEY_BYTES];
-    let mut mac_key = [0u8; card::KEY_BYTES];
-    let mut iv = [0u8; card::IV_BYTES];
-    fill(&mut enc_key, &bytes, 0);
-    fill(&mut mac_key, &bytes, SESSION_MAC_KEY_AT);
-    fill(&mut iv, &bytes, SESSION_IV_AT);
     Session {
-        enc_key,
-        mac_key,
-        iv,
+        enc_key: part(&bytes, 0),
+        mac_key: part(&bytes, SESSION_MAC_KEY_AT),
+        iv: part(&bytes, SESSION_IV_AT),
     }
 }

@@ -27,10 +27,8 @@ fn with_identity(s: [u8; CARD_BYTES], x: Identity) -> [u8; CARD_BYTES]
     ensures { take identity_offset s ++ identity_flat x ≡ take pins_offset result }
 {
     let mut r = s;
-    let uid = x.uid;
-    let public_key = x.public_key;
-    put(&mut r, IDENTITY_AT, &uid);
-    put(&mut r, IDENTITY_AT + card::UID_BYTES, &public_key);
+    put(&mut r, IDENTITY_AT, &x.uid);
+    put(&mut r, IDENTITY_AT + card::UID_BYTES, &x.public_key);
     r
 }
 
@@ -38,11 +36,9 @@ fn with_pins(s: [u8; CARD_BYTES], x: Pins) -> [u8; CARD_BYTES]
     ensures { take pins_offset s ++ pins_flat x ≡ take pairing_offset result }
 {
     let mut r = s;
-    let pin = x.pin;
-    let puk = x.puk;
     let numbers = [x.pin_tries, x.puk_tries, x.verified];
-    put(&mut r, PINS_AT, &pin);
-    put(&mut r, PINS_AT + card::PIN_BYTES, &puk);
+    put(&mut r, PINS_AT, &x.pin);
+    put(&mut r, PINS_AT + card::PIN_BYTES, &x.puk);
     put(&mut r, PIN_TRIES_AT, &numbers);
     r
 }
@@ -51,14 +47,11 @@ fn with_pairing(s: [u8; CARD_BYTES], x: Pairing) -> [u8; CARD_BYTES]
     ensures { take pairing_offset s ++ pairing_flat x ≡ take keys_offset result }
 {
     let mut r = s;
-    let secret = x.secret;
-    let slots = x.slots;
-    let expected = x.expected;
-    let content = record_fields::slots_bytes(slots);
-    put(&mut r, PAIRING_AT, &secret);
+    let content = record_fields::slots_bytes(x.slots);
+    put(&mut r, PAIRING_AT, &x.secret);
     put(&mut r, SLOTS_AT, &content);
     r[PENDING_AT] = x.pending;
-    put(&mut r, PENDING_AT + 1, &expected);
+    put(&mut r, PENDING_AT + 1, &x.expected);
     r
 }
 
@@ -67,9 +60,8 @@ fn with_path(s: [u8; CARD_BYTES], at: usize, x: Path) -> [u8; CARD_BYTES]
     ensures { take at s ++ path_flat x ≡ take (at + whole_path_bytes) result }
 {
     let mut r = s;
-    let bytes = x.bytes;
     r[at] = x.len;
-    put(&mut r, at + 1, &bytes);
+    put(&mut r, at + 1, &x.bytes);
     r
 }
 
@@ -77,9 +69,8 @@ fn with_keys(s: [u8; CARD_BYTES], x: Keys) -> [u8; CARD_BYTES]
     ensures { take keys_offset s ++ keys_flat x ≡ take channel_offset result }
 {
     let mut r = s;
-    let uid = x.uid;
     r[KEYS_AT] = x.kind;
-    put(&mut r, KEYS_AT + 1, &uid);
+    put(&mut r, KEYS_AT + 1, &x.uid);
     let a = with_path(r, CURRENT_AT, x.current);
     with_path(a, PINLESS_AT, x.pinless)
 }
@@ -88,13 +79,10 @@ fn with_channel(s: [u8; CARD_BYTES], x: Channel) -> [u8; CARD_BYTES]
     ensures { take channel_offset s ++ channel_flat x ≡ take tap_offset result }
 {
     let mut r = s;
-    let enc_key = x.enc_key;
-    let mac_key = x.mac_key;
-    let iv = x.iv;
     r[CHANNEL_AT] = x.stage;
-    put(&mut r, ENC_KEY_AT, &enc_key);
-    put(&mut r, MAC_KEY_AT, &mac_key);
-    put(&mut r, IV_AT, &iv);
+    put(&mut r, ENC_KEY_AT, &x.enc_key);
+    put(&mut r, MAC_KEY_AT, &x.mac_key);
+    put(&mut r, IV_AT, &x.iv);
     r
 }
 
@@ -102,9 +90,8 @@ fn with_tap(s: [u8; CARD_BYTES], x: Tap) -> [u8; CARD_BYTES]
     ensures { take tap_offset s ++ tap_flat x ≡ result }
 {
     let mut r = s;
-    let bytes = x.bytes;
     r[TAP_AT] = x.len;
-    put(&mut r, TAP_AT + 1, &bytes);
+    put(&mut r, TAP_AT + 1, &x.bytes);
     r
 }
 
@@ -126,11 +113,8 @@ pub fn session_bytes(x: Session) -> [u8; SESSION_BYTES]
     ensures { result ≡ session_flat x }
 {
     let mut r = [0u8; SESSION_BYTES];
-    let enc_key = x.enc_key;
-    let mac_key = x.mac_key;
-    let iv = x.iv;
-    put(&mut r, 0, &enc_key);
-    put(&mut r, SESSION_MAC_KEY_AT, &mac_key);
-    put(&mut r, SESSION_IV_AT, &iv);
+    put(&mut r, 0, &x.enc_key);
+    put(&mut r, SESSION_MAC_KEY_AT, &x.mac_key);
+    put(&mut r, SESSION_IV_AT, &x.iv);
     r
 }

@@ -4,11 +4,13 @@
 #![tactic(auto)]
 
 mod fault;
+mod refusal_names;
 mod status;
-mod supply;
+mod supply_names;
 mod words;
 
 pub use fault::say_fault;
-pub use status::{say_refusal, say_status};
-pub use supply::say_supply;
+pub use refusal_names::{Refusal, Refused};
+pub use status::StatusWord;
+pub use supply_names::Supply;
 pub use words::say_words;

@@ -1,192 +1,236 @@
-// The fields of a card's bytes, in the order of docs/LAYOUT.md, by name. A slot's two fields are once in the table of names, and the
-// slot's number is a part of the name, as in slot0.key.
+// The fields of a card's bytes, in the order of docs/LAYOUT.md, by name.
+ghost use Rattle.std.specs.Prelude.{◌≡◌, ◌+◌, ◌≤◌, take, drop, IfSome};
+
 use card::{
-    Card, IV_BYTES, KEY_BYTES, PATH_MAX_BYTES, PIN_BYTES, PUBLIC_KEY_BYTES, PUK_BYTES,
+    IV_BYTES, KEY_BYTES, PATH_MAX_BYTES, PIN_BYTES, PUBLIC_KEY_BYTES, PUK_BYTES, SLOT_BYTES,
     TAP_MAX_BYTES, UID_BYTES,
 };
-use soft_card_bytes::CARD_BYTES;
-use std::io;
-use text_print::say;
+use soft_card_bytes::{
+    CARD_BYTES, CHANNEL_AT, CURRENT_AT, ENC_KEY_AT, IDENTITY_AT, IV_AT, KEYS_AT, MAC_KEY_AT,
+    PAIRING_AT, PENDING_AT, PIN_TRIES_AT, PINLESS_AT, PINS_AT, PUK_TRIES_AT, SLOTS_AT, TAP_AT,
+    VERIFIED_AT,
+};
 
-// The rows of the table: each field's name, and its length in bytes.
-const ROWS: usize = 25;
-
-const NAMES: [u8; 210] =
-    *b"initialised uid public_key pin puk pin_tries puk_tries verified secret filled key pending expected key_kind key_uid current.len current.bytes pinless.len pinless.bytes stage enc_key mac_key iv tap.len tap.bytes";
-
-const LENGTHS: [usize; ROWS] = [
-    1,
-    UID_BYTES,
-    PUBLIC_KEY_BYTES,
-    PIN_BYTES,
-    PUK_BYTES,
-    1,
-    1,
-    1,
-    KEY_BYTES,
-    1,
-    KEY_BYTES,
-    1,
-    KEY_BYTES,
-    1,
-    KEY_BYTES,
-    1,
-    PATH_MAX_BYTES,
-    1,
-    PATH_MAX_BYTES,
-    1,
-    KEY_BYTES,
-    KEY_BYTES,
-    IV_BYTES,
-    1,
-    TAP_MAX_BYTES,
-];
-
-// The row of a slot's first field, and how many fields a slot has.
-const SLOT_ROW: usize = 9;
-
-const SLOT_ROWS: usize = 2;
-
-// The field after the slots, and how many fields there are.
-const BEHIND_SLOTS: usize = SLOT_ROW + SLOT_ROWS * Card::SLOTS;
-
-const FIELD_COUNT: usize = ROWS + SLOT_ROWS * Card::SLOTS - SLOT_ROWS;
-
-// How many bytes of a slot's name come before its number.
-const SLOT_NAME_BYTES: usize = 4;
-
-// Where a field lies, from the record's start on; a length of 0 means no field.
-#[derive(Clone, Copy)]
+// A field: its name, where it lies from the record's start on, and its length.
+#[derive(Clone, Copy, Debug)]
 pub struct Field {
+    pub name: &'static str,
     pub at: usize,
     pub len: usize,
 }
 
-// Whether field number k is a slot's, and the number of the slot.
-fn in_slot(k: usize) -> bool {
-    SLOT_ROW <= k && k < BEHIND_SLOTS
-}
+// The fields in their order.
+pub static FIELDS: [Field; 39] = [
+    Field {
+        name: "initialised",
+        at: 0,
+        len: 1,
+    },
+    Field {
+        name: "uid",
+        at: IDENTITY_AT,
+        len: UID_BYTES,
+    },
+    Field {
+        name: "public_key",
+        at: IDENTITY_AT + UID_BYTES,
+        len: PUBLIC_KEY_BYTES,
+    },
+    Field {
+        name: "pin",
+        at: PINS_AT,
+        len: PIN_BYTES,
+    },
+    Field {
+        name: "puk",
+        at: PINS_AT + PIN_BYTES,
+        len: PUK_BYTES,
+    },
+    Field {
+        name: "pin_tries",
+        at: PIN_TRIES_AT,
+        len: 1,
+    },
+    Field {
+        name: "puk_tries",
+        at: PUK_TRIES_AT,
+        len: 1,
+    },
+    Field {
+        name: "verified",
+        at: VERIFIED_AT,
+        len: 1,
+    },
+    Field {
+        name: "secret",
+        at: PAIRING_AT,
+        len: KEY_BYTES,
+    },
+    Field {
+        name: "slot0.filled",
+        at: SLOTS_AT,
+        len: 1,
+    },
+    Field {
+        name: "slot0.key",
+        at: SLOTS_AT + 1,
+        len: KEY_BYTES,
+    },
+    Field {
+        name: "slot1.filled",
+        at: SLOTS_AT + SLOT_BYTES,
+        len: 1,
+    },
+    Field {
+        name: "slot1.key",
+        at: SLOTS_AT + SLOT_BYTES + 1,
+        len: KEY_BYTES,
+    },
+    Field {
+        name: "slot2.filled",
+        at: SLOTS_AT + 2 * SLOT_BYTES,
+        len: 1,
+    },
+    Field {
+        name: "slot2.key",
+        at: SLOTS_AT + 2 * SLOT_BYTES + 1,
+        len: KEY_BYTES,
+    },
+    Field {
+        name: "slot3.filled",
+        at: SLOTS_AT + 3 * SLOT_BYTES,
+        len: 1,
+    },
+    Field {
+        name: "slot3.key",
+        at: SLOTS_AT + 3 * SLOT_BYTES + 1,
+        len: KEY_BYTES,
+    },
+    Field {
+        name: "slot4.filled",
+        at: SLOTS_AT + 4 * SLOT_BYTES,
+        len: 1,
+    },
+    Field {
+        name: "slot4.key",
+        at: SLOTS_AT + 4 * SLOT_BYTES + 1,
+        len: KEY_BYTES,
+    },
+    Field {
+        name: "slot5.filled",
+        at: SLOTS_AT + 5 * SLOT_BYTES,
+        len: 1,
+    },
+    Field {
+        name: "slot5.key",
+        at: SLOTS_AT + 5 * SLOT_BYTES + 1,
+        len: KEY_BYTES,
+    },
+    Field {
+        name: "slot6.filled",
+        at: SLOTS_AT + 6 * SLOT_BYTES,
+        len: 1,
+    },
+    Field {
+        name: "slot6.key",
+        at: SLOTS_AT + 6 * SLOT_BYTES + 1,
+        len: KEY_BYTES,
+    },
+    Field {
+        name: "slot7.filled",
+        at: SLOTS_AT + 7 * SLOT_BYTES,
+        len: 1,
+    },
+    Field {
+        name: "slot7.key",
+        at: SLOTS_AT + 7 * SLOT_BYTES + 1,
+        len: KEY_BYTES,
+    },
+    Field {
+        name: "pending",
+        at: PENDING_AT,
+        len: 1,
+    },
+    Field {
+        name: "expected",
+        at: PENDING_AT + 1,
+        len: KEY_BYTES,
+    },
+    Field {
+        name: "key_kind",
+        at: KEYS_AT,
+        len: 1,
+    },
+    Field {
+        name: "key_uid",
+        at: KEYS_AT + 1,
+        len: KEY_BYTES,
+    },
+    Field {
+        name: "current.len",
+        at: CURRENT_AT,
+        len: 1,
+    },
+    Field {
+        name: "current.bytes",
+        at: CURRENT_AT + 1,
+        len: PATH_MAX_BYTES,
+    },
+    Field {
+        name: "pinless.len",
+        at: PINLESS_AT,
+        len: 1,
+    },
+    Field {
+        name: "pinless.bytes",
+        at: PINLESS_AT + 1,
+        len: PATH_MAX_BYTES,
+    },
+    Field {
+        name: "stage",
+        at: CHANNEL_AT,
+        len: 1,
+    },
+    Field {
+        name: "enc_key",
+        at: ENC_KEY_AT,
+        len: KEY_BYTES,
+    },
+    Field {
+        name: "mac_key",
+        at: MAC_KEY_AT,
+        len: KEY_BYTES,
+    },
+    Field {
+        name: "iv",
+        at: IV_AT,
+        len: IV_BYTES,
+    },
+    Field {
+        name: "tap.len",
+        at: TAP_AT,
+        len: 1,
+    },
+    Field {
+        name: "tap.bytes",
+        at: TAP_AT + 1,
+        len: TAP_MAX_BYTES,
+    },
+];
 
-fn slot_of(k: usize) -> usize {
-    if k < SLOT_ROW {
-        return 0;
+impl Field {
+    // The field of that name.
+    pub fn named(name: &[u8]) -> Option<&'static Field>
+        ensures { IfSome result (λ f. f.now.name.now ≡ name.now) }
+    {
+        FIELDS.iter().find(|field| field.name.as_bytes() == name)
     }
-    (k - SLOT_ROW) / SLOT_ROWS
-}
 
-// The row of field number k.
-fn row_of(k: usize) -> usize {
-    if k < SLOT_ROW {
-        return k;
+    // Its bytes in a card's.
+    pub fn of<'a>(&self, card: &'a [u8; CARD_BYTES]) -> &'a [u8]
+        ensures { self.now.at + self.now.len ≤ CARD_BYTES → result.now ≡ take self.now.len (drop self.now.at card.now) }
+    {
+        card.get(self.at..self.at.wrapping_add(self.len))
+            .unwrap_or(&[])
     }
-    if k < BEHIND_SLOTS {
-        return SLOT_ROW + (k - SLOT_ROW) % SLOT_ROWS;
-    }
-    k - BEHIND_SLOTS + SLOT_ROW + SLOT_ROWS
-}
-
-// The length of field number k.
-fn len_of(k: usize) -> usize {
-    let lengths = LENGTHS;
-    let row = row_of(k);
-    if row < ROWS { lengths[row] } else { 0 }
-}
-
-// Whether a name begins as a slot's.
-fn is_slot(name: &[u8]) -> bool {
-    let n = text_fill::bounded(SLOT_NAME_BYTES, name);
-    octets::same(&name[..n], b"slot")
-}
-
-// Whether digits are a slot's number, with no zero before it.
-fn is_number(digits: &[u8], slot: usize) -> bool {
-    if digits.len() == 0 {
-        return false;
-    }
-    let shortest = digits[0] != b'0' || digits.len() == 1;
-    shortest && text_decimal::number(digits) == slot
-}
-
-// Whether a name is a slot's, with its number and after a dot this name of a field.
-fn is_slot_named(slot: usize, field: &[u8], name: &[u8]) -> bool {
-    if name.len() < field.len() {
-        return false;
-    }
-    let front = name.len() - field.len();
-    if front <= SLOT_NAME_BYTES {
-        return false;
-    }
-    let start = SLOT_NAME_BYTES;
-    let dot = front - 1;
-    let named = is_slot(name) && octets::same(&name[front..], field);
-    named && name[dot] == b'.' && is_number(&name[start..dot], slot)
-}
-
-// Whether field number k has this name.
-fn is_named(k: usize, name: &[u8]) -> bool {
-    let table = NAMES;
-    let w = text_words::word(&table, row_of(k));
-    let start = w.start;
-    let end = w.end;
-    if in_slot(k) {
-        is_slot_named(slot_of(k), &table[start..end], name)
-    } else {
-        octets::same(&table[start..end], name)
-    }
-}
-
-fn say_name(rt: &impl Print, k: usize) -> io::Result<()> {
-    let table = NAMES;
-    let w = text_words::word(&table, row_of(k));
-    let start = w.start;
-    let end = w.end;
-    if in_slot(k) {
-        say(rt, b"slot")?;
-        text_print::say_size(rt, slot_of(k))?;
-        say(rt, b".")?;
-    }
-    say(rt, &table[start..end])
-}
-
-// The field of that name.
-pub fn find(name: &[u8]) -> Field {
-    let mut at = 0;
-    let mut k = 0;
-    while k < FIELD_COUNT {
-        let len = len_of(k);
-        if is_named(k, name) {
-            return Field { at, len };
-        }
-        at = std::num::wrapping_add_usize(at, len);
-        k += 1;
-    }
-    Field { at: 0, len: 0 }
-}
-
-// A field as a line: its name, its length and its bytes.
-fn say_field(
-    rt: &impl Print,
-    record: [u8; CARD_BYTES],
-    k: usize,
-    at: usize,
-    len: usize,
-) -> io::Result<()> {
-    let mut bytes = [0u8; CARD_BYTES];
-    soft_card_bytes::fill(&mut bytes, &record, at);
-    let n = text_fill::bounded(len, &bytes);
-    say(rt, b"  ")?;
-    say_name(rt, k)?;
-    text_print::say_bytes(rt, b"", &bytes[..n])
-}
-
-pub fn say_fields(rt: &impl Print, record: [u8; CARD_BYTES]) -> io::Result<()> {
-    let mut at = 0;
-    let mut k = 0;
-    while k < FIELD_COUNT {
-        let len = len_of(k);
-        say_field(rt, record, k, at, len)?;
-        at = std::num::wrapping_add_usize(at, len);
-        k += 1;
-    }
-    Ok(())
 }

@@ -5,69 +5,58 @@
 
 mod fields;
 
-use card::{Card, SLOT_BYTES};
-pub use fields::{Field, find, say_fields};
+use card::SLOT_BYTES;
+pub use fields::{FIELDS, Field};
 use soft_card_bytes::{
     CARD_BYTES, CHANNEL_AT, CURRENT_AT, KEYS_AT, PENDING_AT, PIN_TRIES_AT, PINLESS_AT,
     PUK_TRIES_AT, SESSION_BYTES, SLOTS_AT, TAP_AT, VERIFIED_AT,
 };
 use std::io;
-use text_print::say;
-
-fn say_number(rt: &impl Print, words: &[u8], b: u8) -> io::Result<()> {
-    say(rt, words)?;
-    text_print::say_byte_number(rt, b)
-}
+use text_print::{Bytes, Length};
 
 // How much of a room is in use: of a path's, or of the tap record's.
-fn say_used(rt: &impl Print, words: &[u8], used_bytes: u8) -> io::Result<()> {
-    say(rt, words)?;
-    text_print::say_length(rt, card::wide(used_bytes))
+fn used(len: u8) -> Length {
+    Length(card::wide(len))
 }
 
-fn say_slots(rt: &impl Print, r: [u8; CARD_BYTES]) -> io::Result<()> {
-    say(rt, b", slots")?;
-    let mut i = 0;
-    while i < Card::SLOTS {
-        say_number(rt, b" ", r[SLOTS_AT + SLOT_BYTES * i])?;
-        i += 1;
+// One line for the card.
+pub fn say_card(rt: &impl Print, card: &[u8; CARD_BYTES]) -> io::Result<()> {
+    print!(rt;
+        "  card: initialised {}, stage {}",
+        card[0], card[CHANNEL_AT]
+    )?;
+    print!(rt;
+        ", verified {}, PIN tries {}, PUK tries {}, slots",
+        card[VERIFIED_AT], card[PIN_TRIES_AT], card[PUK_TRIES_AT]
+    )?;
+    for slot in card[SLOTS_AT..PENDING_AT].chunks(SLOT_BYTES) {
+        print!(rt; " {}", slot[0])?;
+    }
+    print!(rt;
+        ", pending {}, key kind {}",
+        card[PENDING_AT], card[KEYS_AT]
+    )?;
+    println!(rt;
+        ", current path {}, PIN-less path {}, tap record {}",
+        used(card[CURRENT_AT]),
+        used(card[PINLESS_AT]),
+        used(card[TAP_AT])
+    )
+}
+
+// The length of the card, and each field as a line: its name, its length and its bytes.
+pub fn say_fields(rt: &impl Print, card: &[u8; CARD_BYTES]) -> io::Result<()> {
+    println!(rt; "card: {}", Length(CARD_BYTES))?;
+    for field in &FIELDS {
+        println!(rt; "  {} {}", field.name, Bytes(field.of(card)))?;
     }
     Ok(())
 }
 
-fn say_pins(rt: &impl Print, r: [u8; CARD_BYTES]) -> io::Result<()> {
-    say_number(rt, b", verified ", r[VERIFIED_AT])?;
-    say_number(rt, b", PIN tries ", r[PIN_TRIES_AT])?;
-    say_number(rt, b", PUK tries ", r[PUK_TRIES_AT])
-}
-
-fn say_keys(rt: &impl Print, r: [u8; CARD_BYTES]) -> io::Result<()> {
-    say_number(rt, b", pending ", r[PENDING_AT])?;
-    say_number(rt, b", key kind ", r[KEYS_AT])?;
-    say_used(rt, b", current path ", r[CURRENT_AT])?;
-    say_used(rt, b", PIN-less path ", r[PINLESS_AT])
-}
-
-// One line for the card.
-pub fn say_card(rt: &impl Print, r: [u8; CARD_BYTES]) -> io::Result<()> {
-    say_number(rt, b"  card: initialised ", r[0])?;
-    say_number(rt, b", stage ", r[CHANNEL_AT])?;
-    say_pins(rt, r)?;
-    say_slots(rt, r)?;
-    say_keys(rt, r)?;
-    say_used(rt, b", tap record ", r[TAP_AT])?;
-    say(rt, b"\n")
-}
-
-pub fn say_session(rt: &impl Print, s: [u8; SESSION_BYTES]) -> io::Result<()> {
-    say(rt, b"session: ")?;
-    text_print::say_length(rt, SESSION_BYTES)?;
-    say(rt, b"\n")?;
-    let x = soft_card_bytes::session_of(s);
-    let enc_key = x.enc_key;
-    text_print::say_bytes(rt, b"  enc_key", &enc_key)?;
-    let mac_key = x.mac_key;
-    text_print::say_bytes(rt, b"  mac_key", &mac_key)?;
-    let iv = x.iv;
-    text_print::say_bytes(rt, b"  iv", &iv)
+pub fn say_session(rt: &impl Print, session: [u8; SESSION_BYTES]) -> io::Result<()> {
+    let parts = soft_card_bytes::session_of(session);
+    println!(rt; "session: {}", Length(SESSION_BYTES))?;
+    println!(rt; "  enc_key {}", Bytes(&parts.enc_key))?;
+    println!(rt; "  mac_key {}", Bytes(&parts.mac_key))?;
+    println!(rt; "  iv {}", Bytes(&parts.iv))
 }

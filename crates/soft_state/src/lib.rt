@@ -3,58 +3,65 @@
 // Proved: every function is safe and ends.
 #![tactic(auto)]
 
-pub mod args;
+ghost use Rattle.std.specs.Prelude.{◌≡◌, replicate, [], IfOk};
 
+mod bad_line;
+mod line;
+
+pub use bad_line::{BadLine, CallError};
+pub use line::Line;
 use soft_card_bytes::{CARD_BYTES, SESSION_BYTES};
+use std::alloc::AllocError;
 
-// As many bytes as the longest output has: a stored record's.
-const LAST_MAX_BYTES: usize = record_rules::RECORD_MAX_BYTES;
-
-#[derive(Clone, Copy)]
-pub struct Last {
-    pub bytes: [u8; LAST_MAX_BYTES],
-    pub len: usize,
-}
-
-#[derive(Clone, Copy)]
-pub struct Desk {
+// The soft card: where it writes, the card and the session as their bytes, and the bytes that were last written.
+#[derive(Drop)]
+pub struct Desk<'a, R> {
+    pub rt: &'a R,
     pub card: [u8; CARD_BYTES],
     pub session: [u8; SESSION_BYTES],
-    pub last: Last,
+    pub last: Vec<u8>,
 }
 
-pub fn start() -> Desk {
-    let last = Last {
-        bytes: [0; LAST_MAX_BYTES],
-        len: 0,
-    };
-    Desk {
-        card: [0; CARD_BYTES],
-        session: [0; SESSION_BYTES],
-        last,
+impl<'a, R: AllocGlobal> Desk<'a, R> {
+    // As it begins: a card and a session of zeros, and nothing written.
+    pub fn new(rt: &'a R) -> Self
+        ensures card { result.card ≡ replicate CARD_BYTES 0 }
+        ensures session { result.session ≡ replicate SESSION_BYTES 0 }
+        ensures last { result.last.items ≡ [] }
+    {
+        Desk {
+            rt,
+            card: [0; CARD_BYTES],
+            session: [0; SESSION_BYTES],
+            last: Vec::new(rt.alloc()),
+        }
+    }
+
+    // A buffer of so many zeros, for an operation to write to.
+    pub fn buffer(&self, room_bytes: usize) -> Result<Vec<u8>, AllocError>
+        ensures { IfOk result (λ v. v.items ≡ replicate room_bytes 0) }
+    {
+        vec![in self.rt.alloc(); 0; room_bytes]
     }
 }
 
-pub fn with_card(desk: Desk, card: [u8; CARD_BYTES]) -> Desk {
-    let mut r = desk;
-    r.card = card;
-    r
-}
+#[cfg(test)]
+mod tests {
+    use super::*;
+    use std::test::Fail;
 
-pub fn with_session(desk: Desk, session: [u8; SESSION_BYTES]) -> Desk {
-    let mut r = desk;
-    r.session = session;
-    r
-}
-
-pub fn with_last(desk: Desk, bytes: &[u8]) -> Desk {
-    let mut space = [0u8; LAST_MAX_BYTES];
-    soft_card_bytes::fill(&mut space, bytes, 0);
-    let last = Last {
-        bytes: space,
-        len: bytes.len(),
-    };
-    let mut r = desk;
-    r.last = last;
-    r
+    // A line's words as bytes, where there is memory; `last` is empty at first.
+    #[test]
+    fn words_are_read(rt: HostRuntime) -> Result<(), Fail> {
+        let desk = Desk::new(&rt);
+        let line = Line {
+            bytes: b"set last.01*2 0A0B",
+        };
+        let value = line.value(&desk, 1, "BYTES")?;
+        assert_eq!(rt; value.as_slice(), [1, 1].as_slice());
+        let pair: [u8; 2] = line.array(&desk, 2, "BYTES")?;
+        assert_eq!(rt; pair, [10, 11]);
+        assert_eq!(rt; desk.buffer(3)?.as_slice(), [0, 0, 0].as_slice());
+        Ok(())
+    }
 }

@@ -1,202 +1,175 @@
 // The operations that write to a buffer, and what the soft card says of their results: ASK, ANSWER, SEAL, UNSEAL, WRITE, ENTROPY.
 // Every length, room, count and offset is in bytes.
+// Each function answers whether the operation was done and not refused; the desk changes only where it was.
 // Proved: every function is safe and ends.
 #![tactic(auto)]
 
-use soft_card_bytes::CARD_BYTES;
+use soft_names::{Refusal, Refused, StatusWord, Supply};
 use soft_state::Desk;
-use soft_word_bytes::VALUE_MAX_BYTES;
 use std::io;
-use text_print::say;
+use text_print::Bytes;
 
-// Whether a step was done and not refused, the fault offset that ANSWER told or rules::NO_FAULT, and the desk after it.
-#[derive(Clone, Copy)]
-pub struct Step {
-    pub done: bool,
-    pub fault_offset: usize,
-    pub desk: Desk,
-}
-
-// A step that tells no fault offset.
-fn without_fault(done: bool, desk: Desk) -> Step {
-    Step {
-        done,
-        fault_offset: rules::NO_FAULT,
-        desk,
+// Whether an operation with this refusal's number was done. A refusal is told, with the room that the operation asks for.
+fn is_done(rt: &impl Print, name: &str, refusal: u8, room_bytes: usize) -> io::Result<bool> {
+    match Refusal::of(refusal) {
+        None => Ok(true),
+        Some(refusal) => {
+            let refused = Refused {
+                refusal,
+                room_bytes,
+            };
+            println!(rt; "{name} {refused}")?;
+            Ok(false)
+        }
     }
 }
 
-fn say_refused(rt: &impl Print, name: &[u8], refusal: u8, room_bytes: usize) -> io::Result<()> {
-    say(rt, name)?;
-    say(rt, b" ")?;
-    soft_names::say_refusal(rt, refusal, room_bytes)?;
-    say(rt, b"\n")
+// What an operation wrote from the start of a buffer is shown, and is now the last.
+fn wrote<R: Print>(
+    desk: &mut Desk<'_, R>,
+    name: &str,
+    mut buf: Vec<u8>,
+    count: usize,
+) -> io::Result<()> {
+    buf.truncate(count);
+    println!(desk.rt; "{name} {}", Bytes(buf.as_slice()))?;
+    desk.last = buf;
+    Ok(())
 }
 
-// What was written from a buffer's start.
-fn say_data(rt: &impl Print, buf: &[u8], count: usize) -> io::Result<()> {
-    let n = text_fill::bounded(count, buf);
-    text_print::say_bytes(rt, b"  data", &buf[..n])
+// The same where it ends in a status word.
+fn wrote_response<R: Print>(
+    desk: &mut Desk<'_, R>,
+    name: &str,
+    buf: Vec<u8>,
+    count: usize,
+) -> io::Result<()> {
+    wrote(desk, name, buf, count)?;
+    match StatusWord::of(desk.last.as_slice()) {
+        Some(word) => println!(desk.rt; "  status word {word}"),
+        None => Ok(()),
+    }
 }
 
-fn ask_in(rt: &impl Print, card: [u8; CARD_BYTES], cmd: &[u8], buf: &mut [u8]) -> io::Result<bool> {
-    let a = soft_byte_calls::ask(card, cmd, buf);
-    if a.refusal != 0 {
-        say_refused(rt, b"ask:", a.refusal, refusals::ASK_ROOM_BYTES)?;
+// ASK.
+pub fn ask<R: Print + AllocGlobal>(
+    desk: &Desk<'_, R>,
+    cmd: &[u8],
+    room_bytes: usize,
+) -> io::Result<bool> {
+    let mut buf = desk.buffer(room_bytes)?;
+    let asked = soft_byte_calls::ask(desk.card, cmd, buf.as_mut_slice());
+    if !is_done(desk.rt, "ask:", asked.refusal, refusals::ASK_ROOM_BYTES)? {
         return Ok(false);
     }
-    say(rt, b"ask: ")?;
-    soft_names::say_supply(rt, a.kind)?;
-    say(rt, b"\n")?;
-    if a.kind != 0 {
-        say_data(rt, buf, a.count)?;
+    let supply = Supply(asked.kind);
+    println!(desk.rt; "ask: {supply}")?;
+    if supply != Supply::NONE {
+        buf.truncate(asked.count);
+        println!(desk.rt; "  data {}", Bytes(buf.as_slice()))?;
     }
     Ok(true)
 }
 
-// ASK; whether it was done and not refused.
-pub fn ask(
-    rt: &impl Print,
-    card: [u8; CARD_BYTES],
+// ANSWER; `opened` is the data that the command holds, where they are known, for the tag at a fault offset.
+pub fn answer<R: Print + AllocGlobal>(
+    desk: &mut Desk<'_, R>,
     cmd: &[u8],
+    supply: &[u8],
+    opened: &[u8],
     room_bytes: usize,
 ) -> io::Result<bool> {
-    let mut buf = [0u8; VALUE_MAX_BYTES];
-    let n = text_fill::bounded(room_bytes, &buf);
-    ask_in(rt, card, cmd, &mut buf[..n])
-}
-
-// What was written from a buffer's start: it is shown, with its status word where it ends in one, and is now the last.
-pub fn wrote(
-    rt: &impl Print,
-    d: Desk,
-    name: &[u8],
-    buf: &[u8],
-    count: usize,
-    with_status: bool,
-) -> io::Result<Desk> {
-    let n = text_fill::bounded(count, buf);
-    text_print::say_bytes(rt, name, &buf[..n])?;
-    if with_status {
-        soft_names::say_status(rt, &buf[..n])?;
+    let mut buf = desk.buffer(room_bytes)?;
+    let told = soft_byte_calls::answer(desk.card, cmd, supply, buf.as_mut_slice());
+    if !is_done(
+        desk.rt,
+        "answer:",
+        told.refusal,
+        refusals::ANSWER_ROOM_BYTES,
+    )? {
+        return Ok(false);
     }
-    Ok(soft_state::with_last(d, &buf[..n]))
-}
-
-fn answer_in(
-    rt: &impl Print,
-    d: Desk,
-    cmd: &[u8],
-    supply: &[u8],
-    buf: &mut [u8],
-) -> io::Result<Step> {
-    let found = d.card;
-    let r = soft_byte_calls::answer(found, cmd, supply, buf);
-    if r.refusal != 0 {
-        say_refused(rt, b"answer:", r.refusal, refusals::ANSWER_ROOM_BYTES)?;
-        return Ok(without_fault(false, d));
+    wrote_response(desk, "answer:", buf, told.count)?;
+    desk.card = told.card;
+    if told.fault_offset != rules::NO_FAULT {
+        soft_names::say_fault(desk.rt, opened, told.fault_offset)?;
     }
-    let next = wrote(rt, d, b"answer:", buf, r.count, true)?;
-    let card = r.card;
-    Ok(Step {
-        done: true,
-        fault_offset: r.fault_offset,
-        desk: soft_state::with_card(next, card),
-    })
-}
-
-// ANSWER.
-pub fn answer(
-    rt: &impl Print,
-    d: Desk,
-    cmd: &[u8],
-    supply: &[u8],
-    room_bytes: usize,
-) -> io::Result<Step> {
-    let mut buf = [0u8; VALUE_MAX_BYTES];
-    let n = text_fill::bounded(room_bytes, &buf);
-    answer_in(rt, d, cmd, supply, &mut buf[..n])
-}
-
-fn seal_in(
-    rt: &impl Print,
-    d: Desk,
-    header: [u8; 4],
-    plain: &[u8],
-    buf: &mut [u8],
-) -> io::Result<Step> {
-    let found = d.session;
-    let r = soft_byte_calls::seal(found, header, plain, buf);
-    if r.refusal != 0 {
-        say_refused(rt, b"seal:", r.refusal, refusals::SEAL_ROOM_BYTES)?;
-        return Ok(without_fault(false, d));
-    }
-    let next = wrote(rt, d, b"seal:", buf, r.count, false)?;
-    let session = r.session;
-    Ok(without_fault(true, soft_state::with_session(next, session)))
+    Ok(true)
 }
 
 // SEAL. The header is CLA INS P1 P2.
-pub fn seal(
-    rt: &impl Print,
-    d: Desk,
+pub fn seal<R: Print + AllocGlobal>(
+    desk: &mut Desk<'_, R>,
     header: [u8; 4],
     plain: &[u8],
     room_bytes: usize,
-) -> io::Result<Step> {
-    let mut buf = [0u8; VALUE_MAX_BYTES];
-    let n = text_fill::bounded(room_bytes, &buf);
-    seal_in(rt, d, header, plain, &mut buf[..n])
-}
-
-fn unseal_in(rt: &impl Print, d: Desk, response: &[u8], buf: &mut [u8]) -> io::Result<Step> {
-    let found = d.session;
-    let r = soft_byte_calls::unseal(found, response, buf);
-    if r.refusal != 0 {
-        say_refused(rt, b"unseal:", r.refusal, refusals::UNSEAL_ROOM_BYTES)?;
-        return Ok(without_fault(false, d));
+) -> io::Result<bool> {
+    let mut buf = desk.buffer(room_bytes)?;
+    let sealed = soft_byte_calls::seal(desk.session, header, plain, buf.as_mut_slice());
+    if !is_done(desk.rt, "seal:", sealed.refusal, refusals::SEAL_ROOM_BYTES)? {
+        return Ok(false);
     }
-    let next = wrote(rt, d, b"unseal:", buf, r.count, true)?;
-    let session = r.session;
-    Ok(without_fault(true, soft_state::with_session(next, session)))
+    wrote(desk, "seal:", buf, sealed.count)?;
+    desk.session = sealed.session;
+    Ok(true)
 }
 
 // UNSEAL.
-pub fn unseal(rt: &impl Print, d: Desk, response: &[u8], room_bytes: usize) -> io::Result<Step> {
-    let mut buf = [0u8; VALUE_MAX_BYTES];
-    let n = text_fill::bounded(room_bytes, &buf);
-    unseal_in(rt, d, response, &mut buf[..n])
-}
-
-fn write_in(rt: &impl Print, d: Desk, buf: &mut [u8]) -> io::Result<Desk> {
-    let found = d.card;
-    let r = soft_byte_calls::write(found, buf);
-    if r.refusal != 0 {
-        say_refused(rt, b"write:", r.refusal, record_rules::WRITE_ROOM_BYTES)?;
-        return Ok(d);
+pub fn unseal<R: Print + AllocGlobal>(
+    desk: &mut Desk<'_, R>,
+    response: &[u8],
+    room_bytes: usize,
+) -> io::Result<bool> {
+    let mut buf = desk.buffer(room_bytes)?;
+    let opened = soft_byte_calls::unseal(desk.session, response, buf.as_mut_slice());
+    if !is_done(
+        desk.rt,
+        "unseal:",
+        opened.refusal,
+        refusals::UNSEAL_ROOM_BYTES,
+    )? {
+        return Ok(false);
     }
-    wrote(rt, d, b"write:", buf, r.count, false)
+    wrote_response(desk, "unseal:", buf, opened.count)?;
+    desk.session = opened.session;
+    Ok(true)
 }
 
 // WRITE.
-pub fn write(rt: &impl Print, d: Desk, room_bytes: usize) -> io::Result<Desk> {
-    let mut buf = [0u8; VALUE_MAX_BYTES];
-    let n = text_fill::bounded(room_bytes, &buf);
-    write_in(rt, d, &mut buf[..n])
-}
-
-fn entropy_in(rt: &impl Print, d: Desk, words: &[u8], buf: &mut [u8]) -> io::Result<Desk> {
-    let r = phrase_reverse::entropy_of(words, buf);
-    if r.refusal != 0 {
-        say_refused(rt, b"entropy:", r.refusal, refusals::ENTROPY_ROOM_BYTES)?;
-        return Ok(d);
+pub fn write<R: Print + AllocGlobal>(
+    desk: &mut Desk<'_, R>,
+    room_bytes: usize,
+) -> io::Result<bool> {
+    let mut buf = desk.buffer(room_bytes)?;
+    let written = soft_byte_calls::write(desk.card, buf.as_mut_slice());
+    if !is_done(
+        desk.rt,
+        "write:",
+        written.refusal,
+        record_rules::WRITE_ROOM_BYTES,
+    )? {
+        return Ok(false);
     }
-    wrote(rt, d, b"entropy:", buf, r.count, false)
+    wrote(desk, "write:", buf, written.count)?;
+    Ok(true)
 }
 
 // ENTROPY.
-pub fn entropy(rt: &impl Print, d: Desk, words: &[u8], room_bytes: usize) -> io::Result<Desk> {
-    let mut buf = [0u8; VALUE_MAX_BYTES];
-    let n = text_fill::bounded(room_bytes, &buf);
-    entropy_in(rt, d, words, &mut buf[..n])
+pub fn entropy<R: Print + AllocGlobal>(
+    desk: &mut Desk<'_, R>,
+    words: &[u8],
+    room_bytes: usize,
+) -> io::Result<bool> {
+    let mut buf = desk.buffer(room_bytes)?;
+    let entropy = phrase_reverse::entropy_of(words, buf.as_mut_slice());
+    if !is_done(
+        desk.rt,
+        "entropy:",
+        entropy.refusal,
+        refusals::ENTROPY_ROOM_BYTES,
+    )? {
+        return Ok(false);
+    }
+    wrote(desk, "entropy:", buf, entropy.count)?;
+    Ok(true)
 }

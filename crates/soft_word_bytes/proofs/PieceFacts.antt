@@ -2,20 +2,22 @@
 -- Assumes nothing.
 use mathlib.Core.Path.{◌≡◌, refl, sym, ap, ap₂, subst, ◌∙◌}
 use mathlib.Core.Bool.{Bool, true, false, cond, ◌&&◌}
+use Rattle.std.specs.Prelude.{Option, Some, None, Result, Ok, Err}
+use Rattle.std.specs.Option.{is_some, IsSome, unwrap_or}
+use Rattle.std.proofs.lemmas.List.Sums.{AllPass-from_list_all}
 use mathlib.Core.List.{List, [], ◌∷◌, ◌++◌, append_assoc}
-use Prim.Native.Nat.{ℕ, zero, suc, ◌+◌, ◌*◌, ◌-◌, ◌/◌, ◌≤◌, ◌<◌}
-use native.Mathlib.Nat.{not-suc-le-zero, le_of_suc-le-suc}
-use native.Mathlib.Decide.{dec_lt}
+use Prim.Native.Nat.{ℕ, ◌+◌, ◌*◌, ◌-◌, ◌/◌, ◌≤◌, ◌<◌}
 use native.Mathlib.Omega.{arith}
-use lib.Dec.{ltb}
 use lib.ListN.{length, take, drop, get_or, length-drop, get_or-eq_default}
-use lib.Seq.{drop-cons, drop-drop, length-take-le, take_all}
-use borrow.Author.Tests.{lt-ltb, le-ltb, ltb-true, eq-eqb, ne_eqb}
+use lib.Seq.{drop-drop, length-take-le, take_all}
+use borrow.Author.Tests.{lt-ltb, le-ltb, eq-eqb, ne_eqb}
 use Rattle.octets.specs.Bytes.{overwrite, same_bytes}
 use Rattle.text_fill.specs.Steps.{stepped}
-use Rattle.text_decimal.specs.Decimal.{is_number, number_of, all_digits, spelled}
+use Rattle.text_decimal.specs.Decimal.{is_number, number_of, spelled}
 use Rattle.text_hex.specs.Hex.{digit_of, high, low, byte_of, bytes_of, Spelled}
-use Rattle.soft_word_bytes.specs.Meaning.{Meant, taken, form, many, within, all_hex, pairs, counted, piece_of, Puts}
+use Rattle.soft_word_bytes.specs.declared.ValueFault.{ValueFault}
+use Rattle.soft_word_bytes.specs.declared.ValueFault.TheVariants.{Form, Many}
+use Rattle.soft_word_bytes.specs.Meaning.{Meant, taken, form, many, within, all_hex, pairs, counted, piece_of, end_of, Puts}
 
 -- ---- a part of a buffer s that was lent, n bytes from byte a on, and came back with the bytes y, which are f of its length
 module _ (a n : ℕ) (s : List ℕ) (fits : a + n ≤ length s) where
@@ -35,7 +37,7 @@ module _ (a n : ℕ) (s : List ℕ) (fits : a + n ≤ length s) where
 module _ (room : ℕ) {x : Meant} where
   keeps-form : x ≡ form → within room x ≡ form
   unfolding within
-  keeps-form e = rw (e, le-ltb room 0 (omega arith))
+  keeps-form e = rw e
 
   over : (t : List ℕ) → x ≡ taken t → room < length t → within room x ≡ many
   unfolding within
@@ -45,47 +47,40 @@ module _ (room : ℕ) {x : Meant} where
   unfolding within
   fitting t e h = rw (e, le-ltb room (length t) h)
 
-abbrev fault-of : Meant → ℕ
-fault-of m = m.fault
+-- ---- a fault is told, and then the buffer is not spoken of; bytes are put
+module _ {m : Meant} {at : ℕ} {s after : List ℕ} where
+  puts-fault : (e : ValueFault) → m ≡ Err e → Puts m at (Err e) s after
+  puts-fault e is = record { told = ap (end_of at) (sym is); left = λ t z. absurd (cc) }
+
+  puts-bytes : (t : List ℕ) {end : ℕ} → m ≡ Ok t → end ≡ at + length t → after ≡ overwrite s at t → Puts m at (Ok end) s after
+  puts-bytes t {end} is g l =
+      record {
+        told = ap {B = Result ℕ ValueFault} (λ (n : ℕ). Ok n) g ∙ ap (end_of at) (sym is);
+        left = λ u z. let e : t ≡ u = cc in l ∙ ap (overwrite s at) e;
+      }
 
 module _ (room : ℕ) {x : Meant} {at : ℕ} {s : List ℕ} where
-  pub bad-form : x ≡ form → Puts (within room x) at 1 0 s s
-  bad-form e = record { told = ap fault-of (sym (keeps-form room e)); ends = λ z. absurd (omega arith); left = λ z. absurd (omega arith) }
+  pub bad-form : x ≡ form → Puts (within room x) at (Err Form) s s
+  bad-form e = puts-fault Form (keeps-form room e)
 
   module _ (t : List ℕ) (e : x ≡ taken t) where
-    pub too_many : room < length t → Puts (within room x) at 2 0 s s
-    too_many h = record { told = ap fault-of (sym (over room t e h)); ends = λ z. absurd (omega arith); left = λ z. absurd (omega arith) }
+    pub too_many : room < length t → Puts (within room x) at (Err Many) s s
+    too_many h = puts-fault Many (over room t e h)
 
-    pub put : {end : ℕ} {after : List ℕ} → length t ≤ room → end ≡ at + length t → after ≡ overwrite s at t → Puts (within room x) at 0 end s after
-    put {end} {after} h g l =
-        let is : within room x ≡ taken t = fitting room t e h in
-        record {
-          told = ap fault-of (sym is);
-          ends = λ z. g ∙ ap (λ (m : Meant). at + length m.bytes) (sym is);
-          left = λ z. l ∙ ap (λ (m : Meant). overwrite s at m.bytes) (sym is);
-        }
+    pub put : {end : ℕ} {after : List ℕ} → length t ≤ room → end ≡ at + length t → after ≡ overwrite s at t → Puts (within room x) at (Ok end) s after
+    put h g l = puts-bytes t (fitting room t e h) g l
 
 -- what means the same is put the same
-pub put_as : (room : ℕ) {x y : Meant} {at fault end : ℕ} {s t : List ℕ} → x ≡ y → Puts (within room x) at fault end s t
-    → Puts (within room y) at fault end s t
-put_as room {x} {y} {at} {fault} {end} {s} {t} e q = subst (λ (m : Meant). Puts (within room m) at fault end s t) e q
+pub put_as : (room : ℕ) {x y : Meant} {at : ℕ} {answer : Result ℕ ValueFault} {s t : List ℕ} → x ≡ y → Puts (within room x) at answer s t
+    → Puts (within room y) at answer s t
+put_as room {x} {y} {at} {answer} {s} {t} e q = subst (λ (m : Meant). Puts (within room m) at answer s t) e q
 
 -- ---- characters that are all digits
-both : (a b : Bool) → (a && b) ≡ true → (a ≡ true) × (b ≡ true)
-both true b e = (refl, e)
-both false b e = absurd (let z : ◌≡◌ {A = ℕ} 0 1 = cc in omega arith)
-
-hex-at : (s : List ℕ) → all_hex s ≡ true → (i : ℕ) → i < length s → digit_of (get_or s i 0) < 16
-hex-at [] e i h = absurd (not-suc-le-zero h)
-hex-at (c ∷ s) e zero h = ltb-true (digit_of c) 16 (both (ltb (digit_of c) 16) (all_hex s) e).0
-hex-at (c ∷ s) e (suc i) h = hex-at s (both (ltb (digit_of c) 16) (all_hex s) e).1 i (le_of_suc-le-suc h)
+hex-at : (s : List ℕ) → all_hex s ≡ true → (i : ℕ) → i < length s → IsSome (digit_of (get_or s i 0))
+hex-at s e i h = AllPass-from_list_all (λ c. is_some (digit_of c)) s e i 0 h
 
 pub spelled-all : (n : ℕ) (p : List ℕ) → length p ≡ 2 * n → all_hex p ≡ true → Spelled n p
 spelled-all n p h e k l = (hex-at p e (2 * k) (omega arith), hex-at p e (2 * k + 1) (omega arith))
-
--- one character is looked at, and the rest is left
-pub hex-step : (p : List ℕ) (i : ℕ) → i < length p → all_hex (drop i p) ≡ (ltb (digit_of (get_or p i 0)) 16 && all_hex (drop (suc i) p))
-hex-step p i h = ap all_hex (drop-cons p i 0 h)
 
 -- ---- pairs of digits
 module _ (p : List ℕ) where
@@ -107,47 +102,40 @@ module _ (p : List ℕ) where
       unfolding pairs
       pairs-taken h = rw (lt-ltb 0 (length p / 2) some, eq-eqb (length p) (2 * (length p / 2)) even, h)
 
--- ---- a number is none exactly where it is read as 9999
-some_number : (b : Bool) (n : ℕ) → (cond b n 9999 ≡ 9999 → ⊥) → b ≡ true
-some_number true n h = refl
-some_number false n h = absurd (h refl)
-
-small : (n : ℕ) → cond (ltb n 1025) n 9999 ≡ 9999 → ltb n 1025 ≡ false
-small n e = elim (dec_lt n 1025) [
-  | yes p ↦ absurd (let z : n ≡ 9999 = rw (lt-ltb n 1025 p) at e in omega arith)
-  | no p ↦ le-ltb n 1025 (omega arith)
-]
-
-no_number : (a b d : Bool) (n : ℕ) → cond (a && (b && (d && ltb n 1025))) n 9999 ≡ 9999 → (a && (b && (d && ltb n 1025))) ≡ false
-no_number false b d n e = refl
-no_number true false d n e = refl
-no_number true true false n e = refl
-no_number true true true n e = small n e
-
 -- ---- a byte, a sign and a number
+none-number : (b : Bool) (n : ℕ) → cond b (Some n) None ≡ None → b ≡ false
+none-number true n e = absurd (cc)
+none-number false n e = refl
+
+some-number : (b : Bool) (n m : ℕ) → cond b (Some n) None ≡ Some m → b ≡ true
+some-number true n m e = refl
+some-number false n m e = absurd (cc)
+
 module _ (step : ℕ) (p : List ℕ) where
-  pub counted-high : 15 < high p 0 → counted step p ≡ form
+  pub counted-high : high p 0 ≡ None → counted step p ≡ form
   unfolding counted
-  counted-high h = rw (le-ltb (high p 0) 16 (omega arith))
+  counted-high h = rw h
 
-  module _ (hi : high p 0 ≤ 15) where
-    pub counted-low : 15 < low p 0 → counted step p ≡ form
+  pub counted-low : (a : ℕ) → high p 0 ≡ Some a → low p 0 ≡ None → counted step p ≡ form
+  unfolding counted
+  counted-low a hi lo = rw (hi, lo)
+
+  module _ (a b : ℕ) (hi : high p 0 ≡ Some a) (lo : low p 0 ≡ Some b) where
+    pub counted_none : number_of (drop 3 p) ≡ None → counted step p ≡ form
     unfolding counted
-    counted-low h = rw (lt-ltb (high p 0) 16 (omega arith), le-ltb (low p 0) 16 (omega arith))
+    counted_none h = rw (hi, lo, none-number (is_number (drop 3 p)) (spelled 0 (drop 3 p)) h)
 
-    module _ (lo : low p 0 ≤ 15) where
-      pub counted_none : number_of (drop 3 p) ≡ 9999 → counted step p ≡ form
-      unfolding counted
-      counted_none h =
-          let w : List ℕ = drop 3 p in
-          let none : is_number w ≡ false = no_number (ltb 0 (length w)) (ltb (length w) 5) (all_digits w) (spelled 0 w) h in
-          rw (lt-ltb (high p 0) 16 (omega arith), lt-ltb (low p 0) 16 (omega arith), none)
-
-      pub counted-taken : (number_of (drop 3 p) ≡ 9999 → ⊥) → counted step p ≡ taken (stepped (byte_of p 0) step (number_of (drop 3 p)))
-      unfolding counted
-      counted-taken h =
-          let is : is_number (drop 3 p) ≡ true = some_number (is_number (drop 3 p)) (spelled 0 (drop 3 p)) h in
-          rw (lt-ltb (high p 0) 16 (omega arith), lt-ltb (low p 0) 16 (omega arith), is)
+    pub counted-taken : (n : ℕ) → number_of (drop 3 p) ≡ Some n → counted step p ≡ taken (stepped (a * 16 + b) step n)
+    unfolding counted
+    counted-taken n h =
+        let is : is_number (drop 3 p) ≡ true = some-number (is_number (drop 3 p)) (spelled 0 (drop 3 p)) n h in
+        let value : unwrap_or (number_of (drop 3 p)) 0 ≡ n = ap (λ (o : Option ℕ). unwrap_or o 0) h in
+        let first : byte_of p 0 ≡ a * 16 + b = ap₂ (λ (x y : Option ℕ). unwrap_or x 0 * 16 + unwrap_or y 0) hi lo in
+        ap (λ (d : Bool). cond d (taken (stepped (byte_of p 0) step (unwrap_or (number_of (drop 3 p)) 0))) form) (counts true is)
+        ∙ ap₂ (λ (f k : ℕ). taken (stepped f step k)) first value
+      where
+        counts : (d : Bool) → is_number (drop 3 p) ≡ d → is_some (high p 0) && (is_some (low p 0) && is_number (drop 3 p)) ≡ d
+        counts d e = rw (hi, lo) e
 
 -- what follows byte a, lent as a part to the end
 pub tail-is : (a : ℕ) (s : List ℕ) → take (length s - a) (drop a s) ≡ drop a s

@@ -1,7 +1,7 @@
 -- Words and what they mean: the rows of the table in docs/SOFTCARD.md, "Bytes", and words that are refused. Each is computed.
 -- Assumes nothing.
 use Rattle.std.specs.Prelude.{◌≡◌, refl, List, [], ◌∷◌, ℕ}
-use Rattle.text_decimal.specs.Decimal.{digit_of as decimal_of}
+use Rattle.text_decimal.specs.Decimal.{is_digit}
 use Rattle.text_hex.specs.Hex.{digit_of}
 use Rattle.soft_word_bytes.specs.Meaning.{Meant, taken, form, many, within, pairs, counted, piece_of, onward, meaning}
 
@@ -36,5 +36,5 @@ pub record Examples : Type 0 where
   pub first : typed (48 ∷ 48 ∷ 42 ∷ 53 ∷ 46 ∷ 71 ∷ []) ≡ many
 
 pub examples : Examples
-unfolding meaning onward within piece_of pairs counted digit_of decimal_of
+unfolding meaning onward within piece_of pairs counted digit_of is_digit
 examples = record { digits = refl; repeated = refl; rising = refl; latest = refl; joins = refl; none = refl; half = refl; uncounted = refl; nothing = refl; over = refl; together = refl; first = refl }

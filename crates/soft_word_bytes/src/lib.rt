@@ -8,128 +8,109 @@ ghost use Rattle.std.specs.Prelude.{◌≡◌, [], ◌-◌, ◌≤◌, length};
 ghost use Rattle.text_fill.specs.Steps.{stepped};
 ghost use Rattle.soft_word_bytes.specs.Meaning.{taken, within, all_hex, pairs, counted, piece_of, pieces_in, joined, meaning, Puts, Reads};
 
-use text_decimal::{NO_NUMBER, number};
+use std::error::Error;
+use std::fmt;
+use text_decimal::number;
 use text_hex::hex;
-use text_hex::text::place_of;
 
 // The most bytes that one word may mean.
 pub const VALUE_MAX_BYTES: usize = 1024;
 
-// Why a word is not taken: its form, or that it means too many bytes.
-pub const FORM: u8 = 1;
-
-pub const MANY: u8 = 2;
-
-// What was read so far: 0 or why the word is not taken, and how many bytes.
-#[derive(Clone, Copy)]
-pub struct Got {
-    pub fault: u8,
-    pub len: usize,
+// Why a word is not taken: it is not written as bytes are, or it means more bytes than there is room for.
+#[derive(Clone, Copy, Debug, PartialEq, Eq)]
+pub enum ValueFault {
+    Form,
+    Many,
 }
 
-const BAD_FORM: Got = Got {
-    fault: FORM,
-    len: 0,
-};
+impl fmt::Display for ValueFault {
+    fn fmt<W: fmt::Write>(&self, f: &mut fmt::Formatter<W>) -> fmt::Result {
+        f.write_str(match self {
+            ValueFault::Form => "not bytes",
+            ValueFault::Many => "too many bytes",
+        })
+    }
+}
 
-const TOO_MANY: Got = Got {
-    fault: MANY,
-    len: 0,
-};
+impl Error for ValueFault {}
 
 // The bytes of a slice after the first `len`.
-fn append(bytes: &[u8], out: &mut [u8], len: usize) -> Got
+fn append(bytes: &[u8], out: &mut [u8], len: usize) -> Result<usize, ValueFault>
     requires { len ≤ length out.old }
-    ensures { Puts (within (length out.old - len) (taken bytes.now)) len result.fault result.len
+    ensures { Puts (within (length out.old - len) (taken bytes.now)) len result
         out.old out.new }
 {
     let n = bytes.len();
     if out.len() - len < n {
-        return TOO_MANY;
+        return Err(ValueFault::Many);
     }
     octets::put(out, len, bytes);
-    Got {
-        fault: 0,
-        len: len + n,
-    }
+    Ok(len + n)
 }
 
 // n bytes after the first `len`: the first is `first`, and each is by `step` more than the one before it.
-fn run(first: u8, step: u8, n: usize, out: &mut [u8], len: usize) -> Got
+fn run(first: u8, step: u8, n: usize, out: &mut [u8], len: usize) -> Result<usize, ValueFault>
     requires { len ≤ length out.old }
-    ensures { Puts (within (length out.old - len) (taken (stepped first step n))) len result.fault result.len
+    ensures { Puts (within (length out.old - len) (taken (stepped first step n))) len result
         out.old out.new }
 {
     if out.len() - len < n {
-        return TOO_MANY;
+        return Err(ValueFault::Many);
     }
     let end = len + n;
     text_fill::fill(&mut out[len..end], first, step);
-    Got { fault: 0, len: end }
+    Ok(end)
 }
 
 // HH*N or HH+N.
-fn counted(p: &[u8], step: u8, out: &mut [u8], len: usize) -> Got
+fn counted(p: &[u8], step: u8, out: &mut [u8], len: usize) -> Result<usize, ValueFault>
     requires { (3 ≤ length p.now) × (len ≤ length out.old) }
-    ensures { Puts (within (length out.old - len) (counted step p.now)) len result.fault result.len
+    ensures { Puts (within (length out.old - len) (counted step p.now)) len result
         out.old out.new }
 {
-    let high = hex::hex_digit(p[0]);
-    let low = hex::hex_digit(p[1]);
-    if high > 15 {
-        return BAD_FORM;
-    }
-    if low > 15 {
-        return BAD_FORM;
-    }
-    let n = number(&p[3..]);
-    if n == NO_NUMBER {
-        return BAD_FORM;
-    }
+    let (Some(high), Some(low)) = (hex::hex_digit(p[0]), hex::hex_digit(p[1])) else {
+        return Err(ValueFault::Form);
+    };
+    let Some(n) = number(&p[3..]) else {
+        return Err(ValueFault::Form);
+    };
     run(hex::hex_byte(high, low), step, n, out, len)
 }
 
 fn is_hex(p: &[u8]) -> bool
     ensures { result ≡ all_hex p.now }
 {
-    let mut i = 0;
-    while i < p.len() {
-        if hex::hex_digit(p[i]) > 15 {
-            return false;
-        }
-        i += 1;
-    }
-    true
+    p.iter().all(|c| hex::hex_digit(*c).is_some())
 }
 
 // Pairs of digits.
-fn digits(p: &[u8], out: &mut [u8], len: usize) -> Got
+fn digits(p: &[u8], out: &mut [u8], len: usize) -> Result<usize, ValueFault>
     requires { len ≤ length out.old }
-    ensures { Puts (within (length out.old - len) (pairs p.now)) len result.fault result.len
+    ensures { Puts (within (length out.old - len) (pairs p.now)) len result
         out.old out.new }
 {
     let n = p.len() / 2;
     if n == 0 {
-        return BAD_FORM;
+        return Err(ValueFault::Form);
     }
     if p.len() != 2 * n {
-        return BAD_FORM;
+        return Err(ValueFault::Form);
     }
     if !is_hex(p) {
-        return BAD_FORM;
+        return Err(ValueFault::Form);
     }
     if out.len() - len < n {
-        return TOO_MANY;
+        return Err(ValueFault::Many);
     }
     let end = len + n;
     hex::decode(p, &mut out[len..end]);
-    Got { fault: 0, len: end }
+    Ok(end)
 }
 
 // One piece of a word.
-fn piece(p: &[u8], last: &[u8], out: &mut [u8], len: usize) -> Got
+fn piece(p: &[u8], last: &[u8], out: &mut [u8], len: usize) -> Result<usize, ValueFault>
     requires { len ≤ length out.old }
-    ensures { Puts (within (length out.old - len) (piece_of last.now p.now)) len result.fault result.len
+    ensures { Puts (within (length out.old - len) (piece_of last.now p.now)) len result
         out.old out.new }
 {
     if octets::same(p, b"last") {
@@ -147,35 +128,25 @@ fn piece(p: &[u8], last: &[u8], out: &mut [u8], len: usize) -> Got
     digits(p, out, len)
 }
 
-// The pieces of a word, one after the other, each up to its dot or the word's end; the first fault decides.
-fn pieces(w: &[u8], last: &[u8], out: &mut [u8]) -> Got
-    ensures { Reads (joined last.now (length out.old) [] (pieces_in w.now)) result.fault result.len
+// The pieces of a word, one after the other; the first fault decides.
+fn pieces(w: &[u8], last: &[u8], out: &mut [u8]) -> Result<usize, ValueFault>
+    ensures { Reads (joined last.now (length out.old) [] (pieces_in w.now)) result
         out.old out.new }
 {
-    let mut at = 0;
     let mut len = 0;
-    while at <= w.len() {
-        let end = place_of(w, at, b'.');
-        let got = piece(&w[at..end], last, out, len);
-        if got.fault != 0 {
-            return got;
-        }
-        len = got.len;
-        if end == w.len() {
-            return got;
-        }
-        at = end + 1;
+    for p in w.split(|c| *c == b'.') {
+        len = piece(p, last, out, len)?;
     }
-    BAD_FORM
+    Ok(len)
 }
 
 // The bytes that a word means, put into `out` from its start; `last` is what the piece `last` means.
-pub fn bytes_of(w: &[u8], last: &[u8], out: &mut [u8]) -> Got
-    ensures { Reads (meaning last.now w.now (length out.old)) result.fault result.len
+pub fn bytes_of(w: &[u8], last: &[u8], out: &mut [u8]) -> Result<usize, ValueFault>
+    ensures { Reads (meaning last.now w.now (length out.old)) result
         out.old out.new }
 {
     if octets::same(w, b"-") {
-        return Got { fault: 0, len: 0 };
+        return Ok(0);
     }
     pieces(w, last, out)
 }

@@ -1,102 +1,73 @@
 // A card on the command line: calls are read line by line from standard input, and what each gives is written (docs/SOFTCARD.md).
 // Every length, room and count is in bytes and is written with its unit.
-// A read or a write that fails ends the program with its error.
+// A read or a write that fails ends the program with its error, and so does memory that has run out.
 // Proved: every function is safe and ends. What the operations give is proved in the crates below.
 #![tactic(auto)]
 
+mod help;
 mod plays;
 
-use soft_state::{Desk, args};
+use soft_state::{BadLine, CallError, Desk, Line};
 use std::io;
-use std::io::{IsTerminal, Read};
-use text_print::say;
+use std::io::IsTerminal;
+use text_line::LineError;
 
 const LINE_MAX_BYTES: usize = 4096;
 
-// The desk after a line, and whether there was one.
-#[derive(Clone, Copy)]
-struct Played {
-    found: bool,
-    desk: Desk,
+// A line is shown as it was read, before its answer; its bytes need not be text.
+fn echo(rt: &impl Print, front: &[u8], line: &[u8]) -> io::Result<()> {
+    rt.write_all(front)?;
+    rt.write_all(line)?;
+    rt.write_all(b"\n")
 }
 
-// A line as it was read, before its answer: nothing where the terminal shows it already.
-fn echo(rt: &impl Print, shown: bool, front: &[u8], line: &[u8]) -> io::Result<()> {
-    if shown {
+fn bad(rt: &impl Print, bad_line: BadLine) -> io::Result<()> {
+    println!(rt; "bad line: {bad_line}; nothing changed")
+}
+
+// One line, which is a call, a comment or blank. It is not shown where the terminal shows it already.
+fn play_line<R: Print + AllocGlobal>(
+    desk: &mut Desk<'_, R>,
+    is_shown: bool,
+    bytes: &[u8],
+) -> io::Result<()> {
+    let line = Line { bytes };
+    let is_call = line.count() > 0 && !text_words::is_comment(bytes);
+    if !is_shown {
+        let front: &[u8] = if is_call { b"> " } else { b"" };
+        let text: &[u8] = if line.count() > 0 { bytes } else { b"" };
+        echo(desk.rt, front, text)?;
+    }
+    if !is_call {
         return Ok(());
     }
-    say(rt, front)?;
-    say(rt, line)?;
-    say(rt, b"\n")
-}
-
-// One line, which is a call, a comment or blank.
-fn play_line(rt: &impl Print, desk: Desk, shown: bool, line: &[u8]) -> io::Result<Desk> {
-    if text_words::count(line) == 0 {
-        echo(rt, shown, b"", b"")?;
-        return Ok(desk);
+    match plays::play(desk, line) {
+        Ok(()) => Ok(()),
+        Err(CallError::Line(bad_line)) => bad(desk.rt, bad_line),
+        Err(CallError::Io(error)) => Err(error),
     }
-    if text_words::is_comment(line) {
-        echo(rt, shown, b"", line)?;
-        return Ok(desk);
-    }
-    echo(rt, shown, b"> ", line)?;
-    plays::play(rt, desk, line)
-}
-
-// Reads a line and plays it.
-fn turn(rt: &impl Print, input: &mut impl Read, desk: Desk, shown: bool) -> io::Result<Played> {
-    if shown {
-        say(rt, b"> ")?;
-    }
-    let mut buf = [0u8; LINE_MAX_BYTES];
-    let read = text_line::read_line(input, &mut buf)?;
-    if !read.found {
-        return Ok(Played { found: false, desk });
-    }
-    if read.dropped {
-        args::bad(rt, b"longer than 4096 bytes")?;
-        return Ok(Played { found: true, desk });
-    }
-    let whole = text_fill::bounded(read.len, &buf);
-    let n = text_words::trimmed(&buf[..whole]);
-    let next = play_trimmed(rt, desk, shown, &buf[..whole], n)?;
-    Ok(Played {
-        found: true,
-        desk: next,
-    })
-}
-
-fn play_trimmed(
-    rt: &impl Print,
-    desk: Desk,
-    shown: bool,
-    line: &[u8],
-    len: usize,
-) -> io::Result<Desk> {
-    let n = text_fill::bounded(len, line);
-    play_line(rt, desk, shown, &line[..n])
 }
 
 fn main(rt: HostRuntime) -> io::Result<()> {
     let mut input = rt.stdin();
-    let shown = input.is_terminal();
-    if shown {
-        say(
-            &rt,
-            b"A soft card. Every length is in bytes. help lists the calls.\n",
-        )?;
+    let is_shown = input.is_terminal();
+    if is_shown {
+        println!(&rt; "A soft card. Every length is in bytes. help lists the calls.")?;
     }
-    let mut desk = soft_state::start();
-    let mut left = usize::MAX;
-    while left > 0 {
-        let t = turn(&rt, &mut input, desk, shown)?;
-        if !t.found {
-            return Ok(());
+    let mut desk = Desk::new(&rt);
+    for _ in 0..u64::MAX {
+        if is_shown {
+            print!(&rt; "> ")?;
         }
-        let next = t.desk;
-        desk = next;
-        left -= 1;
+        match text_line::read_line(rt.alloc(), &mut input, LINE_MAX_BYTES) {
+            Ok(None) => break,
+            Ok(Some(line)) => {
+                let bytes = text_words::without_return(line.as_slice());
+                play_line(&mut desk, is_shown, bytes)?;
+            }
+            Err(LineError::TooLong) => bad(&rt, BadLine::TooLong)?,
+            Err(LineError::Io(error)) => return Err(error),
+        }
     }
     Ok(())
 }

@@ -1,7 +1,0 @@
--- WRITE of the card whose bytes are given.
--- Assumes nothing.
-
-use Rattle.soft_byte_calls.proofs.write.Goals as goal
-
-pub returns : goal.returns
-returns c = rw (← c.card_of-found.ensures.1) c.write-r.ensures

@@ -14,4 +14,4 @@ pub returns : goal.returns
 unfolding card_at
 returns c = let s : List ℕ = c.args.bytes in
     let l : length s ≡ card_bytes = search rules in
-    card-read s l (rw (c.identity_of-identity.ensures, c.pins_of-pins.ensures, c.pairing_of-pairing.ensures, c.keys_of-keys.ensures, c.channel_of-channel.ensures, c.tap_of-tap.ensures))
+    card-read s l (rw (c.identity_of.ensures, c.pins_of.ensures, c.pairing_of.ensures, c.keys_of.ensures, c.channel_of.ensures, c.tap_of.ensures))

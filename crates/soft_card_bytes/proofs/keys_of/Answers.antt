@@ -1,7 +1,6 @@
--- Each field is read at its place.
+-- The key's identity and the two paths from their places.
 -- Assumes nothing.
-
 use Rattle.soft_card_bytes.proofs.keys_of.Goals as goal
 
 pub returns : goal.returns
-returns c = rw (c.fill.ensures, c.path_of-current.ensures, c.path_of-pinless.ensures)
+returns c = rw (c.part.ensures, c.path_of.ensures, c.path_of-2.ensures)

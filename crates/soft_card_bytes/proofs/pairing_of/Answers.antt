@@ -6,4 +6,4 @@ use Rattle.record_rules.specs.Parse.{slots_from}
 use Rattle.soft_card_bytes.proofs.pairing_of.Goals as goal
 
 pub returns : goal.returns
-returns c = rw (c.fill.ensures, c.slots_from-slots.ensures ∙ ap (slots_from slot_count) c.fill-2.ensures, c.fill-3.ensures)
+returns c = rw (c.part.ensures, c.slots_from.ensures ∙ ap (slots_from slot_count) c.part-2.ensures, c.part-3.ensures)

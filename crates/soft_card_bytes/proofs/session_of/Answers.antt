@@ -14,4 +14,4 @@ pub returns : goal.returns
 unfolding session_at
 returns c = let s : List ℕ = c.args.bytes in
     let l : length s ≡ session_bytes = search rules in
-    session-read s l (rw (c.fill.ensures, c.fill-2.ensures, c.fill-3.ensures))
+    session-read s l (rw (c.part.ensures, c.part-2.ensures, c.part-3.ensures))

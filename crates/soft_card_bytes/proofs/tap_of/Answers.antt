@@ -1,7 +1,6 @@
--- The length in use at its place, and the bytes after it.
+-- The bytes after the length.
 -- Assumes nothing.
-
 use Rattle.soft_card_bytes.proofs.tap_of.Goals as goal
 
 pub returns : goal.returns
-returns c = rw c.fill.ensures
+returns c = rw c.part.ensures

@@ -3,7 +3,6 @@
 use Rattle.std.proofs.Common.{rules}
 use mathlib.Core.Path.{sym, ◌∙◌}
 use mathlib.Core.List.{[]}
-use native.Mathlib.Omega.{arith}
 use lib.ListN.{replicate}
 use lib.Seq.{take_all}
 use Rattle.card.specs.Sizes.{key_bytes, iv_bytes, session_bytes}

@@ -1,7 +1,6 @@
 -- Two fields, each written after the one before it.
 -- Assumes nothing.
 use Rattle.std.proofs.Common.{rules}
-use native.Mathlib.Omega.{arith}
 use lib.ListN.{take}
 use Rattle.card.specs.Sizes.{uid_bytes, public_key_bytes}
 use Rattle.soft_card_bytes.specs.Offsets.{identity_offset, public_key_offset}

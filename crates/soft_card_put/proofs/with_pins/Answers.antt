@@ -3,7 +3,6 @@
 use Rattle.std.proofs.Common.{rules}
 use mathlib.Core.Path.{refl}
 use mathlib.Core.List.{[], ◌∷◌}
-use native.Mathlib.Omega.{arith}
 use lib.ListN.{take}
 use Rattle.card.specs.Sizes.{pin_bytes, puk_bytes}
 use Rattle.soft_card_bytes.specs.Offsets.{pins_offset, puk_offset, pin_tries_offset}

@@ -1,43 +1,29 @@
--- `pieces` meets its contract. The loop's invariant: the pieces passed are put, and the pieces left decide. The measure is what is left of
--- the word, and one more.
+-- `pieces` meets its contract. The loop's invariant: the pieces passed are put, and the pieces left decide.
 -- Assumes nothing.
-use Rattle.std.proofs.Common.{rules}
-use native.Mathlib.Omega.{arith}
-use Rattle.soft_word_bytes.proofs.WordFacts.{joining-none, same-long, refused, ended, joining-more}
+use Rattle.std.proofs.Common.{rules, ◌≡◌, refl, arith, Err}
+use Rattle.std.proofs.lemmas.Grind.{common_steps}
+use Rattle.std.proofs.lemmas.List.{length_push}
+use Rattle.std.proofs.lemmas.Iterator.Splits.{YieldsList-from_slice_split}
+use Rattle.std.proofs.lemmas.Iterator.Consumers.{YieldsList-turn, YieldsList-end}
+use Rattle.soft_word_bytes.proofs.WordFacts.{is_dot, joining-none, refused, ended, joining-more}
 use Rattle.soft_word_bytes.proofs.pieces.Goals as goal
 
-pub loop-at-init : goal.loop-at-init
-loop-at-init c = joining-none _ _ _
+pub loop-p-init : goal.loop-p-init
+loop-p-init c = joining-none _ _ _
 
-pub piece-got-requires : goal.piece-got-requires
-piece-got-requires c = let e = same-long c.loop-at.invariant in search rules
+pub returns-in_err-len : goal.returns-in_err-len
+returns-in_err-len c =
+    let t = YieldsList-turn (YieldsList-from_slice_split _ is_dot c.args.w.now (cc) (cc) refl (λ x r q k. search rules)) c.loop-p.yielded _ c.loop-p.yielded_by _ _ c.in-Some.p c.in-Some.is c.next.ensures.steps in
+    let q = refused c.loop-p.invariant t c.piece.ensures _ c.in_err-len.was in
+    let k : c.from_residual.result ≡ Err c.in_err-len.field-0.0 = grind (arith, common_steps) in
+    rw k q
 
-pub shape_of-out-then-got-ne0 : goal.shape_of-out-then-got-ne0
-shape_of-out-then-got-ne0 c = let e = same-long c.loop-at.invariant in search rules
-
-pub returns-then-got-ne0 : goal.returns-then-got-ne0
-returns-then-got-ne0 c = let j = c.loop-at.invariant in
-    let f = c.place_of-end.ensures in
-    let q = c.piece-got.ensures in
-    refused j f q c.if-got-ne0.true
-
-pub shape_of-out-then-end-w : goal.shape_of-out-then-end-w
-shape_of-out-then-end-w c = let e = same-long c.loop-at.invariant in search rules
-
-pub returns-then-end-w : goal.returns-then-end-w
-returns-then-end-w c = let j = c.loop-at.invariant in
-    let f = c.place_of-end.ensures in
-    let q = c.piece-got.ensures in
-    ended j f q c.if-got-ne0.false c.if-end-w.true
-
-pub loop-at-preserved : goal.loop-at-preserved
-loop-at-preserved c = let j = c.loop-at.invariant in
-    let f = c.place_of-end.ensures in
-    let q = c.piece-got.ensures in
-    joining-more j f q c.if-got-ne0.false (omega (arith, f.within))
-
-pub shape_of-out : goal.shape_of-out
-shape_of-out c = same-long c.loop-at.invariant
+pub loop-p-preserved : goal.loop-p-preserved
+loop-p-preserved c =
+    let t = YieldsList-turn (YieldsList-from_slice_split _ is_dot c.args.w.now (cc) (cc) refl (λ x r q k. search rules)) c.loop-p.yielded _ c.loop-p.yielded_by _ _ c.in-Some.p c.in-Some.is c.next.ensures.steps in
+    rw (length_push c.loop-p.yielded c.in-Some.p) (joining-more c.loop-p.invariant t c.piece.ensures _ c.in_ok-len.was)
 
 pub returns : goal.returns
-returns c = absurd (omega (arith, c.loop-at.invariant.inside))
+returns c =
+    let t = YieldsList-end (YieldsList-from_slice_split _ is_dot c.args.w.now (cc) (cc) refl (λ x r q k. search rules)) c.loop-p.yielded _ c.loop-p.yielded_by _ _ c.in-None.is c.next.ensures.steps in
+    ended c.loop-p.invariant t.1

@@ -1,13 +1,8 @@
--- `pieces` meets its contract. The loop's invariant: the pieces passed are put, and the pieces left decide. The measure is what is left of
--- the word, and one more.
+-- `pieces` meets its contract. The loop's invariant: the pieces passed are put, and the pieces left decide.
 -- Assumes nothing.
-use Rattle.soft_word_bytes.proofs.pieces.Given as goal
-use Prim.Native.Nat.{◌+◌, ◌-◌}
 use lib.ListN.{length}
 use Rattle.soft_word_bytes.proofs.WordFacts.{Joining}
+use Rattle.soft_word_bytes.proofs.pieces.Given as goal
 
-abbrev pub invariant-loop-at : goal.invariant-loop-at
-invariant-loop-at l = Joining l.w l.last l.initial.out l.out l.at l.len
-
-abbrev pub decreases-loop-at : goal.decreases-loop-at
-decreases-loop-at l = length l.w + 1 - l.at
+abbrev pub invariant-loop-p : goal.invariant-loop-p
+invariant-loop-p l = Joining l.w l.last l.initial.out l.out (length l.yielded) l.len

@@ -1,19 +1,28 @@
 -- The bytes are filled one by one. Invariant: those passed are the first of `fit`.
 -- Assumes nothing.
-use mathlib.Core.Path.{◌≡◌, sym, ap, ◌∙◌}
-use Prim.Native.Nat.{ℕ}
+use mathlib.Core.Path.{◌≡◌, refl, sym, ap, ◌∙◌}
+use mathlib.Core.List.{List, [], ◌∷◌, ◌++◌}
+use Prim.Native.Nat.{ℕ, zero, suc, ◌+◌, ◌<◌}
+use native.Mathlib.Numerals.{add-one}
 use native.Mathlib.Omega.{arith}
-use lib.ListN.{length, drop, length-set}
-use lib.Seq.{take_all}
+use lib.ListN.{length, take, get_or, set}
+use lib.Seq.{take-suc-set}
+use Rattle.octets.specs.Bytes.{tabulate}
 use Rattle.record_rules.specs.Parse.{fit}
-use Rattle.record_spans.proofs.PlaceFacts.{fit-suc}
 use Rattle.soft_card_bytes.proofs.parts.fill.Goals as goal
 
-pub loop-i-preserved : goal.loop-i-preserved
-loop-i-preserved c = let g = c.args in
-    (simp length-set c.loop-i.invariant.0, (omega arith, rw c.byte_behind-b.ensures (fit-suc (drop g.at g.s.now) c.loop-i.dst c.loop-i.i c.loop-i-test.true c.loop-i.invariant.1.1)))
+-- ---- fit: one byte more
+tabulate-suc : (n : ℕ) (f : ℕ → ℕ) → tabulate (suc n) f ≡ tabulate n f ++ (f n ∷ [])
+tabulate-suc zero f = refl
+tabulate-suc (suc n) f = ap {B = List ℕ} (λ r. f 0 ∷ r) (tabulate-suc n (λ k. f (suc k)))
 
-pub returns : goal.returns
-returns c = let g = c.args in
-    let e : c.loop-i.i ≡ length g.dst.now = omega arith in
-    sym (take_all c.loop-i.i c.loop-i.dst (omega arith)) ∙ c.loop-i.invariant.1.1 ∙ ap (λ (n : ℕ). fit n (drop g.at g.s.now)) e
+fit-suc : (x dst : List ℕ) (i : ℕ) → i < length dst → take i dst ≡ fit i x
+    → take (i + 1) (set dst i (get_or x i 0)) ≡ fit (i + 1) x
+fit-suc x dst i h e =
+    rw (add-one i)
+    (take-suc-set dst i (get_or x i 0) h
+    ∙ ap (λ (l : List ℕ). l ++ (get_or x i 0 ∷ [])) e
+    ∙ sym (tabulate-suc i (λ k. get_or x k 0)))
+
+pub loop-i-preserved : goal.loop-i-preserved
+loop-i-preserved c = rw c.byte_at.ensures (fit-suc c.behind-source.result.now c.loop-i.dst c.loop-i.i (omega arith) c.loop-i.invariant)
