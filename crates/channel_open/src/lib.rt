@@ -26,7 +26,7 @@ fn open_formed(s: Session, head: [u8; 16], field: &[u8], plain: &mut [u8]) -> Op
         return None;
     }
     let n = field.len() - MAC_BYTES;
-    octets::put(plain, 0, &field[MAC_BYTES..]);
+    octets_lent::put(plain, 0, &field[MAC_BYTES..]);
     let enc_key = s.enc_key;
     let iv = s.iv;
     aes_cbc::cbc_decrypt(&enc_key, iv, &mut plain[0..n]);

@@ -49,7 +49,7 @@ pub fn seal_response(s: Session, response: &[u8], sw1: u8, sw2: u8, buf: &mut [u
     ensures { ResponseSealed s (response.now ++ (sw1 ∷ sw2 ∷ [])) buf.old result buf.new }
 {
     let plain_bytes = response.len() + 2;
-    octets::put(buf, MAC_BYTES, response);
+    octets_lent::put(buf, MAC_BYTES, response);
     let status = [sw1, sw2];
     octets::put(buf, MAC_BYTES + response.len(), &status);
     let padded = aes_padding::padded_bytes(plain_bytes);

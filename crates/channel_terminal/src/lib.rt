@@ -52,7 +52,7 @@ pub fn seal(s: Session, cla: u8, ins: u8, p1: u8, p2: u8, plain: &[u8], buf: &mu
     if SEAL_DATA_MAX_BYTES < plain.len() {
         return Outcome::refused(s, REFUSAL_DATA_LONG);
     }
-    octets::put(buf, FRONT_BYTES + MAC_BYTES, plain);
+    octets_lent::put(buf, FRONT_BYTES + MAC_BYTES, plain);
     let padded = aes_padding::padded_bytes(plain.len());
     let head = channel_heads::command_head([cla, ins, p1, p2], padded);
     let mac = channel_seal::seal_field(s, head, &mut buf[FRONT_BYTES..], plain.len());

@@ -19,7 +19,7 @@ fn tell_plainly(card: Card, status: u16, response: &[u8], buf: &mut [u8]) -> Ans
     ensures { AnswerDid (answered (plainly (reply_with status response.now card))) result buf.old buf.new }
 {
     let n = response.len();
-    octets::put(buf, 0, response);
+    octets_lent::put(buf, 0, response);
     octets::put(buf, n, &status.to_be_bytes());
     Answered {
         refusal: refusals::REFUSAL_NONE,

@@ -54,7 +54,7 @@ fn step_4(i: Instruction, card: Card, cmd: &[u8], field: &[u8], plain: &mut [u8]
 {
     let stage = order_rows::stage_of(i);
     if stage == card::STAGE_CLOSED {
-        octets::put(plain, 0, field);
+        octets_lent::put(plain, 0, field);
         return order_ends::step_5(i, false, card, cmd, field);
     }
     if card.channel.stage < stage {
