@@ -3,7 +3,8 @@
 // Proved: the result is the definition's, for every schedule and block.
 #![tactic(auto)]
 
-ghost use Rattle.std.specs.Prelude.{◌≡◌, [], ◌∷◌, length};
+ghost use Rattle.std.specs.Prelude.{◌≡◌, ◌<◌, [], ◌∷◌, length, slice_index};
+ghost use Rattle.aes_field.specs.Field.{sub_byte};
 ghost use Rattle.aes_field.specs.Tables.{sbox};
 ghost use Rattle.aes_rules.specs.Cipher.{sub_bytes, shift_rows, mix_row, mix_columns, cipher};
 
@@ -16,7 +17,14 @@ fn sub_bytes(table: &[u8; 256], s: [u8; 16]) -> [u8; 16]
     requires { table.now ≡ sbox }
     ensures { result ≡ sub_bytes s }
 {
-    s.map(|b| sub_byte(table, b))
+    // By from_fn: `s.map(..)` proves too, and this step then takes three times as long.
+    array::from_fn(
+        |i| -> u8
+            requires table_value { table.now ≡ sbox }
+            requires i_bound { i < 16 }
+            ensures { result ≡ sub_byte (slice_index s i) }
+        { sub_byte(table, s[i]) },
+    )
 }
 
 // Byte i is in row i % 4; its row is shifted to the left by as many columns of 4 bytes.

@@ -1,14 +1,14 @@
 -- The steps of a round byte by byte: what is at each place of a step's result, for code that computes it place by place.
 -- Assumes nothing.
 use mathlib.Core.Path.{◌≡◌, refl, sym, ap, ap₂, ◌∙◌}
-use mathlib.Core.List.{List, [], ◌∷◌}
+use mathlib.Core.List.{List, [], ◌∷◌, map}
 use Prim.Native.Nat.{ℕ, ◌+◌, ◌-◌, ◌*◌, ◌/◌, ◌%◌, ◌<◌}
 use native.Mathlib.Nat.{add-zero}
 use native.Mathlib.Omega.{arith}
-use lib.ListN.{length, take, drop, get_or, length-take, length-drop}
+use lib.ListN.{length, take, drop, get_or, length-map, length-take, length-drop}
 use lib.Seq.{get_or-take, get_or-drop}
 use Rattle.octets.specs.Bytes.{overwrite, tabulate}
-use Rattle.octets.proofs.Lists.{◌&◌, tabulated, tabulate-ext, length-tabulate, get_d_tabulate}
+use Rattle.octets.proofs.Lists.{◌&◌, tabulated, tabulate-ext, length-tabulate, get_d_tabulate, get_d_map}
 use Rattle.octets.proofs.Filling.{Filled, filled-part}
 use Rattle.aes_rules.specs.Cipher.{at, shift_rows, columns}
 use Rattle.aes_rules.specs.InvCipher.{inv_shift_rows}
@@ -26,6 +26,13 @@ pub inv-shift-rows-made : (s : List ℕ) → tabulate 16 (λ i. get_or s ((i + 1
 unfolding inv_shift_rows
 inv-shift-rows-made s = tabulate-ext 16 (λ i. get_or s ((i + 12 * (i % 4)) % 16) 0) (λ i. at s (i % 4) ((i / 4 + 4 - i % 4) % 4))
     (λ i h. place s ((i + 12 * (i % 4)) % 16) (i % 4 + 4 * ((i / 4 + 4 - i % 4) % 4)) (omega arith))
+
+-- ---- SubBytes and its inverse, and any step that does the same with each byte
+pub each-made : (f : ℕ → ℕ) (s : List ℕ) → length s ≡ 16 → tabulate 16 (λ i. f (get_or s i 0)) ≡ map f s
+each-made f s l =
+    sym
+    (tabulated 16 (map f s) (length-map s f ∙ l)
+    ∙ tabulate-ext 16 (λ k. get_or (map f s) k 0) (λ k. f (get_or s k 0)) (λ k h. get_d_map f s k (omega (arith, l))))
 
 -- ---- a column of MixColumns or of its inverse, which begins at byte i: the column turned k times gives the byte i + k
 module _ (m : ℕ → ℕ → ℕ → ℕ → ℕ) (s : List ℕ) where
