@@ -169,14 +169,15 @@ fn take<'a, E: Entry<'a>>(entry: &mut E, line: Line<'a, E::Section, E::Name>, at
     ensures brings { Brings E.empty entry.old at result }
     ensures takes { Takes E.empty line.entry at entry.old result entry.new }
 {
-    let before = *entry;
     match line {
         Line::Comment => Found::Nothing,
         Line::Blank => {
+            let before = *entry;
             *entry = E::begin(before.section());
             whole(before)
         }
         Line::Section(section) => {
+            let before = *entry;
             *entry = E::begin(Some(section));
             whole(before)
         }
@@ -217,17 +218,16 @@ impl<'a, E: Entry<'a>> Iterator for Entries<'a, E> {
 
     ghost remaining = { λ s. at_most (lines_left s) };
 
+    // The entry is worked on in place: a copy out and in again for each line takes longer than the line.
     fn next(&mut self) -> Option<Found<E>> {
-        let mut entry = self.entry?;
         let Some(rest) = self.rest else {
-            self.entry = None;
+            let entry = self.entry.take()?;
             return Some(whole(entry));
         };
+        let entry = self.entry.as_mut()?;
         let at = self.text.len().saturating_sub(rest.len());
         let (line, rest) = split_line(rest);
-        let found = take(&mut entry, E::line(line), at);
         self.rest = rest;
-        self.entry = Some(entry);
-        Some(found)
+        Some(take(entry, E::line(line), at))
     }
 }
