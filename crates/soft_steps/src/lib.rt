@@ -31,7 +31,8 @@ fn wrote<R: Print>(
     mut buf: Vec<u8>,
     count: usize,
 ) -> io::Result<()> {
-    buf.truncate(count);
+    let n = text_fill::bounded(count, buf.as_slice());
+    buf.truncate(n);
     println!(desk.rt; "{name} {}", Bytes(buf.as_slice()))?;
     desk.last = buf;
     Ok(())
@@ -65,7 +66,8 @@ pub fn ask<R: Print + AllocGlobal>(
     let supply = Supply(asked.kind);
     println!(desk.rt; "ask: {supply}")?;
     if supply != Supply::NONE {
-        buf.truncate(asked.count);
+        let n = text_fill::bounded(asked.count, buf.as_slice());
+        buf.truncate(n);
         println!(desk.rt; "  data {}", Bytes(buf.as_slice()))?;
     }
     Ok(true)

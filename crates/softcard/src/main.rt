@@ -55,14 +55,15 @@ fn main(rt: HostRuntime) -> io::Result<()> {
         println!(&rt; "A soft card. Every length is in bytes. help lists the calls.")?;
     }
     let mut desk = Desk::new(&rt);
+    let mut buf = [0u8; LINE_MAX_BYTES];
     for _ in 0..u64::MAX {
         if is_shown {
             print!(&rt; "> ")?;
         }
-        match text_line::read_line(rt.alloc(), &mut input, LINE_MAX_BYTES) {
+        match text_line::read_line(&mut input, &mut buf) {
             Ok(None) => break,
             Ok(Some(line)) => {
-                let bytes = text_words::without_return(line.as_slice());
+                let bytes = text_words::without_return(line);
                 play_line(&mut desk, is_shown, bytes)?;
             }
             Err(LineError::TooLong) => bad(&rt, BadLine::TooLong)?,

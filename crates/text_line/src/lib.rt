@@ -5,12 +5,11 @@
 
 ghost use Rattle.std.specs.Prelude.{◌≤◌, length, IfOk, IfSome};
 
-use std::alloc::{AllocError, AllocFailed, Global};
 use std::error::Error;
 use std::io::Read;
 use std::{fmt, io};
 
-// Why a line is not read: it has more bytes than it may have, or the input or the memory failed.
+// Why a line is not read: it has more bytes than there is room for, or the input failed.
 #[derive(Debug, Drop)]
 pub enum LineError {
     TooLong,
@@ -34,23 +33,17 @@ impl From<io::Error> for LineError {
     }
 }
 
-impl From<AllocFailed<u8>> for LineError {
-    fn from(error: AllocFailed<u8>) -> LineError {
-        LineError::Io(io::Error::from(AllocError::from(error)))
-    }
-}
-
-// Reads a line of the input, without the line feed that ends it; None where the input has ended.
-// A line of more than `most_bytes` is read to its end and dropped.
+// Reads a line of the input into `buf`, and gives the part of `buf` that it fills, without the line feed that ends it; None where the input
+// has ended. A line that is longer than `buf` is read to its end, and `buf` holds its start.
 // The input is read byte by byte, so nothing behind the line feed is taken from it.
-pub fn read_line(
-    alloc: Global,
+// After a read that failed, `buf` holds what was read of the line before it.
+pub fn read_line<'b>(
     input: &mut impl Read,
-    most_bytes: usize,
-) -> Result<Option<Vec<u8>>, LineError>
-    ensures { IfOk result (λ read. IfSome read (λ line. length line.items ≤ most_bytes)) }
+    buf: &'b mut [u8],
+) -> Result<Option<&'b [u8]>, LineError>
+    ensures { IfOk result (λ read. IfSome read (λ line. length line.now ≤ length buf.old)) }
 {
-    let mut line = Vec::new(alloc);
+    let mut len = 0;
     let mut found = false;
     let mut long = false;
     for byte in input.bytes() {
@@ -59,8 +52,9 @@ pub fn read_line(
         if byte == b'\n' {
             break;
         }
-        if line.len() < most_bytes {
-            line.push(byte)?;
+        if len < buf.len() {
+            buf[len] = byte;
+            len += 1;
         } else {
             long = true;
         }
@@ -68,7 +62,7 @@ pub fn read_line(
     if long {
         return Err(LineError::TooLong);
     }
-    Ok(found.then_some(line))
+    Ok(found.then_some(&buf[..len]))
 }
 
 #[cfg(test)]
@@ -76,15 +70,17 @@ mod tests {
     use super::*;
     use std::test::Fail;
 
-    // Two lines, the second with no line feed and too long, and then the end.
+    // Two lines, the second with no line feed and too long, of which the start is kept, and then the end.
     #[test]
     fn lines_are_read(rt: HostRuntime) -> Result<(), Fail> {
         let mut input: &[u8] = b"ab\nlonger";
-        let line = read_line(rt.alloc(), &mut input, 2)?;
+        let mut buf = [0u8; 2];
+        let line = read_line(&mut input, &mut buf)?;
         assert_eq!(rt; line.map(|line| line.len()), Some(2));
-        let long = read_line(rt.alloc(), &mut input, 2);
+        let long = read_line(&mut input, &mut buf);
         assert!(rt; matches!(&long, Err(LineError::TooLong)));
-        assert!(rt; read_line(rt.alloc(), &mut input, 2)?.is_none());
+        assert_eq!(rt; buf, *b"lo");
+        assert!(rt; read_line(&mut input, &mut buf)?.is_none());
         Ok(())
     }
 }

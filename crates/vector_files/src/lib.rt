@@ -153,15 +153,17 @@ impl<'a, E: Entry<'a>> Entries<'a, E> {
     }
 }
 
-// An entry that is read whole, where there is one.
-fn whole<'a, E: Entry<'a>>(entry: E) -> Found<E>
-    ensures { IsWhole E.empty entry result }
+// An entry that is read whole, where there is one; the next begins.
+fn whole<'a, E: Entry<'a>>(entry: &mut E, section: Option<E::Section>) -> Found<E>
+    ensures { IsWhole E.empty entry.old result }
 {
-    if entry.is_empty() {
+    let found = if entry.is_empty() {
         Found::Nothing
     } else {
-        Found::Entry(entry)
-    }
+        Found::Entry(*entry)
+    };
+    *entry = E::begin(section);
+    found
 }
 
 // What a line brings, which begins at byte `at`, and the entry after it.
@@ -172,15 +174,10 @@ fn take<'a, E: Entry<'a>>(entry: &mut E, line: Line<'a, E::Section, E::Name>, at
     match line {
         Line::Comment => Found::Nothing,
         Line::Blank => {
-            let before = *entry;
-            *entry = E::begin(before.section());
-            whole(before)
+            let section = entry.section();
+            whole(entry, section)
         }
-        Line::Section(section) => {
-            let before = *entry;
-            *entry = E::begin(Some(section));
-            whole(before)
-        }
+        Line::Section(section) => whole(entry, Some(section)),
         Line::Value(name, value) => {
             if entry.put(name, value) {
                 Found::Nothing
@@ -221,8 +218,8 @@ impl<'a, E: Entry<'a>> Iterator for Entries<'a, E> {
     // The entry is worked on in place: a copy out and in again for each line takes longer than the line.
     fn next(&mut self) -> Option<Found<E>> {
         let Some(rest) = self.rest else {
-            let entry = self.entry.take()?;
-            return Some(whole(entry));
+            let mut entry = self.entry.take()?;
+            return Some(whole(&mut entry, None));
         };
         let entry = self.entry.as_mut()?;
         let at = self.text.len().saturating_sub(rest.len());
