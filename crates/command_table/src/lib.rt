@@ -15,6 +15,8 @@ use card::Card;
 use rules::{Command, NO_FAULT, Replied, Verdict, WRONG_DATA};
 
 // Step 6: the supply that is read where all checks hold, or the status word of the first check that does not.
+// Not inlined: within step 5 its branches would have the card copied byte by byte for every command.
+#[inline(never)]
 pub fn judge(card: Card, k: Command, data: &[u8]) -> Verdict
     requires { PathsFit card.keys }
     ensures { result ≡ verdict (supply_of k) (checks_of k card «data».now) }
