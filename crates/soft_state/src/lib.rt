@@ -3,15 +3,20 @@
 // Proved: every function is safe and ends.
 #![tactic(auto)]
 
-ghost use Rattle.std.specs.Prelude.{◌≡◌, replicate, [], IfOk};
+ghost use Rattle.std.specs.Prelude.{◌≡◌, ◌≤◌, ◌↔◌, replicate, [], IfOk, IsOk};
 
 mod bad_line;
 mod line;
 
+use arrayvec::ArrayVec;
 pub use bad_line::{BadLine, CallError};
 pub use line::Line;
 use soft_card_bytes::{CARD_BYTES, SESSION_BYTES};
-use std::alloc::AllocError;
+use soft_word_bytes::VALUE_MAX_BYTES;
+use std::io;
+
+// The bytes of a word, or of a buffer that an operation writes to. They lie in the value itself.
+pub type Value = ArrayVec<u8, VALUE_MAX_BYTES>;
 
 // The soft card: where it writes, the card and the session as their bytes, and the bytes that were last written.
 #[derive(Drop)]
@@ -19,10 +24,10 @@ pub struct Desk<'a, R> {
     pub rt: &'a R,
     pub card: [u8; CARD_BYTES],
     pub session: [u8; SESSION_BYTES],
-    pub last: Vec<u8>,
+    pub last: Value,
 }
 
-impl<'a, R: AllocGlobal> Desk<'a, R> {
+impl<'a, R> Desk<'a, R> {
     // As it begins: a card and a session of zeros, and nothing written.
     pub fn new(rt: &'a R) -> Self
         ensures card { result.card ≡ replicate CARD_BYTES 0 }
@@ -33,15 +38,21 @@ impl<'a, R: AllocGlobal> Desk<'a, R> {
             rt,
             card: [0; CARD_BYTES],
             session: [0; SESSION_BYTES],
-            last: Vec::new(rt.alloc()),
+            last: Value::new(),
         }
     }
 
-    // A buffer of so many zeros, for an operation to write to.
-    pub fn buffer(&self, room_bytes: usize) -> Result<Vec<u8>, AllocError>
-        ensures { IfOk result (λ v. v.items ≡ replicate room_bytes 0) }
+    // A buffer of so many zeros, for an operation to write to. No more are lent than a word may mean.
+    pub fn buffer(&self, room_bytes: usize) -> io::Result<Value>
+        ensures zeros { IfOk result (λ v. v.items ≡ replicate room_bytes 0) }
+        ensures variant { IsOk result ↔ (room_bytes ≤ VALUE_MAX_BYTES) }
     {
-        vec![in self.rt.alloc(); 0; room_bytes]
+        if room_bytes > VALUE_MAX_BYTES {
+            return Err(io::Error::from(io::ErrorKind::InvalidInput));
+        }
+        let mut buf = Value::from([0; VALUE_MAX_BYTES]);
+        buf.truncate(room_bytes);
+        Ok(buf)
     }
 }
 
@@ -50,7 +61,7 @@ mod tests {
     use super::*;
     use std::test::Fail;
 
-    // A line's words as bytes, where there is memory; `last` is empty at first.
+    // A line's words as bytes; `last` is empty at first. No room is lent over the most.
     #[test]
     fn words_are_read(rt: HostRuntime) -> Result<(), Fail> {
         let desk = Desk::new(&rt);
@@ -62,6 +73,8 @@ mod tests {
         let pair: [u8; 2] = line.array(&desk, 2, "BYTES")?;
         assert_eq!(rt; pair, [10, 11]);
         assert_eq!(rt; desk.buffer(3)?.as_slice(), [0, 0, 0].as_slice());
+        assert_eq!(rt; desk.buffer(VALUE_MAX_BYTES)?.len(), VALUE_MAX_BYTES);
+        assert!(rt; desk.buffer(VALUE_MAX_BYTES + 1).is_err());
         Ok(())
     }
 }

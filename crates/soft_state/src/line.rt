@@ -5,7 +5,7 @@ ghost use Rattle.text_words.specs.Words.{word_of, word_count};
 ghost use Rattle.text_decimal.specs.Decimal.{number_of};
 ghost use Rattle.soft_word_bytes.specs.Meaning.{taken, meaning};
 
-use crate::{BadLine, CallError, Desk};
+use crate::{BadLine, CallError, Desk, Value};
 use soft_word_bytes::{VALUE_MAX_BYTES, ValueFault};
 
 // A line, whose first word is the call's name.
@@ -30,15 +30,15 @@ impl<'a> Line<'a> {
     }
 
     // The bytes of word number k, which the table of calls names so.
-    pub fn value<R: AllocGlobal>(
+    pub fn value<R>(
         &self,
         desk: &Desk<'_, R>,
         k: usize,
         name: &'static str,
-    ) -> Result<Vec<u8>, CallError>
+    ) -> Result<Value, CallError>
         ensures { IfOk result (λ v. meaning desk.now.last.items (word_of k self.now.bytes.now) VALUE_MAX_BYTES ≡ taken v.items) }
     {
-        let mut value = desk.buffer(VALUE_MAX_BYTES)?;
+        let mut value = Value::from([0; VALUE_MAX_BYTES]);
         let last = desk.last.as_slice();
         let len = soft_word_bytes::bytes_of(self.word(k), last, value.as_mut_slice()).map_err(
             |fault| match fault {
@@ -51,7 +51,7 @@ impl<'a> Line<'a> {
     }
 
     // The same where the call takes N bytes.
-    pub fn array<const N: usize, R: AllocGlobal>(
+    pub fn array<const N: usize, R>(
         &self,
         desk: &Desk<'_, R>,
         k: usize,
