@@ -44,7 +44,7 @@ pub fn unseal<R: Print>(desk: &mut Desk<'_, R>, line: Line<'_>) -> Result<(), Ca
 // ---- send
 // The sealed command, which is the last, is asked about and answered; whether neither was refused. `data` is what was sealed.
 fn exchange<R: Print>(desk: &mut Desk<'_, R>, data: &[u8], supply: &[u8]) -> io::Result<bool> {
-    let cmd = desk.last.clone()?;
+    let cmd = desk.last;
     if !soft_steps::ask(desk, cmd.as_slice(), refusals::ASK_ROOM_BYTES)? {
         return Ok(false);
     }
@@ -69,7 +69,7 @@ fn say_numbers(rt: &impl Print, response: &[u8]) -> io::Result<()> {
 
 // The card's answer, which is the last, is unsealed; of GENERATE MNEMONIC's, the word numbers are told.
 fn open<R: Print>(desk: &mut Desk<'_, R>, ins: u8) -> io::Result<()> {
-    let response = desk.last.clone()?;
+    let response = desk.last;
     let done = soft_steps::unseal(desk, response.as_slice(), refusals::UNSEAL_ROOM_BYTES)?;
     if done && ins == rules::INS_MNEMONIC {
         say_numbers(desk.rt, desk.last.as_slice())?;

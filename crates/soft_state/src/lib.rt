@@ -3,23 +3,22 @@
 // Proved: every function is safe and ends.
 #![tactic(auto)]
 
-ghost use Rattle.std.specs.Prelude.{◌≡◌, ◌≤◌, ◌↔◌, replicate, [], IfOk, IsOk};
+ghost use Rattle.std.specs.Prelude.{◌≡◌, ◌≤◌, replicate, [], IfOk, IsOk, OnOk};
+ghost use Rattle.soft_state.specs.Items.{items};
 
 mod bad_line;
 mod line;
+mod value;
 
-use arrayvec::ArrayVec;
 pub use bad_line::{BadLine, CallError};
 pub use line::Line;
 use soft_card_bytes::{CARD_BYTES, SESSION_BYTES};
 use soft_word_bytes::VALUE_MAX_BYTES;
+use std::alloc::AllocError;
 use std::io;
-
-// The bytes of a word, or of a buffer that an operation writes to. They lie in the value itself.
-pub type Value = ArrayVec<u8, VALUE_MAX_BYTES>;
+pub use value::Value;
 
 // The soft card: where it writes, the card and the session as their bytes, and the bytes that were last written.
-#[derive(Drop)]
 pub struct Desk<'a, R> {
     pub rt: &'a R,
     pub card: [u8; CARD_BYTES],
@@ -27,32 +26,39 @@ pub struct Desk<'a, R> {
     pub last: Value,
 }
 
+impl<'a, R> Clone for Desk<'a, R> {
+    fn clone(&self) -> Result<Self, AllocError> {
+        Ok(*self)
+    }
+}
+
+impl<'a, R> Copy for Desk<'a, R> {}
+
 impl<'a, R> Desk<'a, R> {
     // As it begins: a card and a session of zeros, and nothing written.
     pub fn new(rt: &'a R) -> Self
         ensures card { result.card ≡ replicate CARD_BYTES 0 }
         ensures session { result.session ≡ replicate SESSION_BYTES 0 }
-        ensures last { result.last.items ≡ [] }
+        ensures last { items result.last ≡ [] }
     {
         Desk {
             rt,
             card: [0; CARD_BYTES],
             session: [0; SESSION_BYTES],
-            last: Value::new(),
+            last: Value::zeros(0),
         }
     }
 
     // A buffer of so many zeros, for an operation to write to. No more are lent than a word may mean.
     pub fn buffer(&self, room_bytes: usize) -> io::Result<Value>
-        ensures zeros { IfOk result (λ v. v.items ≡ replicate room_bytes 0) }
-        ensures variant { IsOk result ↔ (room_bytes ≤ VALUE_MAX_BYTES) }
+        ensures zeros { IfOk result (λ v. items v ≡ replicate room_bytes 0) }
+        ensures lent { room_bytes ≤ VALUE_MAX_BYTES → IsOk result }
+        ensures bound { OnOk result (room_bytes ≤ VALUE_MAX_BYTES) }
     {
         if room_bytes > VALUE_MAX_BYTES {
             return Err(io::Error::from(io::ErrorKind::InvalidInput));
         }
-        let mut buf = Value::from([0; VALUE_MAX_BYTES]);
-        buf.truncate(room_bytes);
-        Ok(buf)
+        Ok(Value::zeros(room_bytes))
     }
 }
 

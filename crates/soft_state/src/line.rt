@@ -3,6 +3,7 @@ ghost use Rattle.std.specs.Prelude.{◌≡◌, ◌+◌, ◌^◌, ◌<◌, ◌≤
 ghost use Rattle.soft_state.specs.declared.bad_line.BadLine.TheVariants.{Room};
 ghost use Rattle.text_words.specs.Words.{word_of, word_count};
 ghost use Rattle.text_decimal.specs.Decimal.{number_of};
+ghost use Rattle.soft_state.specs.Items.{items};
 ghost use Rattle.soft_word_bytes.specs.Meaning.{taken, meaning};
 
 use crate::{BadLine, CallError, Desk, Value};
@@ -36,11 +37,11 @@ impl<'a> Line<'a> {
         k: usize,
         name: &'static str,
     ) -> Result<Value, CallError>
-        ensures { IfOk result (λ v. meaning desk.now.last.items (word_of k self.now.bytes.now) VALUE_MAX_BYTES ≡ taken v.items) }
+        ensures { IfOk result (λ v. meaning (items desk.now.last) (word_of k self.now.bytes.now) VALUE_MAX_BYTES ≡ taken (items v)) }
     {
-        let mut value = Value::from([0; VALUE_MAX_BYTES]);
+        let mut value = Value::zeros(VALUE_MAX_BYTES);
         let last = desk.last.as_slice();
-        let len = soft_word_bytes::bytes_of(self.word(k), last, value.as_mut_slice()).map_err(
+        let len = soft_word_bytes::bytes_of(self.word(k), last, &mut value.space).map_err(
             |fault| match fault {
                 ValueFault::Form => BadLine::NotBytes(name),
                 ValueFault::Many => BadLine::TooManyBytes(name),
@@ -57,7 +58,7 @@ impl<'a> Line<'a> {
         k: usize,
         name: &'static str,
     ) -> Result<[u8; N], CallError>
-        ensures { IfOk result (λ a. meaning desk.now.last.items (word_of k self.now.bytes.now) VALUE_MAX_BYTES ≡ taken a) }
+        ensures { IfOk result (λ a. meaning (items desk.now.last) (word_of k self.now.bytes.now) VALUE_MAX_BYTES ≡ taken a) }
     {
         let value = self.value(desk, k, name)?;
         match <[u8; N]>::try_from(value.as_slice()) {
