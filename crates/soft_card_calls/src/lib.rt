@@ -26,10 +26,7 @@ fn refused(number: u8) -> Option<Refused> {
     })
 }
 
-pub fn fresh<R: Print + AllocGlobal>(
-    desk: &mut Desk<'_, R>,
-    line: Line<'_>,
-) -> Result<(), CallError> {
+pub fn fresh<R: Print>(desk: &mut Desk<'_, R>, line: Line<'_>) -> Result<(), CallError> {
     let uid = line.array(desk, 1, "UID")?;
     let public_key = line.array(desk, 2, "KEY")?;
     println!(desk.rt; "fresh: done")?;
@@ -47,10 +44,7 @@ pub fn reset<R: Print>(desk: &mut Desk<'_, R>) -> Result<(), CallError> {
     Ok(())
 }
 
-pub fn read<R: Print + AllocGlobal>(
-    desk: &mut Desk<'_, R>,
-    line: Line<'_>,
-) -> Result<(), CallError> {
+pub fn read<R: Print>(desk: &mut Desk<'_, R>, line: Line<'_>) -> Result<(), CallError> {
     let stored = line.value(desk, 1, "RECORD")?;
     let given = soft_byte_calls::read(stored.as_slice());
     match refused(given.refusal) {
@@ -61,17 +55,14 @@ pub fn read<R: Print + AllocGlobal>(
     Ok(())
 }
 
-pub fn write<R: Print + AllocGlobal>(
-    desk: &mut Desk<'_, R>,
-    line: Line<'_>,
-) -> Result<(), CallError> {
+pub fn write<R: Print>(desk: &mut Desk<'_, R>, line: Line<'_>) -> Result<(), CallError> {
     let room_bytes = line.room(1, record_rules::WRITE_ROOM_BYTES)?;
     soft_steps::write(desk, room_bytes)?;
     Ok(())
 }
 
 // The tap read: which part of a stored record and a factory record is the tap record.
-pub fn tap<R: Print + AllocGlobal>(desk: &Desk<'_, R>, line: Line<'_>) -> Result<(), CallError> {
+pub fn tap<R: Print>(desk: &Desk<'_, R>, line: Line<'_>) -> Result<(), CallError> {
     let record = line.value(desk, 1, "RECORD")?;
     let factory = line.value(desk, 2, "FACTORY")?;
     let record = record.as_slice();
@@ -105,10 +96,7 @@ pub fn card<R: Print>(desk: &Desk<'_, R>) -> Result<(), CallError> {
 }
 
 // A field takes the bytes that the line gives, which are as many as it has.
-pub fn set<R: Print + AllocGlobal>(
-    desk: &mut Desk<'_, R>,
-    line: Line<'_>,
-) -> Result<(), CallError> {
+pub fn set<R: Print>(desk: &mut Desk<'_, R>, line: Line<'_>) -> Result<(), CallError> {
     let field = Field::named(line.word(1)).ok_or(BadLine::NoSuchField)?;
     let value = line.value(desk, 2, "BYTES")?;
     if value.len() != field.len {

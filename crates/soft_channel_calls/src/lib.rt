@@ -9,7 +9,7 @@ use soft_names::{Refusal, Refused};
 use soft_state::{BadLine, CallError, Desk, Line};
 use std::io;
 
-pub fn ask<R: Print + AllocGlobal>(desk: &Desk<'_, R>, line: Line<'_>) -> Result<(), CallError> {
+pub fn ask<R: Print>(desk: &Desk<'_, R>, line: Line<'_>) -> Result<(), CallError> {
     let cmd = line.value(desk, 1, "COMMAND")?;
     let room_bytes = line.room(2, refusals::ASK_ROOM_BYTES)?;
     soft_steps::ask(desk, cmd.as_slice(), room_bytes)?;
@@ -17,10 +17,7 @@ pub fn ask<R: Print + AllocGlobal>(desk: &Desk<'_, R>, line: Line<'_>) -> Result
 }
 
 // ANSWER; the opened data are not known, so a fault offset is told without its tag.
-pub fn answer<R: Print + AllocGlobal>(
-    desk: &mut Desk<'_, R>,
-    line: Line<'_>,
-) -> Result<(), CallError> {
+pub fn answer<R: Print>(desk: &mut Desk<'_, R>, line: Line<'_>) -> Result<(), CallError> {
     let cmd = line.value(desk, 1, "COMMAND")?;
     let supply = line.value(desk, 2, "SUPPLY")?;
     let room_bytes = line.room(3, refusals::ANSWER_ROOM_BYTES)?;
@@ -29,10 +26,7 @@ pub fn answer<R: Print + AllocGlobal>(
     Ok(())
 }
 
-pub fn seal<R: Print + AllocGlobal>(
-    desk: &mut Desk<'_, R>,
-    line: Line<'_>,
-) -> Result<(), CallError> {
+pub fn seal<R: Print>(desk: &mut Desk<'_, R>, line: Line<'_>) -> Result<(), CallError> {
     let header = line.array(desk, 1, "HEADER")?;
     let plain = line.value(desk, 2, "DATA")?;
     let room_bytes = line.room(3, refusals::SEAL_ROOM_BYTES)?;
@@ -40,10 +34,7 @@ pub fn seal<R: Print + AllocGlobal>(
     Ok(())
 }
 
-pub fn unseal<R: Print + AllocGlobal>(
-    desk: &mut Desk<'_, R>,
-    line: Line<'_>,
-) -> Result<(), CallError> {
+pub fn unseal<R: Print>(desk: &mut Desk<'_, R>, line: Line<'_>) -> Result<(), CallError> {
     let response = line.value(desk, 1, "RESPONSE")?;
     let room_bytes = line.room(2, refusals::UNSEAL_ROOM_BYTES)?;
     soft_steps::unseal(desk, response.as_slice(), room_bytes)?;
@@ -52,12 +43,8 @@ pub fn unseal<R: Print + AllocGlobal>(
 
 // ---- send
 // The sealed command, which is the last, is asked about and answered; whether neither was refused. `data` is what was sealed.
-fn exchange<R: Print + AllocGlobal>(
-    desk: &mut Desk<'_, R>,
-    data: &[u8],
-    supply: &[u8],
-) -> io::Result<bool> {
-    let cmd = desk.last.clone()?;
+fn exchange<R: Print>(desk: &mut Desk<'_, R>, data: &[u8], supply: &[u8]) -> io::Result<bool> {
+    let cmd = desk.last;
     if !soft_steps::ask(desk, cmd.as_slice(), refusals::ASK_ROOM_BYTES)? {
         return Ok(false);
     }
@@ -81,8 +68,8 @@ fn say_numbers(rt: &impl Print, response: &[u8]) -> io::Result<()> {
 }
 
 // The card's answer, which is the last, is unsealed; of GENERATE MNEMONIC's, the word numbers are told.
-fn open<R: Print + AllocGlobal>(desk: &mut Desk<'_, R>, ins: u8) -> io::Result<()> {
-    let response = desk.last.clone()?;
+fn open<R: Print>(desk: &mut Desk<'_, R>, ins: u8) -> io::Result<()> {
+    let response = desk.last;
     let done = soft_steps::unseal(desk, response.as_slice(), refusals::UNSEAL_ROOM_BYTES)?;
     if done && ins == rules::INS_MNEMONIC {
         say_numbers(desk.rt, desk.last.as_slice())?;
@@ -91,10 +78,7 @@ fn open<R: Print + AllocGlobal>(desk: &mut Desk<'_, R>, ins: u8) -> io::Result<(
 }
 
 // Where ASK or ANSWER is refused, the terminal has the session that it had.
-pub fn send<R: Print + AllocGlobal>(
-    desk: &mut Desk<'_, R>,
-    line: Line<'_>,
-) -> Result<(), CallError> {
+pub fn send<R: Print>(desk: &mut Desk<'_, R>, line: Line<'_>) -> Result<(), CallError> {
     let header: [u8; 4] = line.array(desk, 1, "HEADER")?;
     let plain = line.value(desk, 2, "DATA")?;
     let supply = line.value(desk, 3, "SUPPLY")?;
@@ -112,7 +96,7 @@ pub fn send<R: Print + AllocGlobal>(
 }
 
 // ---- WALK
-pub fn walk<R: Print + AllocGlobal>(desk: &Desk<'_, R>, line: Line<'_>) -> Result<(), CallError> {
+pub fn walk<R: Print>(desk: &Desk<'_, R>, line: Line<'_>) -> Result<(), CallError> {
     let input = line.value(desk, 1, "BYTES")?;
     let walked = soft_byte_calls::walk(input.as_slice());
     match (Refusal::of(walked.refusal), walked.count) {
@@ -131,10 +115,7 @@ pub fn walk<R: Print + AllocGlobal>(desk: &Desk<'_, R>, line: Line<'_>) -> Resul
 }
 
 // ---- ENTROPY
-pub fn entropy<R: Print + AllocGlobal>(
-    desk: &mut Desk<'_, R>,
-    line: Line<'_>,
-) -> Result<(), CallError> {
+pub fn entropy<R: Print>(desk: &mut Desk<'_, R>, line: Line<'_>) -> Result<(), CallError> {
     let words = line.value(desk, 1, "WORDS")?;
     let room_bytes = line.room(2, refusals::ENTROPY_ROOM_BYTES)?;
     soft_steps::entropy(desk, words.as_slice(), room_bytes)?;
@@ -155,10 +136,7 @@ fn take_of_card<R: Print>(desk: &mut Desk<'_, R>) -> Result<(), CallError> {
     take(desk, session)
 }
 
-fn take_given<R: Print + AllocGlobal>(
-    desk: &mut Desk<'_, R>,
-    line: Line<'_>,
-) -> Result<(), CallError> {
+fn take_given<R: Print>(desk: &mut Desk<'_, R>, line: Line<'_>) -> Result<(), CallError> {
     let enc_key = line.array(desk, 1, "ENC")?;
     let mac_key = line.array(desk, 2, "MAC")?;
     let iv = line.array(desk, 3, "IV")?;
@@ -171,10 +149,7 @@ fn take_given<R: Print + AllocGlobal>(
 }
 
 // The session is shown, or another is taken: the card's, or the one that the line gives.
-pub fn session<R: Print + AllocGlobal>(
-    desk: &mut Desk<'_, R>,
-    line: Line<'_>,
-) -> Result<(), CallError> {
+pub fn session<R: Print>(desk: &mut Desk<'_, R>, line: Line<'_>) -> Result<(), CallError> {
     match (line.count(), line.word(1)) {
         (1, _) => Ok(soft_show::say_session(desk.rt, desk.session)?),
         (4, _) => take_given(desk, line),

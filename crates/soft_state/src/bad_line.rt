@@ -1,5 +1,4 @@
 // Why a line is not played.
-use std::alloc::AllocError;
 use std::error::Error;
 use std::{fmt, io};
 use text_print::Length;
@@ -46,7 +45,7 @@ impl fmt::Display for BadLine {
 
 impl Error for BadLine {}
 
-// Why a call ends early: its line is bad and nothing changed, or a write or the memory failed.
+// Why a call ends early: its line is bad and nothing changed, or a write failed.
 #[derive(Debug, Drop)]
 pub enum CallError {
     Line(BadLine),
@@ -73,11 +72,5 @@ impl From<BadLine> for CallError {
 impl From<io::Error> for CallError {
     fn from(error: io::Error) -> CallError {
         CallError::Io(error)
-    }
-}
-
-impl From<AllocError> for CallError {
-    fn from(error: AllocError) -> CallError {
-        CallError::Io(io::Error::from(error))
     }
 }

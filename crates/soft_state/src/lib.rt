@@ -3,45 +3,62 @@
 // Proved: every function is safe and ends.
 #![tactic(auto)]
 
-ghost use Rattle.std.specs.Prelude.{◌≡◌, replicate, [], IfOk};
+ghost use Rattle.std.specs.Prelude.{◌≡◌, ◌≤◌, replicate, [], IfOk, IsOk, OnOk};
+ghost use Rattle.soft_state.specs.Items.{items};
 
 mod bad_line;
 mod line;
+mod value;
 
 pub use bad_line::{BadLine, CallError};
 pub use line::Line;
 use soft_card_bytes::{CARD_BYTES, SESSION_BYTES};
+use soft_word_bytes::VALUE_MAX_BYTES;
 use std::alloc::AllocError;
+use std::io;
+pub use value::Value;
 
 // The soft card: where it writes, the card and the session as their bytes, and the bytes that were last written.
-#[derive(Drop)]
 pub struct Desk<'a, R> {
     pub rt: &'a R,
     pub card: [u8; CARD_BYTES],
     pub session: [u8; SESSION_BYTES],
-    pub last: Vec<u8>,
+    pub last: Value,
 }
 
-impl<'a, R: AllocGlobal> Desk<'a, R> {
+impl<'a, R> Clone for Desk<'a, R> {
+    fn clone(&self) -> Result<Self, AllocError> {
+        Ok(*self)
+    }
+}
+
+impl<'a, R> Copy for Desk<'a, R> {}
+
+impl<'a, R> Desk<'a, R> {
     // As it begins: a card and a session of zeros, and nothing written.
     pub fn new(rt: &'a R) -> Self
         ensures card { result.card ≡ replicate CARD_BYTES 0 }
         ensures session { result.session ≡ replicate SESSION_BYTES 0 }
-        ensures last { result.last.items ≡ [] }
+        ensures last { items result.last ≡ [] }
     {
         Desk {
             rt,
             card: [0; CARD_BYTES],
             session: [0; SESSION_BYTES],
-            last: Vec::new(rt.alloc()),
+            last: Value::zeros(0),
         }
     }
 
-    // A buffer of so many zeros, for an operation to write to.
-    pub fn buffer(&self, room_bytes: usize) -> Result<Vec<u8>, AllocError>
-        ensures { IfOk result (λ v. v.items ≡ replicate room_bytes 0) }
+    // A buffer of so many zeros, for an operation to write to. No more are lent than a word may mean.
+    pub fn buffer(&self, room_bytes: usize) -> io::Result<Value>
+        ensures zeros { IfOk result (λ v. items v ≡ replicate room_bytes 0) }
+        ensures lent { room_bytes ≤ VALUE_MAX_BYTES → IsOk result }
+        ensures bound { OnOk result (room_bytes ≤ VALUE_MAX_BYTES) }
     {
-        vec![in self.rt.alloc(); 0; room_bytes]
+        if room_bytes > VALUE_MAX_BYTES {
+            return Err(io::Error::from(io::ErrorKind::InvalidInput));
+        }
+        Ok(Value::zeros(room_bytes))
     }
 }
 
@@ -50,7 +67,7 @@ mod tests {
     use super::*;
     use std::test::Fail;
 
-    // A line's words as bytes, where there is memory; `last` is empty at first.
+    // A line's words as bytes; `last` is empty at first. No room is lent over the most.
     #[test]
     fn words_are_read(rt: HostRuntime) -> Result<(), Fail> {
         let desk = Desk::new(&rt);
@@ -62,6 +79,8 @@ mod tests {
         let pair: [u8; 2] = line.array(&desk, 2, "BYTES")?;
         assert_eq!(rt; pair, [10, 11]);
         assert_eq!(rt; desk.buffer(3)?.as_slice(), [0, 0, 0].as_slice());
+        assert_eq!(rt; desk.buffer(VALUE_MAX_BYTES)?.len(), VALUE_MAX_BYTES);
+        assert!(rt; desk.buffer(VALUE_MAX_BYTES + 1).is_err());
         Ok(())
     }
 }

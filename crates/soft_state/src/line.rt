@@ -3,9 +3,10 @@ ghost use Rattle.std.specs.Prelude.{◌≡◌, ◌+◌, ◌^◌, ◌<◌, ◌≤
 ghost use Rattle.soft_state.specs.declared.bad_line.BadLine.TheVariants.{Room};
 ghost use Rattle.text_words.specs.Words.{word_of, word_count};
 ghost use Rattle.text_decimal.specs.Decimal.{number_of};
+ghost use Rattle.soft_state.specs.Items.{items};
 ghost use Rattle.soft_word_bytes.specs.Meaning.{taken, meaning};
 
-use crate::{BadLine, CallError, Desk};
+use crate::{BadLine, CallError, Desk, Value};
 use soft_word_bytes::{VALUE_MAX_BYTES, ValueFault};
 
 // A line, whose first word is the call's name.
@@ -30,17 +31,17 @@ impl<'a> Line<'a> {
     }
 
     // The bytes of word number k, which the table of calls names so.
-    pub fn value<R: AllocGlobal>(
+    pub fn value<R>(
         &self,
         desk: &Desk<'_, R>,
         k: usize,
         name: &'static str,
-    ) -> Result<Vec<u8>, CallError>
-        ensures { IfOk result (λ v. meaning desk.now.last.items (word_of k self.now.bytes.now) VALUE_MAX_BYTES ≡ taken v.items) }
+    ) -> Result<Value, CallError>
+        ensures { IfOk result (λ v. meaning (items desk.now.last) (word_of k self.now.bytes.now) VALUE_MAX_BYTES ≡ taken (items v)) }
     {
-        let mut value = desk.buffer(VALUE_MAX_BYTES)?;
+        let mut value = Value::zeros(VALUE_MAX_BYTES);
         let last = desk.last.as_slice();
-        let len = soft_word_bytes::bytes_of(self.word(k), last, value.as_mut_slice()).map_err(
+        let len = soft_word_bytes::bytes_of(self.word(k), last, &mut value.space).map_err(
             |fault| match fault {
                 ValueFault::Form => BadLine::NotBytes(name),
                 ValueFault::Many => BadLine::TooManyBytes(name),
@@ -51,13 +52,13 @@ impl<'a> Line<'a> {
     }
 
     // The same where the call takes N bytes.
-    pub fn array<const N: usize, R: AllocGlobal>(
+    pub fn array<const N: usize, R>(
         &self,
         desk: &Desk<'_, R>,
         k: usize,
         name: &'static str,
     ) -> Result<[u8; N], CallError>
-        ensures { IfOk result (λ a. meaning desk.now.last.items (word_of k self.now.bytes.now) VALUE_MAX_BYTES ≡ taken a) }
+        ensures { IfOk result (λ a. meaning (items desk.now.last) (word_of k self.now.bytes.now) VALUE_MAX_BYTES ≡ taken a) }
     {
         let value = self.value(desk, k, name)?;
         match <[u8; N]>::try_from(value.as_slice()) {

@@ -5,9 +5,15 @@
 #![tactic(auto)]
 
 use soft_names::{Refusal, Refused, StatusWord, Supply};
-use soft_state::Desk;
+use soft_state::{Desk, Value};
+use soft_word_bytes::VALUE_MAX_BYTES;
 use std::io;
 use text_print::Bytes;
+
+// The buffer that an operation gets. A room over the most is cut to it: no operation writes as much.
+fn lend<R>(desk: &Desk<'_, R>, room_bytes: usize) -> io::Result<Value> {
+    desk.buffer(room_bytes.min(VALUE_MAX_BYTES))
+}
 
 // Whether an operation with this refusal's number was done. A refusal is told, with the room that the operation asks for.
 fn is_done(rt: &impl Print, name: &str, refusal: u8, room_bytes: usize) -> io::Result<bool> {
@@ -28,7 +34,7 @@ fn is_done(rt: &impl Print, name: &str, refusal: u8, room_bytes: usize) -> io::R
 fn wrote<R: Print>(
     desk: &mut Desk<'_, R>,
     name: &str,
-    mut buf: Vec<u8>,
+    mut buf: Value,
     count: usize,
 ) -> io::Result<()> {
     let n = text_fill::bounded(count, buf.as_slice());
@@ -42,7 +48,7 @@ fn wrote<R: Print>(
 fn wrote_response<R: Print>(
     desk: &mut Desk<'_, R>,
     name: &str,
-    buf: Vec<u8>,
+    buf: Value,
     count: usize,
 ) -> io::Result<()> {
     wrote(desk, name, buf, count)?;
@@ -53,12 +59,8 @@ fn wrote_response<R: Print>(
 }
 
 // ASK.
-pub fn ask<R: Print + AllocGlobal>(
-    desk: &Desk<'_, R>,
-    cmd: &[u8],
-    room_bytes: usize,
-) -> io::Result<bool> {
-    let mut buf = desk.buffer(room_bytes)?;
+pub fn ask<R: Print>(desk: &Desk<'_, R>, cmd: &[u8], room_bytes: usize) -> io::Result<bool> {
+    let mut buf = lend(desk, room_bytes)?;
     let asked = soft_byte_calls::ask(desk.card, cmd, buf.as_mut_slice());
     if !is_done(desk.rt, "ask:", asked.refusal, refusals::ASK_ROOM_BYTES)? {
         return Ok(false);
@@ -74,14 +76,14 @@ pub fn ask<R: Print + AllocGlobal>(
 }
 
 // ANSWER; `opened` is the data that the command holds, where they are known, for the tag at a fault offset.
-pub fn answer<R: Print + AllocGlobal>(
+pub fn answer<R: Print>(
     desk: &mut Desk<'_, R>,
     cmd: &[u8],
     supply: &[u8],
     opened: &[u8],
     room_bytes: usize,
 ) -> io::Result<bool> {
-    let mut buf = desk.buffer(room_bytes)?;
+    let mut buf = lend(desk, room_bytes)?;
     let told = soft_byte_calls::answer(desk.card, cmd, supply, buf.as_mut_slice());
     if !is_done(
         desk.rt,
@@ -100,13 +102,13 @@ pub fn answer<R: Print + AllocGlobal>(
 }
 
 // SEAL. The header is CLA INS P1 P2.
-pub fn seal<R: Print + AllocGlobal>(
+pub fn seal<R: Print>(
     desk: &mut Desk<'_, R>,
     header: [u8; 4],
     plain: &[u8],
     room_bytes: usize,
 ) -> io::Result<bool> {
-    let mut buf = desk.buffer(room_bytes)?;
+    let mut buf = lend(desk, room_bytes)?;
     let sealed = soft_byte_calls::seal(desk.session, header, plain, buf.as_mut_slice());
     if !is_done(desk.rt, "seal:", sealed.refusal, refusals::SEAL_ROOM_BYTES)? {
         return Ok(false);
@@ -117,12 +119,12 @@ pub fn seal<R: Print + AllocGlobal>(
 }
 
 // UNSEAL.
-pub fn unseal<R: Print + AllocGlobal>(
+pub fn unseal<R: Print>(
     desk: &mut Desk<'_, R>,
     response: &[u8],
     room_bytes: usize,
 ) -> io::Result<bool> {
-    let mut buf = desk.buffer(room_bytes)?;
+    let mut buf = lend(desk, room_bytes)?;
     let opened = soft_byte_calls::unseal(desk.session, response, buf.as_mut_slice());
     if !is_done(
         desk.rt,
@@ -138,11 +140,8 @@ pub fn unseal<R: Print + AllocGlobal>(
 }
 
 // WRITE.
-pub fn write<R: Print + AllocGlobal>(
-    desk: &mut Desk<'_, R>,
-    room_bytes: usize,
-) -> io::Result<bool> {
-    let mut buf = desk.buffer(room_bytes)?;
+pub fn write<R: Print>(desk: &mut Desk<'_, R>, room_bytes: usize) -> io::Result<bool> {
+    let mut buf = lend(desk, room_bytes)?;
     let written = soft_byte_calls::write(desk.card, buf.as_mut_slice());
     if !is_done(
         desk.rt,
@@ -157,12 +156,12 @@ pub fn write<R: Print + AllocGlobal>(
 }
 
 // ENTROPY.
-pub fn entropy<R: Print + AllocGlobal>(
+pub fn entropy<R: Print>(
     desk: &mut Desk<'_, R>,
     words: &[u8],
     room_bytes: usize,
 ) -> io::Result<bool> {
-    let mut buf = desk.buffer(room_bytes)?;
+    let mut buf = lend(desk, room_bytes)?;
     let entropy = phrase_reverse::entropy_of(words, buf.as_mut_slice());
     if !is_done(
         desk.rt,

@@ -1,6 +1,6 @@
 // A card on the command line: calls are read line by line from standard input, and what each gives is written (docs/SOFTCARD.md).
 // Every length, room and count is in bytes and is written with its unit.
-// A read or a write that fails ends the program with its error, and so does memory that has run out.
+// A read or a write that fails ends the program with its error.
 // Proved: every function is safe and ends. What the operations give is proved in the crates below.
 #![tactic(auto)]
 
@@ -26,11 +26,7 @@ fn bad(rt: &impl Print, bad_line: BadLine) -> io::Result<()> {
 }
 
 // One line, which is a call, a comment or blank. It is not shown where the terminal shows it already.
-fn play_line<R: Print + AllocGlobal>(
-    desk: &mut Desk<'_, R>,
-    is_shown: bool,
-    bytes: &[u8],
-) -> io::Result<()> {
+fn play_line<R: Print>(desk: &mut Desk<'_, R>, is_shown: bool, bytes: &[u8]) -> io::Result<()> {
     let line = Line { bytes };
     let is_call = line.count() > 0 && !text_words::is_comment(bytes);
     if !is_shown {

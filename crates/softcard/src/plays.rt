@@ -133,10 +133,7 @@ fn call_of(line: Line<'_>) -> Result<Call, BadLine> {
 }
 
 // A line with at least one word.
-pub fn play<R: Print + AllocGlobal>(
-    desk: &mut Desk<'_, R>,
-    line: Line<'_>,
-) -> Result<(), CallError> {
+pub fn play<R: Print>(desk: &mut Desk<'_, R>, line: Line<'_>) -> Result<(), CallError> {
     match call_of(line)? {
         Call::Fresh => soft_card_calls::fresh(desk, line),
         Call::Reset => soft_card_calls::reset(desk),
