@@ -1,5 +1,5 @@
 -- The words of a line: characters with no blank among them, and blanks or the line's ends around them. A blank is a space or a tab.
-use Rattle.std.specs.Prelude.{ℕ, zero, suc, ◌+◌, ◌-◌, Bool, true, cond, not, ◌&&◌, ◌||◌, List, [], ◌∷◌, ltb, eqb, length, take, drop, get_or}
+use Rattle.std.specs.Prelude.{◌≡◌, ◌≤◌, ℕ, zero, suc, ◌+◌, ◌-◌, Bool, true, cond, not, ◌&&◌, ◌||◌, List, [], ◌∷◌, ltb, eqb, length, take, drop, get_or}
 
 abbrev pub is_blank : ℕ → Bool
 is_blank c = eqb c 32 || eqb c 9
@@ -41,3 +41,7 @@ is_comment s = eqb (get_or (from_word s) 0 0) 35
 -- how many bytes a line has without a carriage return at its end
 abbrev pub line_bytes : List ℕ → ℕ
 line_bytes s = cond (ltb 0 (length s) && eqb (get_or s (length s - 1) 0) 13) (length s - 1) (length s)
+
+-- a line's end: some bytes in front of it are left out
+abbrev pub IsEnd : List ℕ → List ℕ → Type 0
+IsEnd s r = (length r ≤ length s) × (r ≡ drop (length s - length r) s)

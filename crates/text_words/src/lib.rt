@@ -1,9 +1,10 @@
 // A line of text for the soft card: its words, which have spaces or tabs between them.
-// Proved: words, their number and whether a line is a comment are as defined, for any bytes.
+// Every place and length is in bytes.
+// Proved: words, where they are, their number and whether a line is a comment are as defined, for any bytes.
 #![tactic(auto)]
 
-ghost use Rattle.std.specs.Prelude.{◌≡◌, take, drop};
-ghost use Rattle.text_words.specs.Words.{is_blank, letters, from_word, word_of, word_count, is_comment, line_bytes};
+ghost use Rattle.std.specs.Prelude.{◌≡◌, ◌≤◌, ◌-◌, length, take, drop};
+ghost use Rattle.text_words.specs.Words.{is_blank, letters, from_word, word_of, word_count, is_comment, line_bytes, IsEnd};
 
 fn is_blank(c: u8) -> bool
     ensures { result ≡ is_blank c }
@@ -46,15 +47,41 @@ pub fn without_return(s: &[u8]) -> &[u8]
     }
 }
 
-// Word number k of a line, from 0; where there are fewer, none of its bytes.
-pub fn nth_word(s: &[u8], k: usize) -> &[u8]
-    ensures { result.now ≡ word_of k s.now }
+// A line from its word number k on, which is the line's end.
+fn from_nth(s: &[u8], k: usize) -> &[u8]
+    ensures end { IsEnd s.now result.now }
+    ensures word { take (letters result.now) result.now ≡ word_of k s.now }
 {
     let mut rest = from_word(s);
     for _i in 0..k {
         rest = from_word(split_word(rest).1);
     }
+    rest
+}
+
+// Word number k of a line, from 0; where there are fewer, none of its bytes.
+pub fn nth_word(s: &[u8], k: usize) -> &[u8]
+    ensures { result.now ≡ word_of k s.now }
+{
+    let rest = from_nth(s, k);
     split_word(rest).0
+}
+
+// A part of a line: from byte `start` up to byte `end`, which is not in it.
+#[derive(Clone, Copy)]
+pub struct WordSpan {
+    pub start: usize,
+    pub end: usize,
+}
+
+// Where word number k of a line is, from 0; where there are fewer, a part with none of its bytes.
+pub fn word(s: &[u8], k: usize) -> WordSpan
+    ensures start_le_end { (result.start ≤ result.end) × (result.end ≤ length s.now) }
+    ensures s_value { take (result.end - result.start) (drop result.start s.now) ≡ word_of k s.now }
+{
+    let start = s.len() - from_nth(s, k).len();
+    let end = start + nth_word(s, k).len();
+    WordSpan { start, end }
 }
 
 // How many words a line has.
