@@ -14,9 +14,16 @@ pub fn digits(s: &[u8]) -> bool
     s.iter().all(|b| b.is_ascii_digit())
 }
 
+// The bytes from a place on.
+fn behind(s: &[u8], from: usize) -> &[u8]
+    ensures { result.now ≡ drop from s.now }
+{
+    s.get(from..).unwrap_or(&[])
+}
+
 // Whether each byte from a place on is zero.
 pub fn zero_from(s: &[u8], from: usize) -> bool
     ensures { result ≡ all_zero (drop from s.now) }
 {
-    s.iter().skip(from).all(|b| *b == 0)
+    behind(s, from).iter().all(|b| *b == 0)
 }
