@@ -14,16 +14,15 @@ pub fn digits(s: &[u8]) -> bool
     s.iter().all(|b| b.is_ascii_digit())
 }
 
-// The bytes from a place on.
-fn behind(s: &[u8], from: usize) -> &[u8]
-    ensures { result.now ≡ drop from s.now }
-{
-    s.get(from..).unwrap_or(&[])
-}
-
 // Whether each byte from a place on is zero.
 pub fn zero_from(s: &[u8], from: usize) -> bool
     ensures { result ≡ all_zero (drop from s.now) }
 {
-    behind(s, from).iter().all(|b| *b == 0)
+    // By places: with an iterator a caller's card is copied first, and takes stack and time for it.
+    for i in from..s.len() {
+        if s[i] != 0 {
+            return false;
+        }
+    }
+    true
 }
