@@ -5,6 +5,7 @@
 
 ghost use Rattle.std.specs.Prelude.{◌≡◌};
 ghost use Rattle.template_walk.specs.Walk.{read_field, template_of, sequence_of, walk_of, report, WALK};
+ghost use Rattle.template_walk.specs.Handed.{handed};
 
 use refusals::{REFUSAL_MALFORMED, REFUSAL_NONE, REFUSAL_TOO_DEEP};
 use template_rules::read_head;
@@ -35,6 +36,12 @@ pub struct Whole {
     pub bytes: usize,
 }
 
+// What a sequence of fields comes to, as the calls that nest hand it up: in 16 bytes of stack, where a result takes 24.
+enum Sequence {
+    Fields(usize),
+    Faulty { fault: Fault, place: usize },
+}
+
 // The field that begins s, where templates may nest this many levels from here; or its first fault, the place counted from the field's
 // own tag.
 #[cycle(read_field_read_sequence)]
@@ -60,8 +67,8 @@ fn read_field(s: &[u8], levels: usize) -> Result<Whole, Refused>
         });
     }
     match read_sequence(&s[head.head_bytes..bytes], levels - 1) {
-        Ok(fields) => Ok(Whole { fields, bytes }),
-        Err(Refused { fault, place }) => Err(Refused {
+        Sequence::Fields(fields) => Ok(Whole { fields, bytes }),
+        Sequence::Faulty { fault, place } => Err(Refused {
             fault,
             place: head.head_bytes + place,
         }),
@@ -71,8 +78,8 @@ fn read_field(s: &[u8], levels: usize) -> Result<Whole, Refused>
 // How many fields that are not templates the fields of s are or hold, where templates may nest this many levels; or the first fault from
 // the left.
 #[cycle(read_field_read_sequence)]
-fn read_sequence(s: &[u8], levels: usize) -> Result<usize, Refused>
-    ensures { result ≡ sequence_of levels s.now }
+fn read_sequence(s: &[u8], levels: usize) -> Sequence
+    ensures { handed result ≡ sequence_of levels s.now }
 {
     let mut count = 0;
     // An index counted by hand: a step is as long as the field that was read, and the place of a fault is counted from here; a loop over
@@ -85,21 +92,24 @@ fn read_sequence(s: &[u8], levels: usize) -> Result<usize, Refused>
                 at += bytes;
             }
             Err(Refused { fault, place }) => {
-                return Err(Refused {
+                return Sequence::Faulty {
                     fault,
                     place: at + place,
-                });
+                };
             }
         }
     }
-    Ok(count)
+    Sequence::Fields(count)
 }
 
 // WALK over any bytes: how many fields that are not templates there are, or the first fault from the left.
 pub fn walk(s: &[u8]) -> Result<usize, Refused>
     ensures { (result ≡ walk_of s.now) × (report result ≡ WALK s.now) }
 {
-    read_sequence(s, MAX_DEPTH)
+    match read_sequence(s, MAX_DEPTH) {
+        Sequence::Fields(fields) => Ok(fields),
+        Sequence::Faulty { fault, place } => Err(Refused { fault, place }),
+    }
 }
 
 // The number of WALK's refusal, or of none.

@@ -1,9 +1,10 @@
 use Rattle.std.proofs.Common.{rules, ◌≡◌, ◌∙◌, Err}
-use mathlib.Core.Path.{sym}
+use mathlib.Core.Path.{sym, ap}
 use native.Mathlib.Omega.{arith}
 use lib.ListN.{length-take, length-drop}
 use Rattle.template_rules.proofs.HeadFacts.{head-facts}
 use Rattle.template_rules.proofs.Parts.{length-part-from}
+use Rattle.template_walk.specs.Handed.{handed}
 use Rattle.template_walk.proofs.WalkFacts.{plus_none}
 use Rattle.template_walk.proofs.Reading.{field-no-head, field-overruns, field_plain, field-too-deep, field-whole, field-fault, fault-within}
 use Rattle.template_walk.proofs.Reading.{field-facts, fault-facts, sequence-next, sequence-faulty, sequence-end}
@@ -62,18 +63,18 @@ pub read_field-overflow_add-result : goal.read_field-overflow_add-result
 read_field-overflow_add-result t c =
     let h = head-facts c.args.s.now _ _ _ c.read_head.ensures.0 c.in_ok-head.ensures.ok_part in
     let k = fault-within c.args.levels c.args.s.now _ c.read_head.ensures.0 _ _ c.in_ok-head.ensures.ok_part
-    c.if-s-head.false c.if-s-ne-TEMPLATE_BIT.false c.if-levels-eq0.false _ c.read_sequence.ensures _ _ c.in-Err.is in
+    c.if-s-head.false c.if-s-ne-TEMPLATE_BIT.false c.if-levels-eq0.false _ c.read_sequence.ensures _ _ (ap handed c.in-Faulty.is) in
     omega (arith, h, k)
 
-pub read_field-returns-in-Ok : goal.read_field-returns-in-Ok
-read_field-returns-in-Ok t c =
+pub read_field-returns-in-Fields : goal.read_field-returns-in-Fields
+read_field-returns-in-Fields t c =
     field-whole c.args.levels c.args.s.now _ c.read_head.ensures.0 _ _ c.in_ok-head.ensures.ok_part
-    c.if-s-head.false c.if-s-ne-TEMPLATE_BIT.false c.if-levels-eq0.false _ c.read_sequence.ensures _ c.in-Ok.is
+    c.if-s-head.false c.if-s-ne-TEMPLATE_BIT.false c.if-levels-eq0.false _ c.read_sequence.ensures _ (ap handed c.in-Fields.is)
 
-pub read_field-returns-in-Err : goal.read_field-returns-in-Err
-read_field-returns-in-Err t c =
+pub read_field-returns-in-Faulty : goal.read_field-returns-in-Faulty
+read_field-returns-in-Faulty t c =
     field-fault c.args.levels c.args.s.now _ c.read_head.ensures.0 _ _ c.in_ok-head.ensures.ok_part
-    c.if-s-head.false c.if-s-ne-TEMPLATE_BIT.false c.if-levels-eq0.false _ c.read_sequence.ensures _ _ c.in-Err.is
+    c.if-s-head.false c.if-s-ne-TEMPLATE_BIT.false c.if-levels-eq0.false _ c.read_sequence.ensures _ _ (ap handed c.in-Faulty.is)
 
 pub read_sequence-loop-at-init : goal.read_sequence-loop-at-init
 read_sequence-loop-at-init t c = (omega arith, omega arith, sym (plus_none _))
