@@ -8,8 +8,8 @@ use soft_word_bytes::VALUE_MAX_BYTES;
 // ArrayVec, which is not Copy.
 #[derive(Clone, Copy)]
 pub struct Value {
-    pub(crate) space: [u8; VALUE_MAX_BYTES],
-    pub(crate) len: usize,
+    pub space: [u8; VALUE_MAX_BYTES],
+    pub len: usize,
 }
 
 impl Value {
@@ -28,11 +28,6 @@ impl Value {
         ensures { result.now ≡ items self.now }
     {
         self.space.get(..self.len).unwrap_or(&self.space)
-    }
-
-    pub fn as_mut_slice(&mut self) -> &mut [u8] {
-        let n = text_fill::bounded(self.len, &self.space);
-        &mut self.space[..n]
     }
 
     pub fn len(&self) -> usize

@@ -61,7 +61,8 @@ fn wrote_response<R: Print>(
 // ASK.
 pub fn ask<R: Print>(desk: &Desk<'_, R>, cmd: &[u8], room_bytes: usize) -> io::Result<bool> {
     let mut buf = lend(desk, room_bytes)?;
-    let asked = soft_byte_calls::ask(desk.card, cmd, buf.as_mut_slice());
+    let n = buf.len();
+    let asked = soft_byte_calls::ask(desk.card, cmd, &mut buf.space[..n]);
     if !is_done(desk.rt, "ask:", asked.refusal, refusals::ASK_ROOM_BYTES)? {
         return Ok(false);
     }
@@ -84,7 +85,8 @@ pub fn answer<R: Print>(
     room_bytes: usize,
 ) -> io::Result<bool> {
     let mut buf = lend(desk, room_bytes)?;
-    let told = soft_byte_calls::answer(desk.card, cmd, supply, buf.as_mut_slice());
+    let n = buf.len();
+    let told = soft_byte_calls::answer(desk.card, cmd, supply, &mut buf.space[..n]);
     if !is_done(
         desk.rt,
         "answer:",
@@ -109,7 +111,8 @@ pub fn seal<R: Print>(
     room_bytes: usize,
 ) -> io::Result<bool> {
     let mut buf = lend(desk, room_bytes)?;
-    let sealed = soft_byte_calls::seal(desk.session, header, plain, buf.as_mut_slice());
+    let n = buf.len();
+    let sealed = soft_byte_calls::seal(desk.session, header, plain, &mut buf.space[..n]);
     if !is_done(desk.rt, "seal:", sealed.refusal, refusals::SEAL_ROOM_BYTES)? {
         return Ok(false);
     }
@@ -125,7 +128,8 @@ pub fn unseal<R: Print>(
     room_bytes: usize,
 ) -> io::Result<bool> {
     let mut buf = lend(desk, room_bytes)?;
-    let opened = soft_byte_calls::unseal(desk.session, response, buf.as_mut_slice());
+    let n = buf.len();
+    let opened = soft_byte_calls::unseal(desk.session, response, &mut buf.space[..n]);
     if !is_done(
         desk.rt,
         "unseal:",
@@ -142,7 +146,8 @@ pub fn unseal<R: Print>(
 // WRITE.
 pub fn write<R: Print>(desk: &mut Desk<'_, R>, room_bytes: usize) -> io::Result<bool> {
     let mut buf = lend(desk, room_bytes)?;
-    let written = soft_byte_calls::write(desk.card, buf.as_mut_slice());
+    let n = buf.len();
+    let written = soft_byte_calls::write(desk.card, &mut buf.space[..n]);
     if !is_done(
         desk.rt,
         "write:",
@@ -162,7 +167,8 @@ pub fn entropy<R: Print>(
     room_bytes: usize,
 ) -> io::Result<bool> {
     let mut buf = lend(desk, room_bytes)?;
-    let entropy = phrase_reverse::entropy_of(words, buf.as_mut_slice());
+    let n = buf.len();
+    let entropy = phrase_reverse::entropy_of(words, &mut buf.space[..n]);
     if !is_done(
         desk.rt,
         "entropy:",
