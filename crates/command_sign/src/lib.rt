@@ -33,15 +33,13 @@ pub const SIGN_S_END: usize = 129;
 
 // ---- SIGN C0: with a verified PIN, or where the current path is the PIN-less one
 // Whether two paths are the same.
-fn same_path(a: Path, b: Path) -> bool
-    requires { (a.len ≤ 40) × (b.len ≤ 40) }
-    ensures { result ≡ same_bytes (path_bytes a) (path_bytes b) }
+fn same_path(a: &Path, b: &Path) -> bool
+    requires { (a.now.len ≤ 40) × (b.now.len ≤ 40) }
+    ensures { result ≡ same_bytes (path_bytes a.now) (path_bytes b.now) }
 {
-    let a_bytes = a.bytes;
-    let b_bytes = b.bytes;
     let a_end = wide(a.len);
     let b_end = wide(b.len);
-    octets::same(&a_bytes[..a_end], &b_bytes[..b_end])
+    octets::same(&a.bytes[..a_end], &b.bytes[..b_end])
 }
 
 // Whether the PIN-less path is not empty and equals the current one.
@@ -49,10 +47,8 @@ fn on_pinless_path(keys: Keys) -> bool
     requires { (keys.current.len ≤ 40) × (keys.pinless.len ≤ 40) }
     ensures { result ≡ on_pinless_path keys }
 {
-    let pinless = keys.pinless;
-    let current = keys.current;
-    let set = pinless.len != 0;
-    let equal = same_path(pinless, current);
+    let set = keys.pinless.len != 0;
+    let equal = same_path(&keys.pinless, &keys.current);
     set & equal
 }
 
