@@ -1,4 +1,9 @@
 // Why a line is not played.
+ghost use Rattle.std.specs.Prelude.{◌≡◌, Some};
+ghost use Rattle.std.specs.declared.io.ErrorKind.TheVariants.{OutOfMemory};
+ghost use Rattle.soft_state.specs.Kinds.{failed_kind};
+
+use std::alloc::AllocError;
 use std::error::Error;
 use std::{fmt, io};
 use text_print::Length;
@@ -45,7 +50,7 @@ impl fmt::Display for BadLine {
 
 impl Error for BadLine {}
 
-// Why a call ends early: its line is bad and nothing changed, or a write failed.
+// Why a call ends early: its line is bad and nothing changed, or a write or the memory failed.
 #[derive(Debug, Drop)]
 pub enum CallError {
     Line(BadLine),
@@ -72,5 +77,14 @@ impl From<BadLine> for CallError {
 impl From<io::Error> for CallError {
     fn from(error: io::Error) -> CallError {
         CallError::Io(error)
+    }
+}
+
+// For callers that ask for memory; the soft card asks for none.
+impl From<AllocError> for CallError {
+    ghost from_gives = { λ _ e. failed_kind e ≡ Some OutOfMemory };
+
+    fn from(error: AllocError) -> CallError {
+        CallError::Io(io::Error::from(error))
     }
 }

@@ -65,6 +65,7 @@ impl<'a, R> Desk<'a, R> {
 #[cfg(test)]
 mod tests {
     use super::*;
+    use std::alloc::Global;
     use std::test::Fail;
 
     // A line's words as bytes; `last` is empty at first. No room is lent over the most.
@@ -81,6 +82,21 @@ mod tests {
         assert_eq!(rt; desk.buffer(3)?.as_slice(), [0, 0, 0].as_slice());
         assert_eq!(rt; desk.buffer(VALUE_MAX_BYTES)?.len(), VALUE_MAX_BYTES);
         assert!(rt; desk.buffer(VALUE_MAX_BYTES + 1).is_err());
+        Ok(())
+    }
+
+    fn zeros(alloc: Global, room_bytes: usize) -> Result<Vec<u8>, CallError> {
+        Ok(vec![in alloc; 0; room_bytes]?)
+    }
+
+    // Memory that a caller asks for and does not get ends its call with that error.
+    #[test]
+    fn memory_runs_out(rt: HostRuntime) -> Result<(), Fail> {
+        assert_eq!(rt; zeros(rt.alloc(), 3)?.as_slice(), [0, 0, 0].as_slice());
+        let none = zeros(rt.alloc(), usize::MAX);
+        assert!(rt;
+            matches!(&none, Err(CallError::Io(error)) if error.kind() == io::ErrorKind::OutOfMemory)
+        );
         Ok(())
     }
 }

@@ -3,13 +3,16 @@
 // Proved: every function is safe and ends, and a line that is read has no more bytes than it may have.
 #![tactic(auto)]
 
-ghost use Rattle.std.specs.Prelude.{◌≤◌, length, IfOk, IfSome};
+ghost use Rattle.std.specs.Prelude.{◌≡◌, ◌≤◌, length, Some, IfOk, IfSome};
+ghost use Rattle.std.specs.declared.io.ErrorKind.TheVariants.{OutOfMemory};
+ghost use Rattle.text_line.specs.Kinds.{failed_kind};
 
+use std::alloc::{AllocError, AllocFailed};
 use std::error::Error;
 use std::io::Read;
 use std::{fmt, io};
 
-// Why a line is not read: it has more bytes than there is room for, or the input failed.
+// Why a line is not read: it has more bytes than there is room for, or the input or the memory failed.
 #[derive(Debug, Drop)]
 pub enum LineError {
     TooLong,
@@ -30,6 +33,15 @@ impl Error for LineError {}
 impl From<io::Error> for LineError {
     fn from(error: io::Error) -> LineError {
         LineError::Io(error)
+    }
+}
+
+// For callers that ask for memory; `read_line` asks for none.
+impl From<AllocFailed<u8>> for LineError {
+    ghost from_gives = { λ _ e. failed_kind e ≡ Some OutOfMemory };
+
+    fn from(error: AllocFailed<u8>) -> LineError {
+        LineError::Io(io::Error::from(AllocError::from(error)))
     }
 }
 
@@ -81,6 +93,17 @@ mod tests {
         assert!(rt; matches!(&long, Err(LineError::TooLong)));
         assert_eq!(rt; buf, *b"lo");
         assert!(rt; read_line(&mut input, &mut buf)?.is_none());
+        Ok(())
+    }
+
+    // A byte for which a caller has no memory ends its line with that error.
+    #[test]
+    fn memory_runs_out(rt: HostRuntime) -> Result<(), Fail> {
+        let failed = Err::<u8, _>(AllocFailed { value: b'a' });
+        let line: Result<u8, LineError> = failed.map_err(LineError::from);
+        assert!(rt;
+            matches!(&line, Err(LineError::Io(error)) if error.kind() == io::ErrorKind::OutOfMemory)
+        );
         Ok(())
     }
 }
